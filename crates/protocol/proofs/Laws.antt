@@ -1,0 +1,5 @@
+pub mod Logic
+pub mod Lists
+pub mod Bits
+pub mod Index
+pub mod Count

@@ -1,0 +1,122 @@
+-- Lists of bytes: comparison, parts, one list laid over another, split and joined.
+use mathlib.Core.Bool.{Bool, true, false, _&&_}
+use mathlib.Core.Path.{_≡_, refl, sym, ap, ap₂, _∙_}
+use mathlib.Core.List.{List, [], _∷_, _++_, append-assoc, append-nil}
+use Prim.Native.Nat.{ℕ, zero, suc, _+_, _-_, _*_, _/_, _%_, _≤_, _<_}
+use native.Mathlib.Nat.{suc-mul, add-zero}
+use native.Mathlib.Omega.{arith}
+use lib.Dec.{eqb, eqb→eq}
+use lib.ListN.{length, getD, take, drop, length-append, length-take, length-drop, take-append-drop, drop-of-length-le}
+use lib.Seq.{take-at, drop-at, take-append-le, take-append-seam, drop-append-le, drop-append-add, drop-drop, length-take-le}
+use Rattle.protocol.specs.Bytes.{two, part, same, lay, follow, joined, split}
+use Rattle.protocol.proofs.Laws.Logic.{T→true, and-l, and-r, eqb-same}
+
+-- ---- comparison
+
+pub same-refl : (s : List ℕ) → same s s ≡ true
+unfolding same
+same-refl [] = refl
+same-refl (x ∷ s) = rw (eqb-same x) (same-refl s)
+
+pub same-eq : (s t : List ℕ) → same s t ≡ true → s ≡ t
+unfolding same
+same-eq [] [] e = refl
+same-eq [] (y ∷ t) e = cc
+same-eq (x ∷ s) [] e = cc
+same-eq (x ∷ s) (y ∷ t) e =
+    ap₂ (λ (n : ℕ) (u : List ℕ). n ∷ u) (eqb→eq x y (and-l (eqb x y) (same s t) (rw e tt)))
+    (same-eq s t (T→true (same s t) (and-r (eqb x y) (same s t) (rw e tt))))
+
+pub same-front : (s t u : List ℕ) → same (s ++ t) (s ++ u) ≡ same t u
+unfolding same
+same-front [] t u = refl
+same-front (x ∷ s) t u = rw (eqb-same x) (same-front s t u)
+
+-- ---- one behind the other
+
+pub follow-append : (a b : List ℕ) → follow a b ≡ a ++ b
+unfolding follow
+follow-append a [] = sym (append-nil a)
+follow-append a (x ∷ b) = refl
+
+-- a list of four bytes, taken apart
+pub by-four : (a : List ℕ) → length a ≡ 4 → (P : List ℕ → Type 0) → ((w x y z : ℕ) → P (w ∷ x ∷ y ∷ z ∷ [])) → P a
+by-four [] h P f = absurd (omega arith)
+by-four (w ∷ []) h P f = absurd (omega arith)
+by-four (w ∷ x ∷ []) h P f = absurd (omega arith)
+by-four (w ∷ x ∷ y ∷ []) h P f = absurd (omega arith)
+by-four (w ∷ x ∷ y ∷ z ∷ []) h P f = f w x y z
+by-four (w ∷ x ∷ y ∷ z ∷ v ∷ r) h P f = absurd (omega arith)
+
+pub two-bytes : (n : ℕ) → n < 65536 → n / 256 % 256 * 256 + n % 256 ≡ n
+two-bytes n h = omega arith
+
+-- ---- s laid over d from the place i on
+
+module _ (i : ℕ) (s d : List ℕ) (h : i + length s ≤ length d) where
+  pub length-lay : length (lay i s d) ≡ length d
+  unfolding lay
+  length-lay = simp (length-append, length-take, length-drop) (omega arith)
+
+  -- up to the end of s
+  pub head-lay : take (i + length s) (lay i s d) ≡ take i d ++ s
+  unfolding lay
+  head-lay =
+      ap (take (i + length s)) (sym (append-assoc (take i d) s (drop (i + length s) d)))
+      ∙ take-at (take i d ++ s) (drop (i + length s) d) (i + length s) (simp (length-append, length-take) (omega arith))
+
+  -- where s lies
+  pub part-lay : part i (length s) (lay i s d) ≡ s
+  unfolding lay
+  part-lay =
+      ap (take (length s)) (drop-at (take i d) (s ++ drop (i + length s) d) i (length-take-le i d (omega arith)))
+      ∙ take-append-seam s (drop (i + length s) d)
+
+  -- before s
+  pub before-lay : (j n : ℕ) → j + n ≤ i → part j n (lay i s d) ≡ part j n d
+  unfolding lay
+  before-lay j n l =
+      let long : length (take i d) ≡ i = length-take-le i d (omega arith) in
+      let t : List ℕ = s ++ drop (i + length s) d in
+      ap (take n) (drop-append-le j (take i d) t (omega arith))
+      ∙ take-append-le n (drop j (take i d)) t (simp length-drop (omega arith))
+      ∙ sym (take-append-le n (drop j (take i d)) (drop i d) (simp length-drop (omega arith)))
+      ∙ ap (take n) (sym (drop-append-le j (take i d) (drop i d) (omega arith)))
+      ∙ ap (part j n) (take-append-drop i d)
+
+  -- behind s
+  pub behind-lay : (j n : ℕ) → i + length s ≤ j → part j n (lay i s d) ≡ part j n d
+  unfolding lay
+  behind-lay j n l =
+      let long : length (take i d ++ s) ≡ i + length s = simp (length-append, length-take) (omega arith) in
+      let k : ℕ = j - (i + length s) in
+      let e : j ≡ length (take i d ++ s) + k = omega arith in
+      let f : i + length s + k ≡ j = omega arith in
+      ap (part j n) (sym (append-assoc (take i d) s (drop (i + length s) d)))
+      ∙ ap (λ (m : ℕ). part m n ((take i d ++ s) ++ drop (i + length s) d)) e
+      ∙ ap (take n) (drop-append-add (take i d ++ s) (drop (i + length s) d) k)
+      ∙ ap (take n) (drop-drop k (i + length s) d)
+      ∙ ap (λ (m : ℕ). part m n d) f
+
+pub last-lay : (i : ℕ) (s d : List ℕ) → i + length s ≡ length d → lay i s d ≡ take i d ++ s
+unfolding lay
+last-lay i s d h =
+    ap (λ (t : List ℕ). take i d ++ (s ++ t)) (drop-of-length-le d {i = i + length s} (omega arith)) ∙ ap (λ (t : List ℕ). take i d ++ t) (append-nil s)
+
+-- the front of a room is what was laid there
+pub take-lay : (s d : List ℕ) → take (length s) (lay 0 s d) ≡ s
+unfolding lay
+take-lay s d = take-append-seam s (drop (0 + length s) d)
+
+pub lay-nothing : (i : ℕ) (d : List ℕ) → lay i [] d ≡ d
+unfolding lay
+lay-nothing i d = rw add-zero (take-append-drop i d)
+
+-- ---- split and joined
+
+pub split-joined : (k n : ℕ) (s : List ℕ) → length s ≡ k * n → joined (split k n s) ≡ s
+unfolding split joined
+split-joined zero n [] h = refl
+split-joined zero n (x ∷ s) h = absurd (omega arith)
+split-joined (suc k) n s h =
+    ap (λ (t : List ℕ). take n s ++ t) (split-joined k n (drop n s) (length-drop n s ∙ omega (arith, suc-mul k n))) ∙ take-append-drop n s

@@ -1,0 +1,113 @@
+-- A whole call: refusals, reply room, and what a call returns and leaves.
+use mathlib.Core.Bool.{Bool, true, false, _&&_, not}
+use mathlib.Core.Path.{_≡_}
+use mathlib.Core.List.{List, [], _∷_}
+use Prim.Native.Nat.{ℕ, zero, suc, _*_, _%_}
+use lib.Dec.{eqb, ltb, leb}
+use lib.ListN.{length, take}
+use Rattle.protocol.specs.Numbers.{pageBytes, wordBytes, replyRoom, lowestLevel, highestLevel, lowestBaud, highestBaud, highestSize, badLength, badRoom, badSetting}
+use Rattle.protocol.specs.Bytes.{Bytes, lay}
+use Rattle.protocol.specs.Tests.{Test, verdict, within}
+use Rattle.protocol.specs.Index.{clearFrom}
+use Rattle.protocol.specs.Reader.{Transfer, closed, opened, unfit, Plain, Buffer, Guarded, Reader, capacity, sizeOf, locked, bufferOf}
+use Rattle.protocol.specs.Step.{Outcome, stepOf, switched}
+
+-- ---- legal readers
+
+-- the form of the lent memory: pages at least and at most, index bytes, notepad bytes
+pub record Shape : Type 0 where
+  pub least : ℕ
+  pub most : ℕ
+  pub indexed : ℕ
+  pub noted : ℕ
+
+-- document 01's reader
+unfoldable pub core : Shape
+core = record { least = 1; most = 256; indexed = 32; noted = 512 }
+
+unfoldable pub fitLibrary : Shape → Guarded → Bool
+fitLibrary σ g =
+    let c = capacity g in
+    eqb (length (g .templates)) (pageBytes * c) && within (σ .least) c (σ .most) && eqb (length (g .index)) (σ .indexed) && eqb (length (g .notepad)) (σ .noted)
+
+unfoldable pub fitBuffers : Guarded → Bool
+fitBuffers g = eqb (length (g .buffer1 .bytes)) pageBytes && eqb (length (g .buffer2 .bytes)) pageBytes
+
+-- 1: a lent length, the reply room's apart
+unfoldable pub fitLengths : Shape → Guarded → Bool
+fitLengths σ g = fitLibrary σ g && fitBuffers g
+
+-- 2: the reply room
+unfoldable pub fitRoom : List ℕ → Bool
+fitRoom room = leb replyRoom (length room)
+
+unfoldable pub fitPlain : Plain → Bool
+fitPlain p = within lowestLevel (p .level) highestLevel && leb (p .size) highestSize && within lowestBaud (p .baud) highestBaud && ltb (p .sensor) 65536
+
+-- the bytes got are a multiple of the size and below 512; the buffer's filled mark is clear; the reader is not locked
+unfoldable pub fitTransfer : Plain → Guarded → Transfer → Bool
+fitTransfer p g closed = true
+fitTransfer p g (opened w got) = eqb (got % sizeOf (p .size)) 0 && ltb got pageBytes && not (bufferOf w g .filled) && not (locked p)
+fitTransfer p g (unfit b k) = false
+
+-- 3: a setting or transfer is not legal, or an index bit at or above C is set
+unfoldable pub sound : Reader → Bool
+sound r = fitPlain (r .plain) && fitTransfer (r .plain) (r .guarded) (r .plain .transfer) && clearFrom (r .guarded .index) (capacity (r .guarded))
+
+-- a legal reader gets none of refusals 1 to 3 where its reply room is fit
+unfoldable pub legal : Shape → Reader → Bool
+legal σ r = fitLengths σ (r .guarded) && sound r
+
+-- what the types of the settings record and of lent bytes say by themselves
+pub record Typed (r : Reader) : Type 0 where
+  pub password : length (r .plain .password) ≡ wordBytes
+  pub address : length (r .plain .address) ≡ wordBytes
+  pub index : Bytes (r .guarded .index)
+
+-- ---- a call
+
+-- what a caller gets back: the refusal or 0, the bytes used, the reply's length, and its reply room
+pub record Told : Type 0 where
+  pub refusal : ℕ
+  pub used : ℕ
+  pub length : ℕ
+  pub room : List ℕ
+
+pub record Ended : Type 0 where
+  pub told : Told
+  pub after : Reader
+
+-- the reply as its host sees it
+unfoldable pub replyOf : Told → List ℕ
+replyOf t = take (t .length) (t .room)
+
+-- order: 1, 2, 3
+unfoldable pub refusalOf : Shape → Reader → List ℕ → ℕ
+refusalOf σ r room = verdict ((fitLengths σ (r .guarded), badLength) ∷ (fitRoom room, badRoom) ∷ (sound r, badSetting) ∷ [])
+
+-- 0 bytes used, reply length 0; settings and memory unchanged
+unfoldable pub refused : ℕ → Reader → List ℕ → Ended
+refused k r room = record { told = record { refusal = k; used = 0; length = 0; room = room }; after = r }
+
+-- reply room past the reply length keeps its bytes
+unfoldable pub carried : Outcome → List ℕ → Ended
+carried o room = record { told = record { refusal = 0; used = o .used; length = length (o .reply); room = lay 0 (o .reply) room }; after = o .after }
+
+unfoldable pub callAs : Reader → List ℕ → List ℕ → ℕ → Ended
+callAs r s room zero = carried (stepOf r s) room
+callAs r s room (suc k) = refused (suc k) r room
+
+unfoldable pub callOf : Shape → Reader → List ℕ → List ℕ → Ended
+callOf σ r s room = callAs r s room (refusalOf σ r room)
+
+-- ---- the line switch takes any settings and both buffers, and knows only refusal 1
+
+unfoldable pub switchRefusal : Guarded → ℕ
+switchRefusal g = verdict ((fitBuffers g, badLength) ∷ [])
+
+unfoldable pub switchAs : Reader → ℕ → Ended
+switchAs r zero = record { told = record { refusal = 0; used = 0; length = 0; room = [] }; after = switched r }
+switchAs r (suc k) = refused (suc k) r []
+
+unfoldable pub switchOf : Reader → Ended
+switchOf r = switchAs r (switchRefusal (r .guarded))

@@ -1,0 +1,15 @@
+pub mod Numbers
+pub mod Tests
+pub mod Bytes
+pub mod Packet
+pub mod Finder
+pub mod Index
+pub mod Reader
+pub mod Commands
+pub mod Data
+pub mod Table
+pub mod Step
+pub mod Call
+pub mod Dialogue
+pub mod Records
+pub mod Services

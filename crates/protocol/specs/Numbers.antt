@@ -1,0 +1,155 @@
+-- The numbers of document 01, each named once.
+use Prim.Native.Nat.{ℕ, _+_}
+
+-- ---- lent memory
+
+-- a page of templates, and a character buffer
+abbrev pub pageBytes : ℕ
+pageBytes = 512
+
+-- a page of the notepad
+abbrev pub noteBytes : ℕ
+noteBytes = 32
+
+-- the part of the index that one ReadIndexTable gives
+abbrev pub indexBytes : ℕ
+indexBytes = 32
+
+-- the reply room at least
+abbrev pub replyRoom : ℕ
+replyRoom = 700
+
+-- a password, and an address
+abbrev pub wordBytes : ℕ
+wordBytes = 4
+
+-- ---- settings
+
+abbrev pub lowestLevel : ℕ
+lowestLevel = 1
+
+abbrev pub highestLevel : ℕ
+highestLevel = 5
+
+abbrev pub lowestBaud : ℕ
+lowestBaud = 1
+
+abbrev pub highestBaud : ℕ
+highestBaud = 12
+
+-- the largest size code
+unfoldable pub highestSize : ℕ
+highestSize = 2
+
+-- the parameter numbers of SetSysPara
+abbrev pub baudParameter : ℕ
+baudParameter = 4
+
+abbrev pub levelParameter : ℕ
+levelParameter = 5
+
+abbrev pub sizeParameter : ℕ
+sizeParameter = 6
+
+-- the status word of a verified reader
+abbrev pub verifiedStatus : ℕ
+verifiedStatus = 4
+
+-- ---- packets
+
+-- the two bytes that start a packet
+abbrev pub firstMark : ℕ
+firstMark = 0xef
+
+abbrev pub secondMark : ℕ
+secondMark = 0x01
+
+-- the marks, the address, the identifier and the length field
+abbrev pub headBytes : ℕ
+headBytes = 9
+
+-- the head and the sum: what a packet has beside its content
+abbrev pub frameBytes : ℕ
+frameBytes = 11
+
+-- identifiers
+abbrev pub commandPacket : ℕ
+commandPacket = 1
+
+abbrev pub dataPacket : ℕ
+dataPacket = 2
+
+abbrev pub acknowledgePacket : ℕ
+acknowledgePacket = 7
+
+abbrev pub lastPacket : ℕ
+lastPacket = 8
+
+-- the length field of one byte of content, and the largest (source 002's maximum)
+abbrev pub shortest : ℕ
+shortest = 3
+
+unfoldable pub longest : ℕ
+longest = 256
+
+-- ---- acknowledge codes
+
+abbrev pub done : ℕ
+done = 0x00
+
+-- a damaged packet, a wrong length, or no such buffer
+abbrev pub badPacket : ℕ
+badPacket = 0x01
+
+abbrev pub badPage : ℕ
+badPage = 0x0b
+
+-- a buffer that is not filled, or a page that is vacant
+abbrev pub nothingThere : ℕ
+nothingThere = 0x0c
+
+abbrev pub nothingToSend : ℕ
+nothingToSend = 0x0d
+
+abbrev pub transferFailed : ℕ
+transferFailed = 0x0e
+
+abbrev pub badRange : ℕ
+badRange = 0x10
+
+abbrev pub wrongPassword : ℕ
+wrongPassword = 0x13
+
+abbrev pub unknownCommand : ℕ
+unknownCommand = 0x19
+
+abbrev pub badParameter : ℕ
+badParameter = 0x1a
+
+abbrev pub badValue : ℕ
+badValue = 0x1b
+
+abbrev pub badNotePage : ℕ
+badNotePage = 0x1c
+
+-- fixed by document 01, whatever a fuller table says
+abbrev pub passwordFirst : ℕ
+passwordFirst = 0x21
+
+-- ---- numbers a caller gets back
+
+abbrev pub badLength : ℕ
+badLength = 1
+
+abbrev pub badRoom : ℕ
+badRoom = 2
+
+abbrev pub badSetting : ℕ
+badSetting = 3
+
+abbrev pub badContent : ℕ
+badContent = 4
+
+-- the index count's answer to an index of another length
+abbrev pub noCount : ℕ
+noCount = 0xffff

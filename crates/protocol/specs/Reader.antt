@@ -1,0 +1,113 @@
+-- A reader: its settings and its lent memory, split as document 01 splits them into what is guarded and the rest.
+use mathlib.Core.Bool.{Bool, true, false, _&&_, not, cond}
+use mathlib.Core.List.{List, [], _∷_}
+use Prim.Native.Nat.{ℕ, _+_, _*_, _/_, _^_}
+use lib.ListN.{length}
+use Rattle.protocol.specs.Numbers.{pageBytes, wordBytes}
+use Rattle.protocol.specs.Bytes.{four, zeros, same}
+
+-- a transfer: none, or into a buffer (the second?) with the bytes got so far
+pub data Transfer : Type 0 where
+  closed : Transfer
+  opened : Bool → ℕ → Transfer
+  -- two numbers of a settings record that name no buffer
+  unfit : ℕ → ℕ → Transfer
+
+-- the settings, but for the filled marks
+pub record Plain : Type 0 where
+  pub password : List ℕ
+  pub address : List ℕ
+  pub level : ℕ
+  pub size : ℕ
+  pub baud : ℕ
+  pub sensor : ℕ
+  pub verified : Bool
+  pub transfer : Transfer
+
+-- a character buffer and its filled mark
+pub record Buffer : Type 0 where
+  pub bytes : List ℕ
+  pub filled : Bool
+
+-- guarded contents: templates, index, notepad, both buffers and their filled marks
+pub record Guarded : Type 0 where
+  pub templates : List ℕ
+  pub index : List ℕ
+  pub notepad : List ℕ
+  pub buffer1 : Buffer
+  pub buffer2 : Buffer
+
+pub record Reader : Type 0 where
+  pub plain : Plain
+  pub guarded : Guarded
+
+-- C is read off the templates' length
+unfoldable pub capacity : Guarded → ℕ
+capacity g = length (g .templates) / pageBytes
+
+-- size codes 0, 1, 2 mean 32, 64, 128 data bytes
+unfoldable pub sizeOf : ℕ → ℕ
+sizeOf code = 2 ^ (5 + code)
+
+-- locked: password not zero and verified mark clear
+unfoldable pub keyed : Plain → Bool
+keyed p = not (same (p .password) (four 0))
+
+unfoldable pub locked : Plain → Bool
+locked p = keyed p && not (p .verified)
+
+-- ---- a buffer by its number: is it the second?
+
+unfoldable pub bufferOf : Bool → Guarded → Buffer
+bufferOf second g = cond second (g .buffer2) (g .buffer1)
+
+unfoldable pub emptied : Buffer
+emptied = record { bytes = zeros pageBytes; filled = false }
+
+unfoldable pub filledWith : List ℕ → Buffer
+filledWith b = record { bytes = b; filled = true }
+
+-- ---- a reader with one part anew (there is no record update)
+
+abbrev pub settings : List ℕ → List ℕ → ℕ → ℕ → ℕ → ℕ → Bool → Transfer → Plain
+settings w a l z b k v t = record { password = w; address = a; level = l; size = z; baud = b; sensor = k; verified = v; transfer = t }
+
+unfoldable pub withMark : Bool → Plain → Plain
+withMark v p = settings (p .password) (p .address) (p .level) (p .size) (p .baud) (p .sensor) v (p .transfer)
+
+unfoldable pub withTransfer : Transfer → Plain → Plain
+withTransfer t p = settings (p .password) (p .address) (p .level) (p .size) (p .baud) (p .sensor) (p .verified) t
+
+-- another password clears the verified mark
+unfoldable pub withPassword : List ℕ → Plain → Plain
+withPassword w p = settings w (p .address) (p .level) (p .size) (p .baud) (p .sensor) false (p .transfer)
+
+unfoldable pub withAddress : List ℕ → Plain → Plain
+withAddress a p = settings (p .password) a (p .level) (p .size) (p .baud) (p .sensor) (p .verified) (p .transfer)
+
+unfoldable pub withTuning : ℕ → ℕ → ℕ → Plain → Plain
+withTuning b l z p = settings (p .password) (p .address) l z b (p .sensor) (p .verified) (p .transfer)
+
+abbrev pub contents : List ℕ → List ℕ → List ℕ → Buffer → Buffer → Guarded
+contents t i n b c = record { templates = t; index = i; notepad = n; buffer1 = b; buffer2 = c }
+
+unfoldable pub withLibrary : List ℕ → List ℕ → Guarded → Guarded
+withLibrary t i g = contents t i (g .notepad) (g .buffer1) (g .buffer2)
+
+unfoldable pub withNotepad : List ℕ → Guarded → Guarded
+withNotepad n g = contents (g .templates) (g .index) n (g .buffer1) (g .buffer2)
+
+unfoldable pub withBuffer : Bool → Buffer → Guarded → Guarded
+withBuffer false b g = contents (g .templates) (g .index) (g .notepad) b (g .buffer2)
+withBuffer true b g = contents (g .templates) (g .index) (g .notepad) (g .buffer1) b
+
+abbrev pub reader : Plain → Guarded → Reader
+reader p g = record { plain = p; guarded = g }
+
+-- ---- fresh settings, and zeroed memory of c pages
+
+unfoldable pub fresh : Plain
+fresh = settings (four 0) (four 0xffffffff) 3 1 6 0 false closed
+
+unfoldable pub zeroed : ℕ → ℕ → ℕ → Guarded
+zeroed pages indexed noted = contents (zeros (pageBytes * pages)) (zeros indexed) (zeros noted) emptied emptied

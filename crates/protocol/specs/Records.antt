@@ -1,0 +1,46 @@
+-- From the code's records and lent memory to the reader and the outcomes of the definitions. Different records give different readers.
+use mathlib.Core.Bool.{Bool, true, false}
+use mathlib.Core.List.{List}
+use Prim.Native.Nat.{ℕ, zero, suc}
+use Rattle.protocol.specs.declared.Settings.{Settings}
+use Rattle.protocol.specs.declared.Called.{Called}
+use Rattle.protocol.specs.declared.Switched.{Switched}
+use Rattle.protocol.specs.declared.Built.{Built}
+use Rattle.protocol.specs.Packet.{Made}
+use Rattle.protocol.specs.Reader.{Transfer, closed, opened, unfit, Plain, Buffer, Guarded, Reader, settings, contents, reader}
+use Rattle.protocol.specs.Call.{Told, Ended}
+
+-- the transfer of the settings' two numbers: the buffer's, and the bytes got so far; none is 0 and 0
+unfoldable pub transferOf : ℕ → ℕ → Transfer
+transferOf zero zero = closed
+transferOf zero (suc k) = unfit zero (suc k)
+transferOf (suc zero) k = opened false k
+transferOf (suc (suc zero)) k = opened true k
+transferOf (suc (suc (suc b))) k = unfit (suc (suc (suc b))) k
+
+abbrev pub plainOf : Settings → Plain
+plainOf s =
+    settings (s .password) (s .address) (s .level) (s .size) (s .baud) (s .sensor) (s .verified) (transferOf (s .transfer) (s .got))
+
+abbrev pub buffer : List ℕ → Bool → Buffer
+buffer b f = record { bytes = b; filled = f }
+
+-- settings, templates, index, notepad, both buffers
+abbrev pub readerOf : Settings → List ℕ → List ℕ → List ℕ → List ℕ → List ℕ → Reader
+readerOf s t i n b c = reader (plainOf s) (contents t i n (buffer b (s .filled1)) (buffer c (s .filled2)))
+
+-- what a call returned, and the lent memory and the reply room after it
+abbrev pub endedOf : Called → List ℕ → List ℕ → List ℕ → List ℕ → List ℕ → List ℕ → Ended
+endedOf c t i n b d room =
+    record {
+      told = record { refusal = c .refusal; used = c .used; length = c .length; room = room };
+      after = readerOf (c .settings) t i n b d;
+    }
+
+-- what a line switch returned, and the two buffers after it; it takes no other memory
+abbrev pub switchedOf : Switched → List ℕ → List ℕ → List ℕ → List ℕ → List ℕ → List ℕ → Ended
+switchedOf s t i n b d room =
+    record { told = record { refusal = s .refusal; used = 0; length = 0; room = room }; after = readerOf (s .settings) t i n b d }
+
+abbrev pub madeOf : Built → List ℕ → Made
+madeOf b room = record { refusal = b .refusal; length = b .length; room = room }

@@ -1,0 +1,131 @@
+-- The sixteen commands: document 01's table, right half. Each row's tests, left to right, and its effect.
+use mathlib.Core.Bool.{Bool, true, false, _&&_, _||_, cond}
+use mathlib.Core.List.{List, [], _∷_}
+use Prim.Native.Nat.{ℕ, _+_, _*_, _/_}
+use lib.Dec.{eqb, ltb, leb}
+use lib.ListN.{length}
+use Rattle.protocol.specs.Numbers.{pageBytes, noteBytes, indexBytes, lowestLevel, highestLevel, lowestBaud, highestBaud, highestSize, baudParameter, levelParameter, sizeParameter, verifiedStatus, done, badPacket, badPage, nothingThere, nothingToSend, badRange, wrongPassword, badParameter, badValue, badNotePage}
+use Rattle.protocol.specs.Bytes.{two, part, zeros, same, lay, joined}
+use Rattle.protocol.specs.Tests.{Test, within}
+use Rattle.protocol.specs.Index.{stored, setBit, clearBits, setBits}
+use Rattle.protocol.specs.Reader.{Transfer, opened, Plain, Buffer, Guarded, Reader, capacity, sizeOf, bufferOf, emptied, filledWith, withMark, withTransfer, withPassword, withAddress, withTuning, withLibrary, withNotepad, withBuffer, reader}
+use Rattle.protocol.specs.Commands.{Free, verifyPassword, handShake, Barred, store, loadChar, upChar, downChar, deletChar, empty, setSysPara, readSysPara, setPassword, setAddress, writeNotepad, readNotepad, templeteNum, readIndexTable}
+use Rattle.protocol.specs.Data.{dataPackets}
+
+-- ---- the commands that the lock bars
+
+-- what a command that answers 00h does to the reader
+pub data Effect : Type 0 where
+  keep : Effect
+  -- page p gets these bytes and its bit
+  fillPage : ℕ → List ℕ → Effect
+  -- n pages from p on lose their bits and their bytes; all pages do
+  erase : ℕ → ℕ → Effect
+  eraseAll : Effect
+  -- a buffer (the second?) gets these bytes and its mark
+  fillBuffer : Bool → List ℕ → Effect
+  -- a buffer is zeroed, its mark cleared, and a transfer into it opened
+  await : Bool → Effect
+  -- these bytes go into the notepad, from the place i on
+  note : ℕ → List ℕ → Effect
+  -- other settings
+  settle : Plain → Effect
+
+unfoldable pub apply : Effect → Reader → Reader
+apply keep r = r
+apply (fillPage p b) r =
+    reader (r .plain) (withLibrary (lay (pageBytes * p) b (r .guarded .templates)) (setBit (r .guarded .index) p) (r .guarded))
+apply (erase p n) r =
+    reader (r .plain) (withLibrary (lay (pageBytes * p) (zeros (pageBytes * n)) (r .guarded .templates)) (clearBits (r .guarded .index) p n) (r .guarded))
+apply eraseAll r = reader (r .plain) (withLibrary (zeros (length (r .guarded .templates))) (zeros (length (r .guarded .index))) (r .guarded))
+apply (fillBuffer w b) r = reader (r .plain) (withBuffer w (filledWith b) (r .guarded))
+apply (await w) r = reader (withTransfer (opened w 0) (r .plain)) (withBuffer w emptied (r .guarded))
+apply (note i b) r = reader (r .plain) (withNotepad (lay i b (r .guarded .notepad)) (r .guarded))
+apply (settle p) r = reader p (r .guarded)
+
+-- a row: its tests, each with its code; then, where all pass, the listed bytes, the data packets behind the reply, and the effect
+pub record Row : Type 0 where
+  pub tests : List Test
+  pub bytes : List ℕ
+  pub behind : List ℕ
+  pub effect : Effect
+
+abbrev pub does : List Test → Effect → Row
+does ts e = record { tests = ts; bytes = []; behind = []; effect = e }
+
+abbrev pub gives : List Test → List ℕ → Row
+gives ts b = record { tests = ts; bytes = b; behind = []; effect = keep }
+
+abbrev pub sends : List Test → List ℕ → Row
+sends ts d = record { tests = ts; bytes = []; behind = d; effect = keep }
+
+-- buffer numbers
+unfoldable pub isBuffer : ℕ → Bool
+isBuffer b = eqb b 1 || eqb b 2
+
+abbrev pub second : ℕ → Bool
+second b = eqb b 2
+
+-- the range of a parameter, and the settings with it set
+unfoldable pub inRange : ℕ → ℕ → Bool
+inRange k v = cond (eqb k baudParameter) (within lowestBaud v highestBaud) (cond (eqb k levelParameter) (within lowestLevel v highestLevel) (leb v highestSize))
+
+unfoldable pub withParameter : ℕ → ℕ → Plain → Plain
+withParameter k v p =
+    cond (eqb k baudParameter) (withTuning v (p .level) (p .size) p)
+    (cond (eqb k levelParameter) (withTuning (p .baud) v (p .size) p) (withTuning (p .baud) (p .level) v p))
+
+-- 4 if the verified mark is set, otherwise 0
+unfoldable pub statusOf : Plain → ℕ
+statusOf p = cond (p .verified) verifiedStatus 0
+
+unfoldable pub rule : Reader → Barred → Row
+rule r (store b p) =
+    let g = r .guarded in
+    does ((isBuffer b, badPacket) ∷ (ltb p (capacity g), badPage) ∷ (bufferOf (second b) g .filled, nothingThere) ∷ []) (fillPage p (bufferOf (second b) g .bytes))
+rule r (loadChar b p) =
+    let g = r .guarded in
+    does ((isBuffer b, badPacket) ∷ (ltb p (capacity g), badPage) ∷ (stored (g .index) p, nothingThere) ∷ [])
+    (fillBuffer (second b) (part (pageBytes * p) pageBytes (g .templates)))
+rule r (upChar b) =
+    let g = r .guarded in
+    sends ((isBuffer b, badPacket) ∷ (bufferOf (second b) g .filled, nothingToSend) ∷ [])
+    (dataPackets (r .plain .address) (sizeOf (r .plain .size)) (bufferOf (second b) g .bytes))
+rule r (downChar b) = does ((isBuffer b, badPacket) ∷ []) (await (second b))
+rule r (deletChar p n) = let c = capacity (r .guarded) in does ((ltb p c && leb (p + n) c, badRange) ∷ []) (erase p n)
+rule r empty = does [] eraseAll
+rule r (setSysPara k v) = does ((within baudParameter k sizeParameter, badParameter) ∷ (inRange k v, badValue) ∷ []) (settle (withParameter k v (r .plain)))
+rule r readSysPara =
+    let p = r .plain in
+    gives []
+    (joined (two (statusOf p) ∷ two (p .sensor) ∷ two (capacity (r .guarded)) ∷ two (p .level) ∷ p .address ∷ two (p .size) ∷ two (p .baud) ∷ []))
+rule r (setPassword w) = does [] (settle (withPassword w (r .plain)))
+rule r (setAddress a) = does [] (settle (withAddress a (r .plain)))
+rule r (writeNotepad p b) = does ((ltb p (length (r .guarded .notepad) / noteBytes), badNotePage) ∷ []) (note (noteBytes * p) b)
+rule r (readNotepad p) =
+    gives ((ltb p (length (r .guarded .notepad) / noteBytes), badNotePage) ∷ []) (part (noteBytes * p) noteBytes (r .guarded .notepad))
+rule r templeteNum = gives [] (two (setBits (r .guarded .index)))
+rule r (readIndexTable p) =
+    gives ((ltb p (length (r .guarded .index) / indexBytes), badPage) ∷ []) (part (indexBytes * p) indexBytes (r .guarded .index))
+
+-- ---- the two that the lock lets pass
+
+-- what a host may learn without the password: the settings but for the filled marks, and the capacity
+pub record Public : Type 0 where
+  pub plain : Plain
+  pub capacity : ℕ
+
+unfoldable pub publicOf : Reader → Public
+publicOf r = record { plain = r .plain; capacity = capacity (r .guarded) }
+
+-- such a row sees only that, and changes settings alone: its code, the listed bytes, and the settings after it
+pub record FreeRow : Type 0 where
+  pub code : ℕ
+  pub bytes : List ℕ
+  pub plain : Plain
+
+unfoldable pub freeRule : Public → Free → FreeRow
+freeRule v (verifyPassword w) =
+    let equal = same w (v .plain .password) in
+    record { code = cond equal done wrongPassword; bytes = []; plain = withMark equal (v .plain) }
+freeRule v handShake = record { code = done; bytes = []; plain = v .plain }

@@ -1,0 +1,52 @@
+// The types that the code and its contracts share. The definitions over them are in specs/, the promises in proofs/.
+
+// The first place with EF followed by 01 (step 1 of finding).
+pub enum Start {
+    Nowhere,
+    At { place: usize },
+}
+
+// What stands in a run (steps 1 to 4): nothing that starts a packet; one that is not all there yet; a start that no packet has;
+// or a whole packet, with its place and its length field.
+pub enum Found {
+    Noise { used: usize },
+    Unfinished { at: usize },
+    Unfit { at: usize },
+    Whole { at: usize, len: usize },
+}
+
+// A reader's settings. The transfer is two numbers: its buffer, 1 or 2 (0: none), and the bytes got so far.
+#[repr(C)]
+pub struct Settings {
+    pub password: [u8; 4],
+    pub address: [u8; 4],
+    pub level: u8,
+    pub size: u8,
+    pub baud: u8,
+    pub transfer: u8,
+    pub sensor: u16,
+    pub got: u16,
+    pub verified: bool,
+    pub filled1: bool,
+    pub filled2: bool,
+}
+
+// What a call of the reader returns: the settings after it, the refusal or 0, the bytes used, and the reply's length.
+pub struct Called {
+    pub settings: Settings,
+    pub refusal: u8,
+    pub used: usize,
+    pub length: usize,
+}
+
+// What a line switch returns: the settings after it, and the refusal or 0.
+pub struct Switched {
+    pub settings: Settings,
+    pub refusal: u8,
+}
+
+// What the builder returns: the refusal or 0, and the packet's length.
+pub struct Built {
+    pub refusal: u8,
+    pub length: usize,
+}
