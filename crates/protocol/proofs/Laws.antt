@@ -3,3 +3,7 @@ pub mod Lists
 pub mod Bits
 pub mod Index
 pub mod Count
+pub mod Finder
+pub mod Commands
+pub mod Answers
+pub mod Legal

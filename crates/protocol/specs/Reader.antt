@@ -98,8 +98,7 @@ unfoldable pub withNotepad : List ℕ → Guarded → Guarded
 withNotepad n g = contents (g .templates) (g .index) n (g .buffer1) (g .buffer2)
 
 unfoldable pub withBuffer : Bool → Buffer → Guarded → Guarded
-withBuffer false b g = contents (g .templates) (g .index) (g .notepad) b (g .buffer2)
-withBuffer true b g = contents (g .templates) (g .index) (g .notepad) (g .buffer1) b
+withBuffer second b g = contents (g .templates) (g .index) (g .notepad) (cond second (g .buffer1) b) (cond second b (g .buffer2))
 
 abbrev pub reader : Plain → Guarded → Reader
 reader p g = record { plain = p; guarded = g }

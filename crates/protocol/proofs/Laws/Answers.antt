@@ -1,0 +1,89 @@
+-- The one principle of a call: refused, or an answer of five kinds. What holds of each kind holds of every answer.
+use mathlib.Core.Bool.{Bool, true, false, _&&_, cond}
+use mathlib.Core.Path.{_≡_, refl, sym, ap, _∙_, subst}
+use mathlib.Core.List.{List, [], _∷_}
+use Prim.Native.Nat.{ℕ, zero, suc, _-_}
+use lib.Dec.{T}
+use Rattle.protocol.specs.Numbers.{badPacket, transferFailed, unknownCommand, passwordFirst}
+use Rattle.protocol.specs.Tests.{verdict}
+use Rattle.protocol.specs.Reader.{Transfer, closed, opened, unfit, Reader, locked}
+use Rattle.protocol.specs.Commands.{Free, Barred, Command, free, barred, Order, damaged, unknown, misfit, command}
+use Rattle.protocol.specs.Table.{Row, rule, freeRule, publicOf}
+use Rattle.protocol.specs.Step.{Heard, nothing, order, piece, hear, Said, silence, says, carryAs, carry, carryFree, obey, heed, ended, rested, fits, takeAs, takeIn, answer, stepOf}
+use Rattle.protocol.specs.Call.{Shape, fitLengths, fitRoom, sound, legal, Ended, refusalOf, refused, carried, callAs, callOf}
+use Rattle.protocol.proofs.Laws.Logic.{and-l, and-r, and-i, passed, verdict-passed, passed-verdict}
+use Rattle.protocol.proofs.Laws.Commands.{tests-numbered}
+
+-- what is shown of each kind of answer that the reader r can give to what it heard
+pub record Kinds (P : Said → Type 0) (r : Reader) (h : Heard) : Type 0 where
+  -- silence; nothing changes
+  pub silent : P (silence r)
+  -- a code other than 00h, once an open transfer has ended
+  pub refuses : (k : ℕ) → P (says (rested r) (suc k))
+  -- a command that the lock lets pass
+  pub frees : (c : Free) → h ≡ order (command (free c)) → P (carryFree (rested r) (freeRule (publicOf (rested r)) c))
+  -- a data packet that goes in
+  pub takes : (w last right : Bool) (got : ℕ) (content : List ℕ) → r .plain .transfer ≡ opened w got → h ≡ piece last right content
+      → T (fits (r .plain) got last right content) → P (takeAs r w got content true last)
+  -- any other command, not locked and its tests passed
+  pub does : (c : Barred) → h ≡ order (command (barred c)) → locked (rested r .plain) ≡ false → T (passed (rule (rested r) c .tests))
+      → P (carryAs (rested r) (rule (rested r) c) zero)
+
+module _ (P : Said → Type 0) (r : Reader) where
+  take-kinds : (last right : Bool) (content : List ℕ) → Kinds P r (piece last right content)
+      → (t : Transfer) → r .plain .transfer ≡ t → P (takeIn r last right content t)
+  unfolding takeIn takeAs rested
+  take-kinds last right content k closed e = k .silent
+  take-kinds last right content k (unfit b j) e = k .silent
+  take-kinds last right content k (opened w got) e = go (fits (r .plain) got last right content) refl
+    where
+      go : (b : Bool) → fits (r .plain) got last right content ≡ b → P (takeAs r w got content b last)
+      go true q = k .takes w last right got content e refl (rw q tt)
+      go false q = subst (λ (t : Transfer). P (says (ended r t) transferFailed)) e (k .refuses (transferFailed - 1))
+
+  row-kinds : (c : Barred) → Kinds P r (order (command (barred c))) → locked (rested r .plain) ≡ false → P (carry (rested r) (rule (rested r) c))
+  unfolding carry carryAs
+  row-kinds c k f = go (verdict (rule (rested r) c .tests)) refl
+    where
+      go : (n : ℕ) → verdict (rule (rested r) c .tests) ≡ n → P (carryAs (rested r) (rule (rested r) c) n)
+      go zero e = k .does c refl f (verdict-passed (rule (rested r) c .tests) (tests-numbered (rested r) c) e)
+      go (suc n) e = k .refuses n
+
+  pub answer-kinds : (h : Heard) → Kinds P r h → P (answer r h)
+  unfolding answer heed obey
+  answer-kinds nothing k = k .silent
+  answer-kinds (order damaged) k = k .refuses (badPacket - 1)
+  answer-kinds (order unknown) k = k .refuses (unknownCommand - 1)
+  answer-kinds (order misfit) k = k .refuses (badPacket - 1)
+  answer-kinds (order (command (free c))) k = k .frees c refl
+  answer-kinds (order (command (barred c))) k = go (locked (rested r .plain)) refl
+    where
+      go : (b : Bool) → locked (rested r .plain) ≡ b → P (cond b (says (rested r) passwordFirst) (carry (rested r) (rule (rested r) c)))
+      go true e = k .refuses (passwordFirst - 1)
+      go false e = row-kinds c k e
+  answer-kinds (piece last right content) k = take-kinds last right content k (r .plain .transfer) refl
+
+-- ---- a call: refused with nothing changed, or a legal reader's step with a fit reply room
+
+module _ (σ : Shape) (r : Reader) (s room : List ℕ) where
+  pub call-kinds : (P : Ended → Type 0) → ((k : ℕ) → P (refused (suc k) r room)) → (T (legal σ r) → T (fitRoom room) → P (carried (stepOf r s) room))
+      → P (callOf σ r s room)
+  unfolding callOf callAs refusalOf legal
+  call-kinds P f g = go (refusalOf σ r room) refl
+    where
+      go : (k : ℕ) → refusalOf σ r room ≡ k → P (callAs r s room k)
+      go zero e =
+          let t = verdict-passed _ tt e in
+          let a : T (fitLengths σ (r .guarded)) = search (and-l) in
+          let b : T (fitRoom room) = search (and-l, and-r) in
+          let c : T (sound r) = search (and-l, and-r) in
+          g (and-i (fitLengths σ (r .guarded)) (sound r) a c) b
+      go (suc k) e = f k
+
+  -- a legal reader with a fit reply room gets no refusal
+  pub call-legal : T (legal σ r) → T (fitRoom room) → callOf σ r s room ≡ carried (stepOf r s) room
+  unfolding callOf callAs refusalOf legal
+  call-legal t u =
+      let a : T (fitLengths σ (r .guarded)) = search (and-l) in
+      let c : T (sound r) = search (and-r) in
+      ap (callAs r s room) (passed-verdict ((fitLengths σ (r .guarded), 1) ∷ (fitRoom room, 2) ∷ (sound r, 3) ∷ []) (search (and-i)))

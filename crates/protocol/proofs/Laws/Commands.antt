@@ -1,0 +1,133 @@
+-- The table of commands: a law of every row, had at whatever row a code picks; the tests of every row; the lengths of parameters.
+use mathlib.Core.Bool.{Bool, true, false, cond}
+use mathlib.Core.Path.{_≡_, refl, _∙_}
+use mathlib.Core.List.{List, [], _∷_}
+use Prim.Native.Nat.{ℕ, _+_, _-_}
+use native.Mathlib.Omega.{arith}
+use lib.Dec.{T, eqb}
+use borrow.Author.Tests.{eqb-true}
+use lib.ListN.{length, drop, length-drop}
+use Rattle.protocol.specs.declared.Found.{Found}
+use Rattle.protocol.specs.declared.Found.the-variants.{Noise, Unfinished, Unfit, Whole}
+use Rattle.protocol.specs.Numbers.{noteBytes, wordBytes, commandPacket, acknowledgePacket, lastPacket}
+use Rattle.protocol.specs.Bytes.{byteAt, same}
+use Rattle.protocol.specs.Packet.{lengthOf, addressAt, identifierAt, contentAt, rightAt}
+use Rattle.protocol.specs.Finder.{findOf}
+use Rattle.protocol.specs.Reader.{Reader}
+use Rattle.protocol.specs.Commands.{Free, verifyPassword, handShake, Barred, store, loadChar, upChar, downChar, deletChar, empty, setSysPara, readSysPara, setPassword, setAddress, writeNotepad, readNotepad, templeteNum, readIndexTable, Command, free, barred, Entry, commands, Known, none, some, rowOf, Order, damaged, unknown, misfit, command, orderAs, orderOf}
+use Rattle.protocol.specs.Table.{rule}
+use Rattle.protocol.specs.Step.{Heard, nothing, order, piece, hearAs, hearAt, hear}
+use Rattle.protocol.proofs.Laws.Logic.{numbered}
+
+-- ---- a law of every row
+
+abbrev pub Each : (Entry → Type 0) → List Entry → Type 0
+Each P [] = Unit {0}
+Each P (e ∷ es) = P e × Each P es
+
+abbrev pub At : (Entry → Type 0) → Known → Type 0
+At P none = Unit {0}
+At P (some e) = P e
+
+pub row-law : (P : Entry → Type 0) (es : List Entry) → Each P es → (k : ℕ) → At P (rowOf es k)
+unfolding rowOf
+row-law P [] h k = tt
+row-law P (e ∷ es) h k = go (eqb k (e .code)) (row-law P es (h .1) k)
+  where
+    go : (b : Bool) → At P (rowOf es k) → At P (cond b (some e) (rowOf es k))
+    go true ih = h .0
+    go false ih = ih
+
+-- ---- no test of a row gives the code 00h
+
+pub tests-numbered : (r : Reader) (c : Barred) → T (numbered (rule r c .tests))
+unfolding rule
+tests-numbered r (store b p) = tt
+tests-numbered r (loadChar b p) = tt
+tests-numbered r (upChar b) = tt
+tests-numbered r (downChar b) = tt
+tests-numbered r (deletChar p n) = tt
+tests-numbered r empty = tt
+tests-numbered r (setSysPara k v) = tt
+tests-numbered r readSysPara = tt
+tests-numbered r (setPassword w) = tt
+tests-numbered r (setAddress a) = tt
+tests-numbered r (writeNotepad p b) = tt
+tests-numbered r (readNotepad p) = tt
+tests-numbered r templeteNum = tt
+tests-numbered r (readIndexTable p) = tt
+
+-- ---- passwords and addresses have four bytes, what goes into the notepad a page of it
+
+abbrev pub Long : Barred → Type 0
+Long (store b p) = Unit {0}
+Long (loadChar b p) = Unit {0}
+Long (upChar b) = Unit {0}
+Long (downChar b) = Unit {0}
+Long (deletChar p n) = Unit {0}
+Long empty = Unit {0}
+Long (setSysPara k v) = Unit {0}
+Long readSysPara = Unit {0}
+Long (setPassword w) = length w ≡ wordBytes
+Long (setAddress a) = length a ≡ wordBytes
+Long (writeNotepad p b) = length b ≡ noteBytes
+Long (readNotepad p) = Unit {0}
+Long templeteNum = Unit {0}
+Long (readIndexTable p) = Unit {0}
+
+abbrev pub LongCommand : Command → Type 0
+LongCommand (free c) = Unit {0}
+LongCommand (barred c) = Long c
+
+abbrev LongRow : Entry → Type 0
+LongRow e = (c : List ℕ) → e .len ≡ lengthOf c → LongCommand (e .read c)
+
+skipped : (k m : ℕ) (c : List ℕ) → k + m + 2 ≡ lengthOf c → length (drop k c) ≡ m
+skipped k m c e = length-drop k c ∙ omega arith
+
+long-rows : Each LongRow commands
+unfolding commands
+long-rows =
+    (λ c e. tt, (λ c e. tt, (λ c e. tt, (λ c e. tt, (λ c e. tt, (λ c e. tt, (λ c e. tt, (λ c e. tt, (λ c e. skipped 1 4 c e, (λ c e. tt, (λ c e. skipped 1 4 c e, (λ c e. skipped 2 32 c e, (λ c e. tt, (λ c e. tt, (λ c e. tt, (λ c e. tt, tt))))))))))))))))
+
+abbrev pub LongHeard : Heard → Type 0
+LongHeard nothing = Unit {0}
+LongHeard (order damaged) = Unit {0}
+LongHeard (order unknown) = Unit {0}
+LongHeard (order misfit) = Unit {0}
+LongHeard (order (command c)) = LongCommand c
+LongHeard (piece last right content) = Unit {0}
+
+long-order : (right : Bool) (c : List ℕ) → LongHeard (order (orderOf right c))
+unfolding orderOf orderAs
+long-order false c = tt
+long-order true c = go (rowOf commands (byteAt c 0)) (row-law LongRow commands long-rows (byteAt c 0))
+  where
+    go : (k : Known) → At LongRow k → LongHeard (order (orderAs c k))
+    go none h = tt
+    go (some e) h = at (eqb (e .len) (lengthOf c)) refl
+      where
+        at : (t : Bool) → eqb (e .len) (lengthOf c) ≡ t → LongHeard (order (cond t (command (e .read c)) misfit))
+        at true q = h c (eqb-true (e .len) (lengthOf c) q)
+        at false q = tt
+
+either : (b : Bool) (x y : Heard) → LongHeard x → LongHeard y → LongHeard (cond b x y)
+either true x y h k = h
+either false x y h k = k
+
+pub long-heard : (a s : List ℕ) → LongHeard (hear a s)
+unfolding hear hearAt hearAs
+long-heard a s = at (findOf s)
+  where
+    at : (f : Found) → LongHeard (hearAt a s f)
+    at (Noise n) = tt
+    at (Unfinished p) = tt
+    at (Unfit p) = tt
+    at (Whole p n) =
+        let i : ℕ = identifierAt s p in
+        let right : Bool = rightAt s p n in
+        let c : List ℕ = contentAt s p n in
+        let rest : Heard = piece (eqb i lastPacket) right c in
+        either (same (addressAt s p) a) (hearAs i right c) nothing
+        (either (eqb i commandPacket) (order (orderOf right c)) (cond (eqb i acknowledgePacket) nothing rest) (long-order right c)
+        (either (eqb i acknowledgePacket) nothing rest tt tt)) tt

@@ -1,0 +1,90 @@
+-- The finder: what a start is, what the limits of a packet are, and when a whole packet is found and heard.
+use mathlib.Core.Bool.{Bool, true, false, true≢false, _&&_, cond}
+use mathlib.Core.Path.{_≡_, refl, sym, ap, _∙_}
+use mathlib.Core.List.{List, [], _∷_}
+use Prim.Native.Nat.{ℕ, zero, suc, _+_, _-_, _≤_, _<_}
+use native.Mathlib.Nat.{not-suc-le-zero, le-of-suc-le-suc}
+use native.Mathlib.Omega.{arith}
+use native.Mathlib.Decide.{decLt}
+use lib.Dec.{T, eqb, leb, leb→le, le→leb, lit<}
+use borrow.Author.Tests.{le-ltb}
+use lib.ListN.{length, List·getD-eq-default}
+use Rattle.protocol.specs.declared.Start.{Start}
+use Rattle.protocol.specs.declared.Start.the-variants.{Nowhere, At}
+use Rattle.protocol.specs.declared.Found.{Found}
+use Rattle.protocol.specs.declared.Found.the-variants.{Noise, Unfinished, Unfit, Whole}
+use Rattle.protocol.specs.Numbers.{firstMark, secondMark, headBytes, shortest, longest}
+use Rattle.protocol.specs.Bytes.{byteAt, same}
+use Rattle.protocol.specs.Packet.{isIdentifier, limit, accepts, addressAt, identifierAt, lengthAt, contentAt, endAt, rightAt}
+use Rattle.protocol.specs.Finder.{marksAt, later, startOf, findFrom}
+use Rattle.protocol.specs.Step.{hearAs, hearAt}
+use Rattle.protocol.proofs.Laws.Logic.{T→true, and-l, and-r, and-i, and-false}
+use Rattle.protocol.proofs.Laws.Lists.{same-refl}
+
+-- ---- the limits of a packet: no other proof opens `accepts`
+
+pub accepts-least : (i n : ℕ) → T (accepts i n) → shortest ≤ n
+unfolding accepts
+accepts-least i n t = leb→le shortest n (search (and-l, and-r))
+
+pub accepts-most : (i n : ℕ) → T (accepts i n) → n ≤ longest
+unfolding accepts limit
+accepts-most i n t = leb→le n longest (search (and-r))
+
+pub accepts-of : (i n : ℕ) → T (isIdentifier i) → shortest ≤ n → n ≤ 256 → T (accepts i n)
+unfolding accepts limit longest
+accepts-of i n t l h =
+    and-i (isIdentifier i && leb shortest n) (leb n 256) (and-i (isIdentifier i) (leb shortest n) t (le→leb shortest n l)) (le→leb n 256 h)
+
+-- a length field has two bytes
+pub longest-word : longest < 65536
+unfolding longest
+longest-word = lit< tt
+
+-- ---- the first start
+
+-- Nowhere: no place has the marks; At p: p has them, and no place before it
+abbrev pub FirstStart : List ℕ → Start → Type 0
+FirstStart s Nowhere = (q : ℕ) → marksAt s q ≡ false
+FirstStart s (At p) = (marksAt s p ≡ true) × ((q : ℕ) → q < p → marksAt s q ≡ false)
+
+pub start-first : (s : List ℕ) → FirstStart s (startOf s)
+unfolding startOf later marksAt
+start-first [] = λ q. refl
+start-first (b ∷ s) = go (marksAt (b ∷ s) 0) refl (startOf s) (start-first s)
+  where
+    go : (t : Bool) → marksAt (b ∷ s) 0 ≡ t → (r : Start) → FirstStart s r → FirstStart (b ∷ s) (cond t (At 0) (later r))
+    go true e r h = (e, λ q l. absurd (not-suc-le-zero l))
+    go false e Nowhere h = at
+      where
+        at : (q : ℕ) → marksAt (b ∷ s) q ≡ false
+        at zero = e
+        at (suc q) = h q
+    go false e (At p) h = (h .0, at)
+      where
+        at : (q : ℕ) → q < suc p → marksAt (b ∷ s) q ≡ false
+        at zero l = e
+        at (suc q) l = h .1 q (le-of-suc-le-suc l)
+
+-- both marks lie in the run
+pub marks-in : (s : List ℕ) (p : ℕ) → marksAt s p ≡ true → suc p < length s
+unfolding marksAt
+marks-in s p e = go (decLt (suc p) (length s))
+  where
+    go : Dec (suc p < length s) → suc p < length s
+    go (yes h) = h
+    go (no h) =
+        let z : byteAt s (suc p) ≡ 0 = List·getD-eq-default s 0 {n = suc p} (omega arith) in
+        absurd (true≢false (sym e ∙ ap (λ (n : ℕ). eqb (byteAt s p) firstMark && eqb n secondMark) z ∙ and-false (eqb (byteAt s p) firstMark) false refl))
+
+-- ---- a whole packet at p, by the facts that the code's tests give
+
+pub found-at : (s : List ℕ) (p n : ℕ) → lengthAt s p ≡ n → T (accepts (identifierAt s p) n) → endAt p n ≤ length s → findFrom s (At p) ≡ Whole p n
+unfolding findFrom
+found-at s p n e t h =
+    rw (e, le-ltb (length s) (p + headBytes) (omega arith), T→true (accepts (identifierAt s p) n) t, le-ltb (length s) (endAt p n) h) refl
+
+-- a whole packet for the address a says what its identifier, its sum and its content say
+pub heard-at : (a s : List ℕ) (p n : ℕ) → addressAt s p ≡ a → hearAt a s (Whole p n) ≡ hearAs (identifierAt s p) (rightAt s p n) (contentAt s p n)
+unfolding hearAt
+heard-at a s p n e = rw (e, same-refl a) refl

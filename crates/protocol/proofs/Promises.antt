@@ -1,0 +1,4 @@
+pub mod ReadBack
+pub mod ZeroUsed
+pub mod StaysLegal
+pub mod Refused
