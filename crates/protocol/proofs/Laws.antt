@@ -7,3 +7,4 @@ pub mod Finder
 pub mod Commands
 pub mod Answers
 pub mod Legal
+pub mod Locked

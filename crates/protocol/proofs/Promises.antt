@@ -2,3 +2,8 @@ pub mod ReadBack
 pub mod ZeroUsed
 pub mod StaysLegal
 pub mod Refused
+pub mod Examples
+pub mod Lock
+pub mod Opens
+pub mod Met
+pub mod ValidCount

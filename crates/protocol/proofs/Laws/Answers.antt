@@ -4,14 +4,14 @@ use mathlib.Core.Path.{_≡_, refl, sym, ap, _∙_, subst}
 use mathlib.Core.List.{List, [], _∷_}
 use Prim.Native.Nat.{ℕ, zero, suc, _-_}
 use lib.Dec.{T}
-use Rattle.protocol.specs.Numbers.{badPacket, transferFailed, unknownCommand, passwordFirst}
+use Rattle.protocol.specs.Numbers.{badRoom, badPacket, transferFailed, unknownCommand, passwordFirst}
 use Rattle.protocol.specs.Tests.{verdict}
 use Rattle.protocol.specs.Reader.{Transfer, closed, opened, unfit, Reader, locked}
 use Rattle.protocol.specs.Commands.{Free, Barred, Command, free, barred, Order, damaged, unknown, misfit, command}
 use Rattle.protocol.specs.Table.{Row, rule, freeRule, publicOf}
 use Rattle.protocol.specs.Step.{Heard, nothing, order, piece, hear, Said, silence, says, carryAs, carry, carryFree, obey, heed, ended, rested, fits, takeAs, takeIn, answer, stepOf}
 use Rattle.protocol.specs.Call.{Shape, fitLengths, fitRoom, sound, legal, Ended, refusalOf, refused, carried, callAs, callOf}
-use Rattle.protocol.proofs.Laws.Logic.{and-l, and-r, and-i, passed, verdict-passed, passed-verdict}
+use Rattle.protocol.proofs.Laws.Logic.{T→true, and-l, and-r, and-i, passed, verdict-passed, passed-verdict}
 use Rattle.protocol.proofs.Laws.Commands.{tests-numbered}
 
 -- what is shown of each kind of answer that the reader r can give to what it heard
@@ -87,3 +87,8 @@ module _ (σ : Shape) (r : Reader) (s room : List ℕ) where
       let a : T (fitLengths σ (r .guarded)) = search (and-l) in
       let c : T (sound r) = search (and-r) in
       ap (callAs r s room) (passed-verdict ((fitLengths σ (r .guarded), 1) ∷ (fitRoom room, 2) ∷ (sound r, 3) ∷ []) (search (and-i)))
+
+  -- and with a short one, refusal 2
+  pub call-short : T (legal σ r) → fitRoom room ≡ false → callOf σ r s room ≡ refused badRoom r room
+  unfolding callOf callAs refusalOf legal verdict
+  call-short t u = rw (T→true (fitLengths σ (r .guarded)) (search (and-l)), u) refl
