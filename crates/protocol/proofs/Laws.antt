@@ -8,3 +8,4 @@ pub mod Commands
 pub mod Answers
 pub mod Legal
 pub mod Locked
+pub mod Sizes

@@ -7,3 +7,6 @@ pub mod Lock
 pub mod Opens
 pub mod Met
 pub mod ValidCount
+pub mod ReplyFits
+pub mod Download
+pub mod Upload

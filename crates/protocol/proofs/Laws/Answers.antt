@@ -6,13 +6,33 @@ use Prim.Native.Nat.{ℕ, zero, suc, _-_}
 use lib.Dec.{T}
 use Rattle.protocol.specs.Numbers.{badRoom, badPacket, transferFailed, unknownCommand, passwordFirst}
 use Rattle.protocol.specs.Tests.{verdict}
-use Rattle.protocol.specs.Reader.{Transfer, closed, opened, unfit, Reader, locked}
+use Rattle.protocol.specs.Finder.{findOf, usedOf}
+use Rattle.protocol.specs.Reader.{Transfer, closed, opened, unfit, Reader, keyed, locked, withTransfer, withBuffer}
 use Rattle.protocol.specs.Commands.{Free, Barred, Command, free, barred, Order, damaged, unknown, misfit, command}
 use Rattle.protocol.specs.Table.{Row, rule, freeRule, publicOf}
 use Rattle.protocol.specs.Step.{Heard, nothing, order, piece, hear, Said, silence, says, carryAs, carry, carryFree, obey, heed, ended, rested, fits, takeAs, takeIn, answer, stepOf}
 use Rattle.protocol.specs.Call.{Shape, fitLengths, fitRoom, sound, legal, Ended, refusalOf, refused, carried, callAs, callOf}
 use Rattle.protocol.proofs.Laws.Logic.{T→true, and-l, and-r, and-i, passed, verdict-passed, passed-verdict}
 use Rattle.protocol.proofs.Laws.Commands.{tests-numbered}
+
+-- ---- a reader whose transfer is ended keeps its library, its address and its lock
+
+pub record Spared (r t : Reader) : Type 0 where
+  pub index : t .guarded .index ≡ r .guarded .index
+  pub templates : t .guarded .templates ≡ r .guarded .templates
+  pub address : t .plain .address ≡ r .plain .address
+  pub lock : locked (t .plain) ≡ locked (r .plain)
+
+pub spared : (r : Reader) → Spared r (rested r)
+unfolding rested ended withTransfer withBuffer locked keyed
+spared r = go (r .plain .transfer)
+  where
+    go : (t : Transfer) → Spared r (ended r t)
+    go closed = record { index = refl; templates = refl; address = refl; lock = refl }
+    go (opened w got) = record { index = refl; templates = refl; address = refl; lock = refl }
+    go (unfit b k) = record { index = refl; templates = refl; address = refl; lock = refl }
+
+-- ---- an answer, by its kind
 
 -- what is shown of each kind of answer that the reader r can give to what it heard
 pub record Kinds (P : Said → Type 0) (r : Reader) (h : Heard) : Type 0 where
@@ -92,3 +112,12 @@ module _ (σ : Shape) (r : Reader) (s room : List ℕ) where
   pub call-short : T (legal σ r) → fitRoom room ≡ false → callOf σ r s room ≡ refused badRoom r room
   unfolding callOf callAs refusalOf legal verdict
   call-short t u = rw (T→true (fitLengths σ (r .guarded)) (search (and-l)), u) refl
+
+  -- a command of a reader that is not locked, its tests passed, is carried out
+  pub obeyed : T (legal σ r) → T (fitRoom room) → locked (r .plain) ≡ false → (c : Barred) → hear (r .plain .address) s ≡ order (command (barred c))
+      → T (passed (rule (rested r) c .tests))
+      → callOf σ r s room
+      ≡ carried record { used = usedOf (findOf s); reply = carryAs (rested r) (rule (rested r) c) zero .reply; after = carryAs (rested r) (rule (rested r) c) zero .after } room
+  unfolding stepOf answer heed obey carry
+  obeyed t u l c h p =
+      rw (call-legal t u, h, spared r .lock ∙ l, passed-verdict (rule (rested r) c .tests) p) refl

@@ -1,4 +1,4 @@
--- The finder: what a start is, what the limits of a packet are, and when a whole packet is found and heard.
+-- Packets and the finder: a packet's length and limits, what a start is, and when a whole packet is found and heard.
 use mathlib.Core.Bool.{Bool, true, false, true≢false, _&&_, cond}
 use mathlib.Core.Path.{_≡_, refl, sym, ap, _∙_}
 use mathlib.Core.List.{List, [], _∷_}
@@ -8,20 +8,24 @@ use native.Mathlib.Omega.{arith}
 use native.Mathlib.Decide.{decLt}
 use lib.Dec.{T, eqb, leb, leb→le, le→leb, lit<}
 use borrow.Author.Tests.{le-ltb}
-use lib.ListN.{length, List·getD-eq-default}
+use lib.ListN.{length, length-append, List·getD-eq-default}
 use Rattle.protocol.specs.declared.Start.{Start}
 use Rattle.protocol.specs.declared.Start.the-variants.{Nowhere, At}
 use Rattle.protocol.specs.declared.Found.{Found}
 use Rattle.protocol.specs.declared.Found.the-variants.{Noise, Unfinished, Unfit, Whole}
-use Rattle.protocol.specs.Numbers.{firstMark, secondMark, headBytes, shortest, longest}
-use Rattle.protocol.specs.Bytes.{byteAt, same}
-use Rattle.protocol.specs.Packet.{isIdentifier, limit, accepts, addressAt, identifierAt, lengthAt, contentAt, endAt, rightAt}
+use Rattle.protocol.specs.Numbers.{firstMark, secondMark, headBytes, frameBytes, wordBytes, shortest, longest}
+use Rattle.protocol.specs.Bytes.{two, byteAt, same}
+use Rattle.protocol.specs.Packet.{packet, isIdentifier, limit, accepts, addressAt, identifierAt, lengthAt, contentAt, endAt, rightAt}
 use Rattle.protocol.specs.Finder.{marksAt, later, startOf, findFrom}
 use Rattle.protocol.specs.Step.{hearAs, hearAt}
 use Rattle.protocol.proofs.Laws.Logic.{T→true, and-l, and-r, and-i, and-false}
 use Rattle.protocol.proofs.Laws.Lists.{same-refl}
 
--- ---- the limits of a packet: no other proof opens `accepts`
+-- ---- the length of a packet, and its limits: no other proof opens `accepts`
+
+pub length-packet : (a : List ℕ) (i : ℕ) (c : List ℕ) → length a ≡ wordBytes → length (packet a i c) ≡ length c + frameBytes
+unfolding packet two
+length-packet a i c h = simp length-append (omega arith)
 
 pub accepts-least : (i n : ℕ) → T (accepts i n) → shortest ≤ n
 unfolding accepts

@@ -18,11 +18,7 @@ use Rattle.protocol.specs.Packet.{lengthOf, sumOf, packet, isIdentifier,
 use Rattle.protocol.specs.Finder.{marksAt, startOf, findFrom, findOf, usedOf}
 use Rattle.protocol.proofs.Laws.Logic.{T→true, eqb-same, passed, verdict-passed, passed-verdict, and-l, and-r, and-i}
 use Rattle.protocol.proofs.Laws.Lists.{by-four, two-bytes, take-lay}
-use Rattle.protocol.proofs.Laws.Finder.{accepts-most, accepts-of, longest-word, found-at}
-
-pub length-packet : (a : List ℕ) (i : ℕ) (c : List ℕ) → length a ≡ wordBytes → length (packet a i c) ≡ length c + frameBytes
-unfolding packet two
-length-packet a i c h = simp length-append (omega arith)
+use Rattle.protocol.proofs.Laws.Finder.{length-packet, accepts-most, accepts-of, longest-word, found-at}
 
 -- the run s starts with the packet of this address, identifier and content, and its sum is right
 pub record ReadsAs (s a : List ℕ) (i : ℕ) (c : List ℕ) : Type 0 where

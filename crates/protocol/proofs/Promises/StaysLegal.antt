@@ -125,6 +125,14 @@ module _ (σ : Shape) (ok : σ .most ≤ 8 * σ .indexed) where
 
   -- ---- an answer
 
+  -- a command carried out
+  pub row-good : (r : Reader) → Good σ ok r → (c : Barred) → Long c → locked (rested r .plain) ≡ false → T (passed (rule (rested r) c .tests))
+      → Good σ ok (apply (rule (rested r) c .effect) (rested r))
+  row-good r k c l u t =
+      let q : Good σ ok (rested r) = good-rested r k in
+      let z : rested r .plain .transfer ≡ closed = rested-closed r k in
+      effect-good σ ok (rule (rested r) c .effect) (rested r) (row-proper (rested r) z q u c l t) z q
+
   answer-good : (r : Reader) → Good σ ok r → (h : Heard) → LongHeard h → Good σ ok (answer r h .after)
   unfolding silence says carryAs
   answer-good r k h l =
@@ -139,7 +147,7 @@ module _ (σ : Shape) (ok : σ .most ≤ 8 * σ .indexed) where
             λ w last right got content e e′ f.
             taken-good r k w got content (moving (r .plain) (r .guarded) w got (subst (λ (t : Transfer). T (fitTransfer (r .plain) (r .guarded) t)) e (k .transfer))) last
             (fitting (r .plain) got last right content f);
-        does = λ c e u t. effect-good σ ok (rule (rested r) c .effect) (rested r) (row-proper (rested r) z q u c (subst LongHeard e l) t) z q;
+        does = λ c e u t. row-good r k c (subst LongHeard e l) u t;
       }
 
   -- ---- calls and line switches

@@ -27,7 +27,7 @@ use Rattle.protocol.proofs.Laws.Logic.{T→true, and-l, and-r, passed, 
 use Rattle.protocol.proofs.Laws.Lists.{same-refl, same-eq, same-front, take-lay}
 use Rattle.protocol.proofs.Laws.Index.{Fine, stored-with, stored-span, stored-zeros, fine-with, fine-span, fine-zeros}
 use Rattle.protocol.proofs.Laws.Count.{count-ext}
-use Rattle.protocol.proofs.Laws.Answers.{Kinds, answer-kinds, call-kinds, call-legal}
+use Rattle.protocol.proofs.Laws.Answers.{Spared, spared, Kinds, answer-kinds, call-kinds, obeyed}
 use Rattle.protocol.proofs.Laws.Legal.{Good, shelf}
 use Rattle.protocol.proofs.Promises.StaysLegal.{Legal, ever-legal}
 
@@ -35,23 +35,6 @@ use Rattle.protocol.proofs.Promises.StaysLegal.{Legal, ever-legal}
 pub record Tells (m : ℕ) (x : List ℕ) (acts : List Act) : Type 0 where
   pub fine : Fine m x
   pub pages : (q : ℕ) → stored x q ≡ live acts q
-
--- ---- a reader whose transfer is ended keeps its library, its address and its lock
-
-record Spared (r t : Reader) : Type 0 where
-  index : t .guarded .index ≡ r .guarded .index
-  templates : t .guarded .templates ≡ r .guarded .templates
-  address : t .plain .address ≡ r .plain .address
-  lock : locked (t .plain) ≡ locked (r .plain)
-
-spared : (r : Reader) → Spared r (rested r)
-unfolding rested ended withTransfer withBuffer locked keyed
-spared r = go (r .plain .transfer)
-  where
-    go : (t : Transfer) → Spared r (ended r t)
-    go closed = record { index = refl; templates = refl; address = refl; lock = refl }
-    go (opened w got) = record { index = refl; templates = refl; address = refl; lock = refl }
-    go (unfit b k) = record { index = refl; templates = refl; address = refl; lock = refl }
 
 -- ---- what is no bare 00h grants nothing
 
@@ -225,10 +208,8 @@ module _ (σ : Shape) (ok : σ .most ≤ 8 * σ .indexed) where
   -- TempleteNum answers the set bits
   number-told : (r : Reader) (s room : List ℕ) → T (legal σ r) → T (fitRoom room) → locked (r .plain) ≡ false → hear (r .plain .address) s ≡ order (command (barred templeteNum))
       → replyOf (callOf σ r s room .told) ≡ acknowledge (r .plain .address) done (two (setBits (r .guarded .index)))
-  unfolding carried stepOf replyOf answer heed obey carry carryAs verdict rule apply follow
-  number-told r s room t u l h =
-      let w : locked (rested r .plain) ≡ false = spared r .lock ∙ l in
-      rw (call-legal σ r s room t u, take-lay, h, w, spared r .address, spared r .index) refl
+  unfolding carried replyOf carryAs rule apply follow
+  number-told r s room t u l h = rw (obeyed σ r s room t u l templeteNum h tt, take-lay, spared r .address, spared r .index) refl
 
   -- and so, at any time, the pages stored and not deleted since
   pub count-told : (r : Reader) → Legal σ ok r → r .guarded .index ≡ zeros (σ .indexed) → (es : List Event) (s room : List ℕ) → T (fitRoom room)

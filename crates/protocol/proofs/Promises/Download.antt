@@ -1,0 +1,170 @@
+-- A download: data packets of a template, sent one to a call, give the buffer those bytes, whatever the size. Proved once over the size.
+use mathlib.Core.Bool.{Bool, true, false, _&&_, cond}
+use mathlib.Core.Path.{_≡_, refl, sym, ap, ap₂, _∙_, subst}
+use mathlib.Core.List.{List, [], _∷_, _++_, append-assoc}
+use Prim.Native.Nat.{ℕ, zero, suc, _+_, _-_, _*_, _/_, _≤_, _<_}
+use native.Mathlib.Omega.{arith}
+use lib.Dec.{T, eqb, ltb, eqb·suc-zero}
+use borrow.Author.Tests.{lt-ltb, eq-eqb}
+use lib.ListN.{length, take, drop, length-drop, take-append-drop}
+use lib.Seq.{take-all, length-take-le}
+use Rattle.protocol.specs.Numbers.{pageBytes, wordBytes, commandPacket, acknowledgePacket, dataPacket, lastPacket}
+use Rattle.protocol.specs.Bytes.{lay}
+use Rattle.protocol.specs.Packet.{packet, lengthOf, accepts, identifierAt, rightAt, contentAt}
+use Rattle.protocol.specs.Finder.{findOf}
+use Rattle.protocol.specs.Reader.{Transfer, closed, opened, Plain, Buffer, Guarded, Reader, sizeOf, bufferOf, filledWith, emptied, locked, withTransfer, withBuffer, contents, reader}
+use Rattle.protocol.specs.Commands.{barred, downChar, command}
+use Rattle.protocol.specs.Data.{packets}
+use Rattle.protocol.specs.Table.{await, apply, isBuffer, second, rule}
+use Rattle.protocol.specs.Step.{Heard, order, piece, hearAs, hearAt, hear, Said, silence, carryAs, carry, obey, heed, ended, rested, fits, takeAs, takeIn, answer, stepOf}
+use Rattle.protocol.specs.Call.{Shape, fitRoom, fitTransfer, carried, callOf, Ended}
+use Rattle.protocol.specs.Dialogue.{Event, received, on, finally}
+use Rattle.protocol.proofs.Laws.Logic.{and-i, eqb-same}
+use Rattle.protocol.proofs.Laws.Lists.{length-lay, head-lay, last-lay}
+use Rattle.protocol.proofs.Laws.Finder.{heard-at}
+use Rattle.protocol.proofs.Laws.Answers.{call-legal, obeyed}
+use Rattle.protocol.proofs.Laws.Legal.{buffer-same, buffer-long, Good, Moving, moving}
+use Rattle.protocol.proofs.Laws.Sizes.{Size, sizes}
+use Rattle.protocol.proofs.Promises.ReadBack.{ReadsAs, packet-reads}
+use Rattle.protocol.proofs.Promises.ReplyFits.{size-of}
+use Rattle.protocol.proofs.Promises.StaysLegal.{Legal, good, stays-legal}
+
+-- what a packet for the address a says to its reader
+heard-packet : (a : List ℕ) (i : ℕ) (c : List ℕ) → length a ≡ wordBytes → T (accepts i (lengthOf c)) → hear a (packet a i c) ≡ hearAs i true c
+unfolding hear
+heard-packet a i c h t =
+    let s : List ℕ = packet a i c in
+    let b : ReadsAs s a i c = packet-reads a i c h t in
+    ap (hearAt a s) (b .found) ∙ heard-at a s 0 (lengthOf c) (b .address) ∙ rw (b .right, b .identifier, b .content) refl
+
+buffer-twice : (w : Bool) (a b : Buffer) (g : Guarded) → withBuffer w b (withBuffer w a g) ≡ withBuffer w b g
+unfolding withBuffer
+buffer-twice true a b g = refl
+buffer-twice false a b g = refl
+
+abbrev unfilled : List ℕ → Buffer
+unfilled b = record { bytes = b; filled = false }
+
+-- packets sent one to a call, each with a reply room of its own
+unfoldable pub deliver : (ℕ → List ℕ) → List (List ℕ) → List Event
+deliver room [] = []
+deliver room (p ∷ ps) = received p (room (length ps)) ∷ deliver room ps
+
+module _ (p : Plain) (g : Guarded) (w : Bool) (h : length (p .address) ≡ wordBytes) where
+  -- a transfer with the bytes got so far, and one that is through
+  abbrev under : ℕ → List ℕ → Reader
+  under got b = reader (withTransfer (opened w got) p) (withBuffer w (unfilled b) g)
+
+  abbrev through : List ℕ → Reader
+  through b = reader (withTransfer closed p) (withBuffer w (filledWith b) g)
+
+  -- ---- one data packet
+
+  module _ (c : List ℕ) (one : length c ≡ sizeOf (p .size)) (got : ℕ) (b : List ℕ) where
+    laid : Bool → Buffer
+    laid f = record { bytes = lay got c (bufferOf w (withBuffer w (unfilled b) g) .bytes); filled = f }
+
+    again : (f : Bool) → withBuffer w (laid f) (withBuffer w (unfilled b) g) ≡ withBuffer w record { bytes = lay got c b; filled = f } g
+    unfolding laid
+    again f =
+        buffer-twice w (unfilled b) (laid f) g
+        ∙ ap (λ (x : Buffer). withBuffer w record { bytes = lay got c (x .bytes); filled = f } g) (buffer-same w (unfilled b) g)
+
+    more : T (accepts dataPacket (sizeOf (p .size) + 2)) → got + sizeOf (p .size) < pageBytes
+        → stepOf (under got b) (packet (p .address) dataPacket c) .after ≡ under (got + sizeOf (p .size)) (lay got c b)
+    unfolding stepOf answer hearAs takeIn takeAs silence fits withTransfer laid
+    more t l =
+        let mark : bufferOf w (withBuffer w (unfilled b) g) .filled ≡ false = ap (λ (x : Buffer). x .filled) (buffer-same w (unfilled b) g) in
+        rw (heard-packet (p .address) dataPacket c h (rw one t), one, eqb-same (sizeOf (p .size)), lt-ltb (got + sizeOf (p .size)) pageBytes l)
+        (ap (λ (f : Bool). reader (withTransfer (opened w (got + sizeOf (p .size))) p) (withBuffer w (laid f) (withBuffer w (unfilled b) g))) mark
+        ∙ ap (reader (withTransfer (opened w (got + sizeOf (p .size))) p)) (again false))
+
+    last : T (accepts lastPacket (sizeOf (p .size) + 2)) → got + sizeOf (p .size) ≡ pageBytes
+        → stepOf (under got b) (packet (p .address) lastPacket c) .after ≡ through (lay got c b)
+    unfolding stepOf answer hearAs takeIn takeAs silence fits filledWith withTransfer laid
+    last t l =
+        rw (heard-packet (p .address) lastPacket c h (rw one t), one, eqb-same (sizeOf (p .size)), l) (ap (reader (withTransfer closed p)) (again true))
+
+  -- ---- k + 1 packets to come
+
+  module _ (σ : Shape) (ok : σ .most ≤ 8 * σ .indexed) (z : Size (sizeOf (p .size))) (room : ℕ → List ℕ) (f : (n : ℕ) → T (fitRoom (room n))) where
+    abbrev n : ℕ
+    n = sizeOf (p .size)
+
+    call : (r : Reader) → Legal σ ok r → (s : List ℕ) (k : ℕ) → callOf σ r s (room k) .after ≡ stepOf r s .after
+    unfolding carried
+    call r l s k = ap (λ (e : Ended). e .after) (call-legal σ r s (room k) (l .legal) (f k))
+
+    legally : (r t : Reader) → Legal σ ok r → (s : List ℕ) (k : ℕ) → callOf σ r s (room k) .after ≡ t → Legal σ ok t
+    unfolding on
+    legally r t l s k e = subst (Legal σ ok) e (stays-legal σ ok r l (received s (room k)))
+
+    feeding : (k got : ℕ) (s b : List ℕ) → got + suc k * n ≡ pageBytes → length s ≡ suc k * n → length b ≡ pageBytes → Legal σ ok (under got b)
+        → finally σ (under got b) (deliver room (packets (p .address) (suc k) n s)) ≡ through (take got b ++ s)
+    unfolding finally on deliver packets
+    feeding zero got s b e m x l =
+        let all : take n s ≡ s = take-all n s (omega arith) in
+        call (under got b) l (packet (p .address) lastPacket (take n s)) 0
+        ∙ ap (λ (c : List ℕ). stepOf (under got b) (packet (p .address) lastPacket c) .after) all
+        ∙ last s (omega arith) got b (z .ends) (omega arith)
+        ∙ ap through (last-lay got s b (omega arith))
+    feeding (suc k) got s b e m x l =
+        let c : List ℕ = take n s in
+        let ps : List (List ℕ) = packets (p .address) (suc k) n (drop n s) in
+        let one : length c ≡ n = length-take-le n s (omega arith) in
+        let fit : got + length c ≤ length b = omega arith in
+        let two : cond {A = ℕ} (eqb (suc k) 0) lastPacket dataPacket ≡ dataPacket = ap (λ (t : Bool). cond t lastPacket dataPacket) (eqb·suc-zero k) in
+        let next : callOf σ (under got b) (packet (p .address) dataPacket c) (room (length ps)) .after ≡ under (got + n) (lay got c b) =
+        call (under got b) l (packet (p .address) dataPacket c) (length ps) ∙ more c one got b (z .carries) (omega arith)
+        in
+        let ahead : take (got + n) (lay got c b) ≡ take got b ++ c = ap (λ (m : ℕ). take (got + m) (lay got c b)) (sym one) ∙ head-lay got c b fit in
+        ap (λ (i : ℕ). finally σ (callOf σ (under got b) (packet (p .address) i c) (room (length ps)) .after) (deliver room ps)) two
+        ∙ ap (λ (r : Reader). finally σ r (deliver room ps)) next
+        ∙ feeding k (got + n) (drop n s) (lay got c b) (omega arith) (length-drop n s ∙ omega arith) (length-lay got c b fit ∙ x)
+        (legally (under got b) (under (got + n) (lay got c b)) l (packet (p .address) dataPacket c) (length ps) next)
+        ∙ ap through (ap (λ (t : List ℕ). t ++ drop n s) ahead ∙ append-assoc (take got b) c (drop n s) ∙ ap (λ (t : List ℕ). take got b ++ t) (take-append-drop n s))
+
+-- ---- from an open transfer, and from DownChar
+
+transfer-own : (p : Plain) (t : Transfer) → p .transfer ≡ t → withTransfer t p ≡ p
+unfolding withTransfer
+transfer-own p t e = rw (← e) refl
+
+buffer-own : (w : Bool) (g : Guarded) → bufferOf w g .filled ≡ false → withBuffer w (unfilled (bufferOf w g .bytes)) g ≡ g
+unfolding bufferOf withBuffer
+buffer-own true g e = ap (λ (f : Bool). contents (g .templates) (g .index) (g .notepad) (g .buffer1) record { bytes = g .buffer2 .bytes; filled = f }) (sym e)
+buffer-own false g e = ap (λ (f : Bool). contents (g .templates) (g .index) (g .notepad) record { bytes = g .buffer1 .bytes; filled = f } (g .buffer2)) (sym e)
+
+module _ (σ : Shape) (ok : σ .most ≤ 8 * σ .indexed) (room : ℕ → List ℕ) (f : (n : ℕ) → T (fitRoom (room n))) where
+  -- the data packets of s in the size in force, to the reader r
+  abbrev pub template : Reader → List ℕ → List Event
+  template r s = deliver room (packets (r .plain .address) (pageBytes / sizeOf (r .plain .size)) (sizeOf (r .plain .size)) s)
+
+  pub downloaded : (r : Reader) → Legal σ ok r → (w : Bool) → r .plain .transfer ≡ opened w 0 → (s : List ℕ) → length s ≡ pageBytes
+      → finally σ r (template r s) ≡ reader (withTransfer closed (r .plain)) (withBuffer w (filledWith s) (r .guarded))
+  downloaded r l w e s m =
+      let p : Plain = r .plain in
+      let g : Guarded = r .guarded in
+      let k : Good σ ok r = good σ ok r l in
+      let z : Size (sizeOf (p .size)) = size-of σ ok r k in
+      let b : List ℕ = bufferOf w g .bytes in
+      let moves : Moving p g w 0 = moving p g w 0 (subst (λ (t : Transfer). T (fitTransfer p g t)) e (k .transfer)) in
+      let own : reader (withTransfer (opened w 0) p) (withBuffer w (unfilled b) g) ≡ r = ap₂ reader (transfer-own p (opened w 0) e) (buffer-own w g (moves .unfilled)) in
+      ap (λ (x : Reader). finally σ x (template r s)) (sym own)
+      ∙ ap (λ (n : ℕ). finally σ (reader (withTransfer (opened w 0) p) (withBuffer w (unfilled b) g)) (deliver room (packets (p .address) n (sizeOf (p .size)) s))) (z .count)
+      ∙ feeding p g w (k .typed .address) σ ok z room f (z .more) 0 s b (omega (arith, z .whole)) (m ∙ sym (z .whole)) (buffer-long w g (k .buffers)) (subst (Legal σ ok) (sym own) l)
+
+  -- DownChar of a buffer that there is, and then the data packets: the buffer has the template and its mark, no transfer is open, and
+  -- all else is as the order left it
+  pub download : (r : Reader) → Legal σ ok r → locked (r .plain) ≡ false → (b : ℕ) → T (isBuffer b) → (d lent : List ℕ) → T (fitRoom lent)
+      → hear (r .plain .address) d ≡ order (command (barred (downChar b))) → (s : List ℕ) → length s ≡ pageBytes
+      → finally σ (callOf σ r d lent .after) (template (callOf σ r d lent .after) s)
+      ≡ reader (withTransfer closed (rested r .plain)) (withBuffer (second b) (filledWith s) (rested r .guarded))
+  unfolding on carried carryAs rule apply withTransfer
+  download r l u b i d lent v h s m =
+      let w : Bool = second b in
+      let t : Reader = apply (await w) (rested r) in
+      let e : callOf σ r d lent .after ≡ t = ap (λ (x : Ended). x .after) (obeyed σ r d lent (l .legal) v u (downChar b) h (and-i (isBuffer b) true i tt)) in
+      rw e
+      (downloaded t (subst (Legal σ ok) e (stays-legal σ ok r l (received d lent))) w refl s m
+      ∙ ap (reader (withTransfer closed (rested r .plain))) (buffer-twice w emptied (filledWith s) (rested r .guarded)))

@@ -1,0 +1,100 @@
+-- The reply never exceeds 700 bytes, so the room that document 01 asks for is enough.
+use mathlib.Core.Bool.{Bool, true, false, _&&_, cond}
+use mathlib.Core.Path.{_≡_, refl, sym, ap, _∙_, subst}
+use mathlib.Core.List.{List, [], _∷_, _++_}
+use Prim.Native.Nat.{ℕ, zero, suc, _+_, _-_, _*_, _≤_}
+use native.Mathlib.Omega.{arith}
+use lib.Dec.{T, leb, leb→le}
+use lib.ListN.{length, length-append, length-take, length-drop}
+use Rattle.protocol.specs.Numbers.{pageBytes, wordBytes, noteBytes, indexBytes, replyRoom, highestSize, done}
+use Rattle.protocol.specs.Bytes.{two, follow, joined}
+use Rattle.protocol.specs.Tests.{within}
+use Rattle.protocol.specs.Reader.{Transfer, closed, Plain, Guarded, Reader, sizeOf, locked, bufferOf, withMark}
+use Rattle.protocol.specs.Commands.{Free, verifyPassword, handShake, Barred, store, loadChar, upChar, downChar, deletChar, empty, setSysPara, readSysPara, setPassword, setAddress, writeNotepad, readNotepad, templeteNum, readIndexTable, Command, free, barred, Order, command}
+use Rattle.protocol.specs.Data.{acknowledge, dataPackets}
+use Rattle.protocol.specs.Table.{Row, rule, apply, second, Public, freeRule, publicOf}
+use Rattle.protocol.specs.Step.{Heard, order, piece, hear, Said, silence, says, carryAs, carryFree, rested, takeAs, answer, stepOf}
+use Rattle.protocol.specs.Call.{Shape, fitPlain, Told, Ended, refused, carried, callOf}
+use Rattle.protocol.proofs.Laws.Logic.{and-l, and-r, passed}
+use Rattle.protocol.proofs.Laws.Lists.{follow-append}
+use Rattle.protocol.proofs.Laws.Commands.{Long, LongHeard, long-heard}
+use Rattle.protocol.proofs.Laws.Answers.{Kinds, answer-kinds, call-kinds}
+use Rattle.protocol.proofs.Laws.Legal.{buffer-long, Good}
+use Rattle.protocol.proofs.Laws.Sizes.{Size, sizes, length-data}
+use Rattle.protocol.proofs.Laws.Finder.{length-packet}
+use Rattle.protocol.proofs.Promises.StaysLegal.{Legal, good, good-rested, row-good}
+
+length-acknowledge : (a : List ℕ) (code : ℕ) (b : List ℕ) → length a ≡ wordBytes → length (acknowledge a code b) ≡ length b + 12
+unfolding acknowledge
+length-acknowledge a code b h = length-packet a _ (code ∷ b) h ∙ omega arith
+
+-- a row's bytes, and what goes behind the acknowledge
+Fits : Row → Type 0
+Fits w = length (w .bytes) + (12 + length (w .behind)) ≤ replyRoom
+
+row-fits : (r : Reader) → length (r .plain .address) ≡ wordBytes → Size (sizeOf (r .plain .size)) → ((w : Bool) → length (bufferOf w (r .guarded) .bytes) ≡ pageBytes)
+    → (c : Barred) → Fits (rule r c)
+unfolding Fits rule two joined
+row-fits r a z b (store n p) = omega arith
+row-fits r a z b (loadChar n p) = omega arith
+row-fits r a z b (upChar n) = omega (arith, length-data (r .plain .address) (sizeOf (r .plain .size)) (bufferOf (second n) (r .guarded) .bytes) z a (b (second n)))
+row-fits r a z b (downChar n) = omega arith
+row-fits r a z b (deletChar p n) = omega arith
+row-fits r a z b empty = omega arith
+row-fits r a z b (setSysPara k v) = omega arith
+row-fits r a z b readSysPara = simp length-append (omega arith)
+row-fits r a z b (setPassword w) = omega arith
+row-fits r a z b (setAddress w) = omega arith
+row-fits r a z b (writeNotepad p n) = omega arith
+row-fits r a z b (readNotepad p) = simp length-take (omega arith)
+row-fits r a z b templeteNum = omega arith
+row-fits r a z b (readIndexTable p) = simp length-take (omega arith)
+
+free-fits : (v : Public) → length (v .plain .address) ≡ wordBytes → (c : Free) → length (acknowledge (freeRule v c .plain .address) (freeRule v c .code) (freeRule v c .bytes)) ≤ replyRoom
+unfolding freeRule withMark
+free-fits v a (verifyPassword w) = omega (arith, length-acknowledge (v .plain .address) (freeRule v (verifyPassword w) .code) [] a)
+free-fits v a handShake = omega (arith, length-acknowledge (v .plain .address) done [] a)
+
+fit-size : (p : Plain) → T (fitPlain p) → T (leb (p .size) highestSize)
+unfolding fitPlain
+fit-size p t = search (and-l, and-r)
+
+module _ (σ : Shape) (ok : σ .most ≤ 8 * σ .indexed) where
+  pub size-of : (r : Reader) → Good σ ok r → Size (sizeOf (r .plain .size))
+  size-of r k = sizes (r .plain .size) (leb→le (r .plain .size) highestSize (fit-size (r .plain) (k .settings)))
+
+  done-fits : (r : Reader) → Good σ ok r → (c : Barred) → Long c → locked (rested r .plain) ≡ false → T (passed (rule (rested r) c .tests))
+      → length (carryAs (rested r) (rule (rested r) c) zero .reply) ≤ replyRoom
+  unfolding carryAs Fits
+  done-fits r k c l u t =
+      let q : Good σ ok (rested r) = good-rested σ ok r k in
+      let w : Row = rule (rested r) c in
+      let a : List ℕ = apply (w .effect) (rested r) .plain .address in
+      let room : Fits w = row-fits (rested r) (q .typed .address) (size-of (rested r) q) (λ b. buffer-long b (rested r .guarded) (q .buffers)) c in
+      rw (follow-append (acknowledge a done (w .bytes)) (w .behind), length-append (acknowledge a done (w .bytes)) (w .behind))
+      (omega (arith, length-acknowledge a done (w .bytes) (row-good σ ok r k c l u t .typed .address)))
+
+  taken-silent : (r : Reader) (w last : Bool) (got : ℕ) (content : List ℕ) → takeAs r w got content true last .reply ≡ []
+  unfolding takeAs silence
+  taken-silent r w true got content = refl
+  taken-silent r w false got content = refl
+
+  answer-fits : (r : Reader) → Good σ ok r → (h : Heard) → LongHeard h → length (answer r h .reply) ≤ replyRoom
+  unfolding silence says carryFree publicOf
+  answer-fits r k h l =
+      let q : Good σ ok (rested r) = good-rested σ ok r k in
+      answer-kinds (λ (o : Said). length (o .reply) ≤ replyRoom) r h
+      record {
+        silent = omega arith;
+        refuses = λ n. omega (arith, length-acknowledge (rested r .plain .address) (suc n) [] (q .typed .address));
+        frees = λ c e. free-fits (publicOf (rested r)) (q .typed .address) c;
+        takes = λ w last right got content e e′ f. rw (taken-silent r w last got content) (omega arith);
+        does = λ c e u t. done-fits r k c (subst LongHeard e l) u t;
+      }
+
+  -- of any legal reader's call
+  pub reply-fits : (r : Reader) → Legal σ ok r → (s room : List ℕ) → callOf σ r s room .told .length ≤ replyRoom
+  unfolding refused carried stepOf
+  reply-fits r l s room =
+      call-kinds σ r s room (λ (e : Ended). e .told .length ≤ replyRoom) (λ n. omega arith)
+      (λ t u. answer-fits r (good σ ok r l) (hear (r .plain .address) s) (long-heard (r .plain .address) s))

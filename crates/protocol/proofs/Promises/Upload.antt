@@ -1,0 +1,121 @@
+-- An upload: what follows UpChar's acknowledge are packets that read back, one behind the other, as the template's parts in order; joined
+-- they are the template. Proved once over the size.
+use mathlib.Core.Bool.{Bool, true, false, _&&_, cond}
+use mathlib.Core.Path.{_≡_, refl, sym, ap, ap₂, _∙_, subst}
+use mathlib.Core.List.{List, [], _∷_, _++_, map}
+use Prim.Native.Nat.{ℕ, zero, suc, _+_, _-_, _*_, _/_, _≤_}
+use native.Mathlib.Nat.{suc-mul}
+use native.Mathlib.Omega.{arith}
+use lib.Dec.{T, eqb, eqb·suc-zero}
+use lib.ListN.{length, take, drop, length-drop}
+use lib.Seq.{length-take-le, drop-at}
+use Rattle.protocol.specs.declared.Found.{Found}
+use Rattle.protocol.specs.declared.Found.the-variants.{Noise, Unfinished, Unfit, Whole}
+use Rattle.protocol.specs.Numbers.{pageBytes, wordBytes, frameBytes, dataPacket, lastPacket, done}
+use Rattle.protocol.specs.Bytes.{joined, split}
+use Rattle.protocol.specs.Packet.{packet, lengthOf, accepts, addressAt, identifierAt, contentAt, rightAt, endAt}
+use Rattle.protocol.specs.Finder.{findOf}
+use Rattle.protocol.specs.Reader.{Reader, sizeOf, locked, bufferOf}
+use Rattle.protocol.specs.Commands.{barred, upChar, command}
+use Rattle.protocol.specs.Data.{acknowledge, packets, dataPackets}
+use Rattle.protocol.specs.Table.{isBuffer, second, rule, apply}
+use Rattle.protocol.specs.Step.{order, hear, carryAs, rested}
+use Rattle.protocol.specs.Call.{Shape, fitRoom, replyOf, carried, callOf}
+use Rattle.protocol.proofs.Laws.Logic.{and-i}
+use Rattle.protocol.proofs.Laws.Lists.{follow-append, split-joined, take-lay}
+use Rattle.protocol.proofs.Laws.Finder.{length-packet}
+use Rattle.protocol.proofs.Laws.Answers.{spared, obeyed}
+use Rattle.protocol.proofs.Laws.Legal.{buffer-long, Good}
+use Rattle.protocol.proofs.Laws.Sizes.{Size}
+use Rattle.protocol.proofs.Promises.ReadBack.{ReadsAs, reads-back}
+use Rattle.protocol.proofs.Promises.ReplyFits.{size-of}
+use Rattle.protocol.proofs.Promises.StaysLegal.{Legal, good, good-rested}
+
+-- a packet as it was read
+pub record Read : Type 0 where
+  pub address : List ℕ
+  pub identifier : ℕ
+  pub content : List ℕ
+  pub right : Bool
+
+abbrev pub readAt : List ℕ → ℕ → ℕ → Read
+readAt s p n = record { address = addressAt s p; identifier = identifierAt s p; content = contentAt s p n; right = rightAt s p n }
+
+-- what is found in a run, and then the rest of the run
+unfoldable pub readBy : (List ℕ → List Read) → List ℕ → Found → List Read
+readBy rest s (Noise n) = []
+readBy rest s (Unfinished p) = []
+readBy rest s (Unfit p) = []
+readBy rest s (Whole p n) = readAt s p n ∷ rest (drop (endAt p n) s)
+
+-- the packets that stand in a run one behind the other, k at most
+unfoldable pub readAll : ℕ → List ℕ → List Read
+readAll zero s = []
+readAll (suc k) s = readBy (readAll k) s (findOf s)
+
+-- the parts of s, n bytes each, from the reader of the address a: the last with identifier 8, the others 2, every sum right
+unfoldable pub parts : List ℕ → ℕ → ℕ → List ℕ → List Read
+parts a zero n s = []
+parts a (suc k) n s = record { address = a; identifier = cond (eqb k 0) lastPacket dataPacket; content = take n s; right = true } ∷ parts a k n (drop n s)
+
+pub parts-split : (a : List ℕ) (k n : ℕ) (s : List ℕ) → map (λ (x : Read). x .content) (parts a k n s) ≡ split k n s
+unfolding parts split
+parts-split a zero n s = refl
+parts-split a (suc k) n s = ap (λ (t : List (List ℕ)). take n s ∷ t) (parts-split a k n (drop n s))
+
+-- ---- the data packets read back
+
+module _ (a : List ℕ) (h : length a ≡ wordBytes) (n : ℕ) (carries : T (accepts dataPacket (n + 2))) (ends : T (accepts lastPacket (n + 2))) where
+  either : (k : ℕ) → T (accepts (cond (eqb k 0) lastPacket dataPacket) (n + 2))
+  either zero = ends
+  either (suc k) = rw (eqb·suc-zero k) carries
+
+  read-one : (i : ℕ) (c t : List ℕ) → T (accepts i (lengthOf c)) → (k : ℕ)
+      → readAll (suc k) (packet a i c ++ t) ≡ record { address = a; identifier = i; content = c; right = true } ∷ readAll k t
+  unfolding readAll readBy
+  read-one i c t ok k =
+      let b : ReadsAs (packet a i c ++ t) a i c = reads-back a i c t h ok in
+      let rest : drop (endAt 0 (lengthOf c)) (packet a i c ++ t) ≡ t = drop-at (packet a i c) t (endAt 0 (lengthOf c)) (length-packet a i c h ∙ omega arith) in
+      ap (readBy (readAll k) (packet a i c ++ t)) (b .found)
+      ∙ ap₂ (λ (x : Read) (y : List ℕ). x ∷ readAll k y) (λ j. record { address = b .address j; identifier = b .identifier j; content = b .content j; right = b .right j }) rest
+
+  packets-read : (k : ℕ) (s : List ℕ) → length s ≡ k * n → readAll k (joined (packets a k n s)) ≡ parts a k n s
+  unfolding packets joined parts readAll
+  packets-read zero s e = refl
+  packets-read (suc k) s e =
+      let one : length (take n s) ≡ n = length-take-le n s (omega (arith, suc-mul k n)) in
+      let i : ℕ = cond (eqb k 0) lastPacket dataPacket in
+      read-one i (take n s) (joined (packets a k n (drop n s))) (rw one (either k)) k
+      ∙ ap (λ (t : List Read). record { address = a; identifier = i; content = take n s; right = true } ∷ t)
+      (packets-read k (drop n s) (length-drop n s ∙ omega (arith, suc-mul k n)))
+
+-- ---- UpChar
+
+-- the reply is an acknowledge and these bytes, which read back as the parts of the template s in packets of n bytes; joined they are s
+pub record Uploads (a : List ℕ) (n : ℕ) (s reply : List ℕ) : Type 0 where
+  pub sent : List ℕ
+  pub reads : reply ≡ acknowledge a done [] ++ sent
+  pub back : readAll (pageBytes / n) sent ≡ parts a (pageBytes / n) n s
+  pub whole : joined (map (λ (x : Read). x .content) (readAll (pageBytes / n) sent)) ≡ s
+
+module _ (σ : Shape) (ok : σ .most ≤ 8 * σ .indexed) where
+  pub upload : (r : Reader) → Legal σ ok r → locked (r .plain) ≡ false → (b : ℕ) → T (isBuffer b) → (d room : List ℕ) → T (fitRoom room)
+      → hear (r .plain .address) d ≡ order (command (barred (upChar b))) → T (bufferOf (second b) (rested r .guarded) .filled)
+      → Uploads (rested r .plain .address) (sizeOf (rested r .plain .size)) (bufferOf (second b) (rested r .guarded) .bytes) (replyOf (callOf σ r d room .told))
+  unfolding carried replyOf carryAs rule apply dataPackets
+  upload r l u b i d room v h m =
+      let t : Reader = rested r in
+      let k : Good σ ok t = good-rested σ ok r (good σ ok r l) in
+      let a : List ℕ = t .plain .address in
+      let n : ℕ = sizeOf (t .plain .size) in
+      let z : Size n = size-of σ ok t k in
+      let s : List ℕ = bufferOf (second b) (t .guarded) .bytes in
+      let sent : List ℕ = dataPackets a n s in
+      let long : length s ≡ pageBytes / n * n = buffer-long (second b) (t .guarded) (k .buffers) ∙ sym (z .whole) ∙ ap (λ (q : ℕ). q * n) (sym (z .count)) in
+      let back : readAll (pageBytes / n) sent ≡ parts a (pageBytes / n) n s = packets-read a (k .typed .address) n (z .carries) (z .ends) (pageBytes / n) s long in
+      record {
+        sent = sent;
+        reads = rw (obeyed σ r d room (l .legal) v u (upChar b) h (and-i (isBuffer b) (bufferOf (second b) (t .guarded) .filled && true) i (and-i (bufferOf (second b) (t .guarded) .filled) true m tt)), take-lay) (follow-append (acknowledge a done []) sent);
+        back = back;
+        whole = ap (λ (x : List Read). joined (map (λ (y : Read). y .content) x)) back ∙ ap joined (parts-split a (pageBytes / n) n s) ∙ split-joined (pageBytes / n) n s long;
+      }
