@@ -10,3 +10,6 @@ pub mod ValidCount
 pub mod ReplyFits
 pub mod Download
 pub mod Upload
+pub mod Moves
+pub mod Order
+pub mod OneResult

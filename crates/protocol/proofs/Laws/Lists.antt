@@ -7,8 +7,8 @@ use native.Mathlib.Nat.{suc-mul, add-zero}
 use native.Mathlib.Omega.{arith}
 use lib.Dec.{eqb, eqb→eq}
 use lib.ListN.{length, getD, take, drop, length-append, length-take, length-drop, take-append-drop, drop-of-length-le}
-use lib.Seq.{take-at, drop-at, take-append-le, take-append-seam, drop-append-le, drop-append-add, drop-drop, length-take-le}
-use Rattle.protocol.specs.Bytes.{two, part, same, lay, follow, joined, split}
+use lib.Seq.{take-at, take-append-le, take-append-seam, drop-append-le, drop-append-add, drop-drop, length-take-le}
+use Rattle.protocol.specs.Bytes.{two, part, zeros, same, lay, follow, joined, split}
 use Rattle.protocol.proofs.Laws.Logic.{T→true, and-l, and-r, eqb-same}
 
 -- ---- comparison
@@ -66,11 +66,16 @@ module _ (i : ℕ) (s d : List ℕ) (h : i + length s ≤ length d) where
       ∙ take-at (take i d ++ s) (drop (i + length s) d) (i + length s) (simp (length-append, length-take) (omega arith))
 
   -- where s lies
-  pub part-lay : part i (length s) (lay i s d) ≡ s
+  pub inside-lay : (j n : ℕ) → j + n ≤ length s → part (i + j) n (lay i s d) ≡ part j n s
   unfolding lay
-  part-lay =
-      ap (take (length s)) (drop-at (take i d) (s ++ drop (i + length s) d) i (length-take-le i d (omega arith)))
-      ∙ take-append-seam s (drop (i + length s) d)
+  inside-lay j n l =
+      let long : length (take i d) ≡ i = length-take-le i d (omega arith) in
+      let t : List ℕ = s ++ drop (i + length s) d in
+      let e : i + j ≡ length (take i d) + j = omega arith in
+      ap (λ (m : ℕ). part m n (take i d ++ t)) e
+      ∙ ap (take n) (drop-append-add (take i d) t j)
+      ∙ ap (take n) (drop-append-le j s (drop (i + length s) d) (omega arith))
+      ∙ take-append-le n (drop j s) (drop (i + length s) d) (simp length-drop (omega arith))
 
   -- before s
   pub before-lay : (j n : ℕ) → j + n ≤ i → part j n (lay i s d) ≡ part j n d
@@ -111,6 +116,13 @@ take-lay s d = take-append-seam s (drop (0 + length s) d)
 pub lay-nothing : (i : ℕ) (d : List ℕ) → lay i [] d ≡ d
 unfolding lay
 lay-nothing i d = rw add-zero (take-append-drop i d)
+
+pub part-zeros : (j n m : ℕ) → j + n ≤ m → part j n (zeros m) ≡ zeros n
+part-zeros zero zero m h = refl
+part-zeros zero (suc n) zero h = absurd (omega arith)
+part-zeros zero (suc n) (suc m) h = ap (λ (t : List ℕ). 0 ∷ t) (part-zeros zero n m (omega arith))
+part-zeros (suc j) n zero h = absurd (omega arith)
+part-zeros (suc j) n (suc m) h = part-zeros j n m (omega arith)
 
 -- ---- split and joined
 

@@ -50,9 +50,10 @@ module _ (σ : Shape) (r : Reader) (f : T (legal σ r)) (l : T (locked (r .plain
   heard-right (order misfit) e = shut e
   heard-right (order (command (free (verifyPassword w)))) e =
       let k : T (keyed (r .plain)) = keyed-locked (r .plain) l in
-      let b : same w (r .plain .password) ≡ true = opening (r .plain) (same w (r .plain .password)) k e in
-      (ap (λ (x : List ℕ). order (command (free (verifyPassword x)))) (same-eq w (r .plain .password) b),
-      ap (λ (x : Bool). acknowledge (withMark x (r .plain) .address) (cond x done wrongPassword) []) b ∙ address-marked (r .plain) true)
+      let b : same w (r .plain .password) ≡ true = opening (r .plain) (same w (r .plain .password)) k e in (
+        ap (λ (x : List ℕ). order (command (free (verifyPassword x)))) (same-eq w (r .plain .password) b),
+        ap (λ (x : Bool). acknowledge (withMark x (r .plain) .address) (cond x done wrongPassword) []) b ∙ address-marked (r .plain) true,
+      )
   heard-right (order (command (free handShake))) e = shut e
   heard-right (order (command (barred c))) e = shut e
   heard-right (piece last right content) e = shut e

@@ -80,7 +80,7 @@ module _ (m : ℕ) (r : Reader) (small : capacity (r .guarded) ≤ 8 * m) (old :
   unfolding capacity
   below = rw (spared r .templates) small
 
-  does-tells : (c : Barred) → h ≡ order (command (barred c)) → T (passed (rule (rested r) c .tests)) 
+  does-tells : (c : Barred) → h ≡ order (command (barred c)) → T (passed (rule (rested r) c .tests))
       → After (carryAs (rested r) (rule (rested r) c) zero .reply) (carryAs (rested r) (rule (rested r) c) zero .after .guarded .index)
   unfolding carryAs rule apply withLibrary withNotepad withBuffer follow actsIn actsOf live
   does-tells (store b p) e t =

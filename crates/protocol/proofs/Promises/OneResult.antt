@@ -1,0 +1,88 @@
+-- Document 01: "Show that the statement admits only one result." A contract pins the code's records and lent memory by an equation to the
+-- definitions; two results of one such equation are the same.
+use mathlib.Core.Bool.{Bool, true, false}
+use mathlib.Core.Path.{_≡_, refl, sym, ap, _∙_}
+use mathlib.Core.List.{List}
+use Prim.Native.Nat.{ℕ, zero, suc}
+use Rattle.protocol.specs.declared.Settings.{Settings}
+use Rattle.protocol.specs.declared.Called.{Called}
+use Rattle.protocol.specs.declared.Switched.{Switched}
+use Rattle.protocol.specs.declared.Built.{Built}
+use Rattle.protocol.specs.Packet.{Made}
+use Rattle.protocol.specs.Reader.{Transfer, closed, opened, unfit, Plain, Guarded, Reader}
+use Rattle.protocol.specs.Call.{Told, Ended}
+use Rattle.protocol.specs.Records.{transferOf, readerOf, endedOf, switchedOf, madeOf}
+
+-- a transfer's two numbers
+numbers : Transfer → ℕ × ℕ
+numbers closed = (0, 0)
+numbers (opened false k) = (1, k)
+numbers (opened true k) = (2, k)
+numbers (unfit b k) = (b, k)
+
+numbered : (b k : ℕ) → numbers (transferOf b k) ≡ (b, k)
+unfolding numbers transferOf
+numbered zero zero = refl
+numbered zero (suc k) = refl
+numbered (suc zero) k = refl
+numbered (suc (suc zero)) k = refl
+numbered (suc (suc (suc b))) k = refl
+
+-- one reader comes of one settings record and one lent memory
+pub record OneReader (s z : Settings) (t i n b c t′ i′ n′ b′ c′ : List ℕ) : Type 0 where
+  pub settings : s ≡ z
+  pub templates : t ≡ t′
+  pub index : i ≡ i′
+  pub notepad : n ≡ n′
+  pub buffer1 : b ≡ b′
+  pub buffer2 : c ≡ c′
+
+pub one-reader : (s z : Settings) (t i n b c t′ i′ n′ b′ c′ : List ℕ) → readerOf s t i n b c ≡ readerOf z t′ i′ n′ b′ c′ → OneReader s z t i n b c t′ i′ n′ b′ c′
+one-reader s z t i n b c t′ i′ n′ b′ c′ e =
+    let m : _≡_ {A = ℕ × ℕ} (s .transfer, s .got) (z .transfer, z .got) =
+    sym (numbered (s .transfer) (s .got)) ∙ ap (λ (r : Reader). numbers (r .plain .transfer)) e ∙ numbered (z .transfer) (z .got)
+    in
+    record {
+      settings =
+          λ j.
+          record {
+            password = e j .plain .password;
+            address = e j .plain .address;
+            level = e j .plain .level;
+            size = e j .plain .size;
+            baud = e j .plain .baud;
+            transfer = m j .0;
+            sensor = e j .plain .sensor;
+            got = m j .1;
+            verified = e j .plain .verified;
+            filled1 = e j .guarded .buffer1 .filled;
+            filled2 = e j .guarded .buffer2 .filled;
+          };
+      templates = ap (λ (r : Reader). r .guarded .templates) e;
+      index = ap (λ (r : Reader). r .guarded .index) e;
+      notepad = ap (λ (r : Reader). r .guarded .notepad) e;
+      buffer1 = ap (λ (r : Reader). r .guarded .buffer1 .bytes) e;
+      buffer2 = ap (λ (r : Reader). r .guarded .buffer2 .bytes) e;
+    }
+
+-- a call's record, its lent memory and its reply room
+pub one-call : (x y : Called) (t i n b c o t′ i′ n′ b′ c′ o′ : List ℕ) → endedOf x t i n b c o ≡ endedOf y t′ i′ n′ b′ c′ o′
+    → (x ≡ y) × (OneReader (x .settings) (y .settings) t i n b c t′ i′ n′ b′ c′ × (o ≡ o′))
+one-call x y t i n b c o t′ i′ n′ b′ c′ o′ e =
+    let r : OneReader (x .settings) (y .settings) t i n b c t′ i′ n′ b′ c′ =
+    one-reader (x .settings) (y .settings) t i n b c t′ i′ n′ b′ c′ (ap (λ (z : Ended). z .after) e)
+    in
+    (λ j. record { settings = r .settings j; refusal = e j .told .refusal; used = e j .told .used; length = e j .told .length }, (r, ap (λ (z : Ended). z .told .room) e))
+
+-- a line switch's record and its lent memory
+pub one-switch : (x y : Switched) (t i n b c o t′ i′ n′ b′ c′ o′ : List ℕ) → switchedOf x t i n b c o ≡ switchedOf y t′ i′ n′ b′ c′ o′
+    → (x ≡ y) × OneReader (x .settings) (y .settings) t i n b c t′ i′ n′ b′ c′
+one-switch x y t i n b c o t′ i′ n′ b′ c′ o′ e =
+    let r : OneReader (x .settings) (y .settings) t i n b c t′ i′ n′ b′ c′ =
+    one-reader (x .settings) (y .settings) t i n b c t′ i′ n′ b′ c′ (ap (λ (z : Ended). z .after) e)
+    in
+    (λ j. record { settings = r .settings j; refusal = e j .told .refusal }, r)
+
+-- the builder's record and its room
+pub one-build : (x y : Built) (o o′ : List ℕ) → madeOf x o ≡ madeOf y o′ → (x ≡ y) × (o ≡ o′)
+one-build x y o o′ e = (λ j. record { refusal = e j .refusal; length = e j .length }, ap (λ (m : Made). m .room) e)
