@@ -4,6 +4,7 @@ pub mod Bits
 pub mod Index
 pub mod Count
 pub mod Finder
+pub mod Effects
 pub mod Commands
 pub mod Answers
 pub mod Legal

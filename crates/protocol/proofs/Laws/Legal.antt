@@ -21,14 +21,9 @@ use Rattle.protocol.proofs.Laws.Logic.{T→true, T→false, and-l, and-
 use Rattle.protocol.proofs.Laws.Lists.{length-lay}
 use Rattle.protocol.proofs.Laws.Index.{Fine, stored-with, stored-span, stored-zeros, fine-with, fine-span, fine-zeros, clear-from, clear-to}
 use Rattle.protocol.proofs.Laws.Commands.{Long, LongHeard}
-use Rattle.protocol.proofs.Laws.Answers.{Kinds}
+use Rattle.protocol.proofs.Laws.Effects.{buffer-same}
 
--- ---- a buffer by its number
-
-pub buffer-same : (w : Bool) (b : Buffer) (g : Guarded) → bufferOf w (withBuffer w b g) ≡ b
-unfolding bufferOf withBuffer
-buffer-same true b g = refl
-buffer-same false b g = refl
+-- ---- buffers
 
 pub buffer-long : (w : Bool) (g : Guarded) → T (fitBuffers g) → length (bufferOf w g .bytes) ≡ pageBytes
 unfolding fitBuffers bufferOf

@@ -22,8 +22,9 @@ use Rattle.protocol.specs.Dialogue.{Event, received, on, finally}
 use Rattle.protocol.proofs.Laws.Logic.{and-i, eqb-same}
 use Rattle.protocol.proofs.Laws.Lists.{length-lay, head-lay, last-lay}
 use Rattle.protocol.proofs.Laws.Finder.{heard-at}
+use Rattle.protocol.proofs.Laws.Effects.{buffer-same}
 use Rattle.protocol.proofs.Laws.Answers.{call-legal, obeyed}
-use Rattle.protocol.proofs.Laws.Legal.{buffer-same, buffer-long, Good, Moving, moving}
+use Rattle.protocol.proofs.Laws.Legal.{buffer-long, Good, Moving, moving}
 use Rattle.protocol.proofs.Laws.Sizes.{Size, sizes}
 use Rattle.protocol.proofs.Promises.ReadBack.{ReadsAs, packet-reads}
 use Rattle.protocol.proofs.Promises.ReplyFits.{size-of}

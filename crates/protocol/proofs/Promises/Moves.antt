@@ -5,10 +5,8 @@ use mathlib.Core.Logic.{_≢_}
 use mathlib.Core.List.{List, []}
 use Prim.Native.Nat.{ℕ, zero, suc, _+_, _-_, _*_, _/_, _≤_, _<_}
 use native.Mathlib.Omega.{arith}
-use native.Mathlib.Decide.{decLt}
 use lib.Dec.{T, eqb, ltb→lt, leb→le}
 use lib.ListN.{length, take, drop, length-replicate}
-use lib.Seq.{take-all}
 use Rattle.protocol.specs.Numbers.{pageBytes}
 use Rattle.protocol.specs.Bytes.{part, zeros, lay}
 use Rattle.protocol.specs.Tests.{among}
@@ -19,36 +17,16 @@ use Rattle.protocol.specs.Table.{second, rule, apply}
 use Rattle.protocol.specs.Step.{order, hear, carryAs, rested}
 use Rattle.protocol.specs.Call.{Shape, fitRoom, Ended, carried, callOf}
 use Rattle.protocol.proofs.Laws.Logic.{and-l, and-r, passed}
-use Rattle.protocol.proofs.Laws.Lists.{inside-lay, before-lay, behind-lay, part-zeros}
+use Rattle.protocol.proofs.Laws.Lists.{part-zeros}
 use Rattle.protocol.proofs.Laws.Index.{stored-with, stored-span, stored-zeros}
+use Rattle.protocol.proofs.Laws.Effects.{buffer-same, page, Filled, fill-page, Erased, erase-pages}
 use Rattle.protocol.proofs.Laws.Answers.{spared, obeyed}
-use Rattle.protocol.proofs.Laws.Legal.{buffer-same, buffer-long, Good, fine-of}
+use Rattle.protocol.proofs.Laws.Legal.{buffer-long, Good, fine-of}
 use Rattle.protocol.proofs.Promises.StaysLegal.{Legal, good, good-rested}
-
--- the bytes of page q
-abbrev pub page : Reader → ℕ → List ℕ
-page r q = part (pageBytes * q) pageBytes (r .guarded .templates)
 
 -- is page q stored?
 abbrev pub has : Reader → ℕ → Bool
 has r q = stored (r .guarded .index) q
-
--- n pages laid over from p on: every other page keeps its bytes
-away : (t b : List ℕ) (p n : ℕ) → length b ≡ pageBytes * n → pageBytes * (p + n) ≤ length t → (q : ℕ) → (p ≤ q → q < p + n → ⊥)
-    → part (pageBytes * q) pageBytes (lay (pageBytes * p) b t) ≡ part (pageBytes * q) pageBytes t
-away t b p n e h q o = go (decLt q p) (decLt q (p + n))
-  where
-    go : Dec (q < p) → Dec (q < p + n) → part (pageBytes * q) pageBytes (lay (pageBytes * p) b t) ≡ part (pageBytes * q) pageBytes t
-    go (yes a) c = before-lay (pageBytes * p) b t (omega arith) (pageBytes * q) pageBytes (omega arith)
-    go (no a) (no c) = behind-lay (pageBytes * p) b t (omega arith) (pageBytes * q) pageBytes (omega arith)
-    go (no a) (yes c) = absurd (o (omega arith) c)
-
--- page p + i is the i-th page of what was laid
-within-lay : (t b : List ℕ) (p n : ℕ) → length b ≡ pageBytes * n → pageBytes * (p + n) ≤ length t → (q : ℕ) → p ≤ q → q < p + n
-    → part (pageBytes * q) pageBytes (lay (pageBytes * p) b t) ≡ part (pageBytes * (q - p)) pageBytes b
-within-lay t b p n e h q l m =
-    let at : pageBytes * q ≡ pageBytes * p + pageBytes * (q - p) = omega arith in
-    ap (λ (i : ℕ). part i pageBytes (lay (pageBytes * p) b t)) at ∙ inside-lay (pageBytes * p) b t (omega arith) (pageBytes * (q - p)) pageBytes (omega arith)
 
 module _ (σ : Shape) (ok : σ .most ≤ 8 * σ .indexed) (r : Reader) (l : Legal σ ok r) (u : locked (r .plain) ≡ false) (s room : List ℕ) (v : T (fitRoom room)) where
   -- the reader, its transfer ended, and the reader after a command c that the run s asks for and whose tests pass
@@ -75,18 +53,15 @@ module _ (σ : Shape) (ok : σ .most ≤ 8 * σ .indexed) (r : Reader) (l : Lega
   pub store-moves : (b p : ℕ) → Done (store b p) → Stored b p (callOf σ r s room .after)
   unfolding rule apply withLibrary
   store-moves b p d =
-      let c : List ℕ = bufferOf (second b) (t .guarded) .bytes in
-      let ts : List ℕ = t .guarded .templates in
-      let full : length c ≡ pageBytes = buffer-long (second b) (t .guarded) (k .buffers) in
+      let g : Guarded = t .guarded in
       let x = d .1 in
-      let below : p < capacity (t .guarded) = ltb→lt p (capacity (t .guarded)) (search (and-l, and-r)) in
-      let fit : pageBytes * (p + 1) ≤ length ts = omega (arith, k .shelf .long) in
-      let none : pageBytes * (p - p) ≡ 0 = omega arith in
+      let below : p < capacity g = ltb→lt p (capacity g) (search (and-l, and-r)) in
+      let f : Filled t p (bufferOf (second b) g .bytes) = fill-page t p (bufferOf (second b) g .bytes) (buffer-long (second b) g (k .buffers)) (omega (arith, k .shelf .long)) in
       rw (after (store b p) d)
       record {
-        bytes = within-lay ts c p 1 (omega arith) fit p (omega arith) (omega arith) ∙ ap (λ (i : ℕ). part i pageBytes c) none ∙ take-all pageBytes c (omega arith);
-        others = λ q o. away ts c p 1 (omega arith) fit q (λ a b. o (omega arith)) ∙ ap (part (pageBytes * q) pageBytes) (spared r .templates);
-        bits = λ q. stored-with (t .guarded .index) (k .typed .index) p (omega (arith, k .shelf .wide, k .shelf .high)) q ∙ ap (λ (y : List ℕ). eqb p q || stored y q) (spared r .index);
+        bytes = f .bytes;
+        others = λ q o. f .others q o ∙ ap (part (pageBytes * q) pageBytes) (spared r .templates);
+        bits = λ q. stored-with (g .index) (k .typed .index) p (omega (arith, k .shelf .wide, k .shelf .high)) q ∙ ap (λ (y : List ℕ). eqb p q || stored y q) (spared r .index);
       }
 
   -- ---- LoadChar: the buffer has the page's bytes and its mark; the library stays
@@ -116,17 +91,15 @@ module _ (σ : Shape) (ok : σ .most ≤ 8 * σ .indexed) (r : Reader) (l : Lega
   pub delete-moves : (p n : ℕ) → Done (deletChar p n) → Deleted p n (callOf σ r s room .after)
   unfolding rule apply withLibrary
   delete-moves p n d =
-      let ts : List ℕ = t .guarded .templates in
-      let c : List ℕ = zeros (pageBytes * n) in
-      let long : length c ≡ pageBytes * n = length-replicate (pageBytes * n) 0 in
+      let g : Guarded = t .guarded in
       let x = d .1 in
-      let below : p + n ≤ capacity (t .guarded) = leb→le (p + n) (capacity (t .guarded)) (search (and-l, and-r)) in
-      let fit : pageBytes * (p + n) ≤ length ts = omega (arith, k .shelf .long) in
+      let below : p + n ≤ capacity g = leb→le (p + n) (capacity g) (search (and-l, and-r)) in
+      let f : Erased t p n = erase-pages t p n (omega (arith, k .shelf .long)) in
       rw (after (deletChar p n) d)
       record {
-        bytes = λ q a b. within-lay ts c p n long fit q a b ∙ part-zeros (pageBytes * (q - p)) pageBytes (pageBytes * n) (omega arith);
-        others = λ q o. away ts c p n long fit q o ∙ ap (part (pageBytes * q) pageBytes) (spared r .templates);
-        bits = λ q. stored-span (t .guarded .index) p n (fine-of σ ok t k) (omega (arith, k .shelf .high, ok)) q ∙ ap (λ (y : List ℕ). not (among p n q) && stored y q) (spared r .index);
+        bytes = f .bytes;
+        others = λ q o. f .others q o ∙ ap (part (pageBytes * q) pageBytes) (spared r .templates);
+        bits = λ q. stored-span (g .index) p n (fine-of σ ok t k) (omega (arith, k .shelf .high, ok)) q ∙ ap (λ (y : List ℕ). not (among p n q) && stored y q) (spared r .index);
       }
 
   -- ---- Empty: every page is zero and vacant

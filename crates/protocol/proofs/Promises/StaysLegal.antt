@@ -19,8 +19,9 @@ use Rattle.protocol.specs.Dialogue.{Event, received, switch, on, finally
 use Rattle.protocol.proofs.Laws.Logic.{and-l, and-r, and-i, passed}
 use Rattle.protocol.proofs.Laws.Lists.{length-lay}
 use Rattle.protocol.proofs.Laws.Commands.{Long, LongHeard, long-heard}
+use Rattle.protocol.proofs.Laws.Effects.{buffer-same}
 use Rattle.protocol.proofs.Laws.Answers.{Kinds, answer-kinds, call-kinds}
-use Rattle.protocol.proofs.Laws.Legal.{buffer-same, buffer-long, fit-closed, fit-opened, Moving, moving, Fitting, fitting, Shelf, Good, good-of, legal-of, good-plain, good-buffer, Proper, effect-good}
+use Rattle.protocol.proofs.Laws.Legal.{buffer-long, fit-closed, fit-opened, Moving, moving, Fitting, fitting, Shelf, Good, good-of, legal-of, good-plain, good-buffer, Proper, effect-good}
 
 -- ---- SetSysPara
 
