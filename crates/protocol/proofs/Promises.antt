@@ -2,6 +2,7 @@ pub mod ReadBack
 pub mod ZeroUsed
 pub mod StaysLegal
 pub mod Refused
+pub mod LegalMeans
 pub mod Examples
 pub mod Lock
 pub mod Opens

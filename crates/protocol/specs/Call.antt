@@ -5,7 +5,7 @@ use mathlib.Core.List.{List, [], _∷_}
 use Prim.Native.Nat.{ℕ, zero, suc, _*_, _%_}
 use lib.Dec.{eqb, ltb, leb}
 use lib.ListN.{length, take}
-use Rattle.protocol.specs.Numbers.{pageBytes, wordBytes, replyRoom, lowestLevel, highestLevel, lowestBaud, highestBaud, highestSize, badLength, badRoom, badSetting}
+use Rattle.protocol.specs.Numbers.{pageBytes, fourBytes, replyRoom, lowestLevel, highestLevel, lowestBaud, highestBaud, highestSize, badLength, badRoom, badSetting}
 use Rattle.protocol.specs.Bytes.{Bytes, lay}
 use Rattle.protocol.specs.Tests.{Test, verdict, within}
 use Rattle.protocol.specs.Index.{clearFrom}
@@ -60,8 +60,8 @@ legal σ r = fitLengths σ (r .guarded) && sound r
 
 -- what the types of the settings record and of lent bytes say by themselves
 pub record Typed (r : Reader) : Type 0 where
-  pub password : length (r .plain .password) ≡ wordBytes
-  pub address : length (r .plain .address) ≡ wordBytes
+  pub password : length (r .plain .password) ≡ fourBytes
+  pub address : length (r .plain .address) ≡ fourBytes
   pub index : Bytes (r .guarded .index)
 
 -- ---- a call

@@ -20,8 +20,8 @@ abbrev pub replyRoom : ℕ
 replyRoom = 700
 
 -- a password, and an address
-abbrev pub wordBytes : ℕ
-wordBytes = 4
+abbrev pub fourBytes : ℕ
+fourBytes = 4
 
 -- ---- settings
 

@@ -4,7 +4,7 @@ use mathlib.Core.List.{List, [], _∷_, _++_}
 use Prim.Native.Nat.{ℕ, zero, suc, _+_, _-_, _%_}
 use lib.Dec.{eqb, leb}
 use lib.ListN.{length}
-use Rattle.protocol.specs.Numbers.{firstMark, secondMark, headBytes, frameBytes, commandPacket, dataPacket, acknowledgePacket, lastPacket, shortest, longest, wordBytes, badRoom, badContent}
+use Rattle.protocol.specs.Numbers.{firstMark, secondMark, headBytes, frameBytes, commandPacket, dataPacket, acknowledgePacket, lastPacket, shortest, longest, fourBytes, badRoom, badContent}
 use Rattle.protocol.specs.Bytes.{two, byteAt, wordAt, part, total, lay}
 use Rattle.protocol.specs.Tests.{verdict}
 
@@ -36,7 +36,7 @@ accepts i n = isIdentifier i && leb shortest n && leb n (limit i)
 -- ---- the parts of a packet that starts at p in the run s; n is its length field
 
 abbrev pub addressAt : List ℕ → ℕ → List ℕ
-addressAt s p = part (p + 2) wordBytes s
+addressAt s p = part (p + 2) fourBytes s
 
 abbrev pub identifierAt : List ℕ → ℕ → ℕ
 identifierAt s p = byteAt s (p + 6)

@@ -3,7 +3,7 @@ use mathlib.Core.Bool.{Bool, true, false, _&&_, not, cond}
 use mathlib.Core.List.{List, [], _∷_}
 use Prim.Native.Nat.{ℕ, _+_, _*_, _/_, _^_}
 use lib.ListN.{length}
-use Rattle.protocol.specs.Numbers.{pageBytes, wordBytes}
+use Rattle.protocol.specs.Numbers.{pageBytes, fourBytes}
 use Rattle.protocol.specs.Bytes.{four, zeros, same}
 
 -- a transfer: none, or into a buffer (the second?) with the bytes got so far
@@ -78,7 +78,7 @@ withMark v p = settings (p .password) (p .address) (p .level) (p .size) (p .baud
 unfoldable pub withTransfer : Transfer → Plain → Plain
 withTransfer t p = settings (p .password) (p .address) (p .level) (p .size) (p .baud) (p .sensor) (p .verified) t
 
--- another password clears the verified mark
+-- SetPwd also clears the verified mark
 unfoldable pub withPassword : List ℕ → Plain → Plain
 withPassword w p = settings w (p .address) (p .level) (p .size) (p .baud) (p .sensor) false (p .transfer)
 

@@ -1,13 +1,13 @@
 -- From the code's records and lent memory to the reader and the outcomes of the definitions. Different records give different readers.
 use mathlib.Core.Bool.{Bool, true, false}
-use mathlib.Core.List.{List}
+use mathlib.Core.List.{List, []}
 use Prim.Native.Nat.{ℕ, zero, suc}
 use Rattle.protocol.specs.declared.Settings.{Settings}
 use Rattle.protocol.specs.declared.Called.{Called}
 use Rattle.protocol.specs.declared.Switched.{Switched}
 use Rattle.protocol.specs.declared.Built.{Built}
 use Rattle.protocol.specs.Packet.{Made}
-use Rattle.protocol.specs.Reader.{Transfer, closed, opened, unfit, Plain, Buffer, Guarded, Reader, settings, contents, reader}
+use Rattle.protocol.specs.Reader.{Transfer, closed, opened, unfit, Plain, Buffer, Guarded, Reader, settings, fresh, contents, reader}
 use Rattle.protocol.specs.Call.{Told, Ended}
 
 -- the transfer of the settings' two numbers: the buffer's, and the bytes got so far; none is 0 and 0
@@ -37,10 +37,14 @@ endedOf c t i n b d room =
       after = readerOf (c .settings) t i n b d;
     }
 
--- what a line switch returned, and the two buffers after it; it takes no other memory
-abbrev pub switchedOf : Switched → List ℕ → List ℕ → List ℕ → List ℕ → List ℕ → List ℕ → Ended
-switchedOf s t i n b d room =
-    record { told = record { refusal = s .refusal; used = 0; length = 0; room = room }; after = readerOf (s .settings) t i n b d }
+-- what a line switch returned, and the lent memory after it; no reply room is lent
+abbrev pub switchedOf : Switched → List ℕ → List ℕ → List ℕ → List ℕ → List ℕ → Ended
+switchedOf s t i n b d =
+    record { told = record { refusal = s .refusal; used = 0; length = 0; room = [] }; after = readerOf (s .settings) t i n b d }
+
+-- fresh settings have their filled marks clear too
+abbrev pub freshOf : List ℕ → List ℕ → List ℕ → List ℕ → List ℕ → Reader
+freshOf t i n b d = reader fresh (contents t i n (buffer b false) (buffer d false))
 
 abbrev pub madeOf : Built → List ℕ → Made
 madeOf b room = record { refusal = b .refusal; length = b .length; room = room }

@@ -110,7 +110,7 @@ rule r (readIndexTable p) =
 
 -- ---- the two that the lock lets pass
 
--- what a host may learn without the password: the settings but for the filled marks, and the capacity
+-- all that a locked reader's answers may depend on: the settings but for the filled marks, and the capacity
 pub record Public : Type 0 where
   pub plain : Plain
   pub capacity : ℕ

@@ -15,7 +15,7 @@ pub enum Found {
     Whole { at: usize, len: usize },
 }
 
-// A reader's settings. The transfer is two numbers: its buffer, 1 or 2 (0: none), and the bytes got so far.
+// A reader's settings. The transfer is two numbers: its buffer, 1 or 2, and the bytes got so far; no transfer is 0 and 0.
 #[repr(C)]
 pub struct Settings {
     pub password: [u8; 4],

@@ -9,7 +9,7 @@ use borrow.Author.Tests.{eqb-true}
 use lib.ListN.{length, drop, length-drop}
 use Rattle.protocol.specs.declared.Found.{Found}
 use Rattle.protocol.specs.declared.Found.the-variants.{Noise, Unfinished, Unfit, Whole}
-use Rattle.protocol.specs.Numbers.{noteBytes, wordBytes, commandPacket, acknowledgePacket, lastPacket}
+use Rattle.protocol.specs.Numbers.{noteBytes, fourBytes, commandPacket, acknowledgePacket, lastPacket}
 use Rattle.protocol.specs.Bytes.{byteAt, same}
 use Rattle.protocol.specs.Packet.{lengthOf, addressAt, identifierAt, contentAt, rightAt}
 use Rattle.protocol.specs.Finder.{findOf}
@@ -68,8 +68,8 @@ Long (deletChar p n) = Unit {0}
 Long empty = Unit {0}
 Long (setSysPara k v) = Unit {0}
 Long readSysPara = Unit {0}
-Long (setPassword w) = length w ≡ wordBytes
-Long (setAddress a) = length a ≡ wordBytes
+Long (setPassword w) = length w ≡ fourBytes
+Long (setAddress a) = length a ≡ fourBytes
 Long (writeNotepad p b) = length b ≡ noteBytes
 Long (readNotepad p) = Unit {0}
 Long templeteNum = Unit {0}

@@ -13,7 +13,7 @@ use Rattle.protocol.specs.declared.Start.{Start}
 use Rattle.protocol.specs.declared.Start.the-variants.{Nowhere, At}
 use Rattle.protocol.specs.declared.Found.{Found}
 use Rattle.protocol.specs.declared.Found.the-variants.{Noise, Unfinished, Unfit, Whole}
-use Rattle.protocol.specs.Numbers.{firstMark, secondMark, headBytes, frameBytes, wordBytes, shortest, longest}
+use Rattle.protocol.specs.Numbers.{firstMark, secondMark, headBytes, frameBytes, fourBytes, shortest, longest}
 use Rattle.protocol.specs.Bytes.{two, byteAt, same}
 use Rattle.protocol.specs.Packet.{packet, isIdentifier, limit, accepts, addressAt, identifierAt, lengthAt, contentAt, endAt, rightAt}
 use Rattle.protocol.specs.Finder.{marksAt, later, startOf, findFrom}
@@ -23,7 +23,7 @@ use Rattle.protocol.proofs.Laws.Lists.{same-refl}
 
 -- ---- the length of a packet, and its limits: no other proof opens `accepts`
 
-pub length-packet : (a : List ℕ) (i : ℕ) (c : List ℕ) → length a ≡ wordBytes → length (packet a i c) ≡ length c + frameBytes
+pub length-packet : (a : List ℕ) (i : ℕ) (c : List ℕ) → length a ≡ fourBytes → length (packet a i c) ≡ length c + frameBytes
 unfolding packet two
 length-packet a i c h = simp length-append (omega arith)
 

@@ -8,7 +8,7 @@ use native.Mathlib.Omega.{arith}
 use lib.Dec.{T, eqb, ltb, leb, eqb→eq, leb→le, le→leb, ltb→lt}
 use borrow.Author.Tests.{ne-eqb, lt-ltb}
 use lib.ListN.{length, take, drop, length-take, length-drop, length-replicate}
-use Rattle.protocol.specs.Numbers.{pageBytes, noteBytes, wordBytes, highestSize, baudParameter, levelParameter}
+use Rattle.protocol.specs.Numbers.{pageBytes, noteBytes, fourBytes, highestSize, baudParameter, levelParameter}
 use Rattle.protocol.specs.Bytes.{Bytes, part, zeros, same, lay}
 use Rattle.protocol.specs.Tests.{within, among}
 use Rattle.protocol.specs.Index.{stored, setBit, clearBits, bits, clearFrom}
@@ -94,7 +94,7 @@ module _ (σ : Shape) (ok : σ .most ≤ 8 * σ .indexed) where
         notes = eqb→eq (length (g .notepad)) (σ .noted) (search (and-l, and-r) depth 8);
       }
 
-  unshelf : (g : Guarded) → Shelf g → T (fitLibrary σ g)
+  pub unshelf : (g : Guarded) → Shelf g → T (fitLibrary σ g)
   unfolding fitLibrary within
   unshelf g s =
       let t₁ = eq→eqb (length (g .templates)) (pageBytes * capacity g) (s .long) in
@@ -141,7 +141,7 @@ module _ (σ : Shape) (ok : σ .most ≤ 8 * σ .indexed) where
   -- ---- a good reader with one part anew
 
   -- other settings with no transfer
-  pub good-plain : (r : Reader) (p : Plain) → Good r → T (fitPlain p) → p .transfer ≡ closed → length (p .password) ≡ wordBytes → length (p .address) ≡ wordBytes
+  pub good-plain : (r : Reader) (p : Plain) → Good r → T (fitPlain p) → p .transfer ≡ closed → length (p .password) ≡ fourBytes → length (p .address) ≡ fourBytes
       → Good (reader p (r .guarded))
   good-plain r p k f z w a =
       record {
@@ -200,7 +200,7 @@ module _ (σ : Shape) (ok : σ .most ≤ 8 * σ .indexed) where
   Proper r (fillBuffer w b) = length b ≡ pageBytes
   Proper r (await w) = locked (r .plain) ≡ false
   Proper r (note i b) = i + length b ≤ length (r .guarded .notepad)
-  Proper r (settle p) = T (fitPlain p) × ((p .transfer ≡ closed) × ((length (p .password) ≡ wordBytes) × (length (p .address) ≡ wordBytes)))
+  Proper r (settle p) = T (fitPlain p) × ((p .transfer ≡ closed) × ((length (p .password) ≡ fourBytes) × (length (p .address) ≡ fourBytes)))
 
   pub effect-good : (e : Effect) (r : Reader) → Proper r e → r .plain .transfer ≡ closed → Good r → Good (apply e r)
   unfolding apply emptied filledWith withTransfer withNotepad capacity fitBuffers locked keyed

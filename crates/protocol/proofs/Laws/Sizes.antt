@@ -8,7 +8,7 @@ use native.Mathlib.Omega.{arith}
 use lib.Dec.{T, eqb, lit≤}
 use lib.ListN.{length, take, drop, length-append, length-drop}
 use lib.Seq.{length-take-le}
-use Rattle.protocol.specs.Numbers.{pageBytes, wordBytes, frameBytes, replyRoom, highestSize, longest, dataPacket, lastPacket}
+use Rattle.protocol.specs.Numbers.{pageBytes, fourBytes, frameBytes, replyRoom, highestSize, longest, dataPacket, lastPacket}
 use Rattle.protocol.specs.Bytes.{joined}
 use Rattle.protocol.specs.Packet.{packet, isIdentifier, limit, accepts}
 use Rattle.protocol.specs.Reader.{sizeOf}
@@ -33,7 +33,7 @@ sizes (suc (suc zero)) h = record { more = 3; count = refl; whole = refl; some =
 sizes (suc (suc (suc n))) h = absurd (omega arith)
 
 -- k packets of n bytes
-pub length-packets : (a : List ℕ) (k n : ℕ) (s : List ℕ) → length a ≡ wordBytes → length s ≡ k * n → length (joined (packets a k n s)) ≡ k * (n + frameBytes)
+pub length-packets : (a : List ℕ) (k n : ℕ) (s : List ℕ) → length a ≡ fourBytes → length s ≡ k * n → length (joined (packets a k n s)) ≡ k * (n + frameBytes)
 unfolding packets joined
 length-packets a zero n s h e = omega arith
 length-packets a (suc k) n s h e =
@@ -43,7 +43,7 @@ length-packets a (suc k) n s h e =
     length-append (packet a i (take n s)) (joined (packets a k n (drop n s)))
     ∙ omega (arith, length-packet a i (take n s) h, suc-mul k (n + frameBytes))
 
-pub length-data : (a : List ℕ) (z : ℕ) (s : List ℕ) → Size z → length a ≡ wordBytes → length s ≡ pageBytes → 12 + length (dataPackets a z s) ≤ replyRoom
+pub length-data : (a : List ℕ) (z : ℕ) (s : List ℕ) → Size z → length a ≡ fourBytes → length s ≡ pageBytes → 12 + length (dataPackets a z s) ≤ replyRoom
 unfolding dataPackets
 length-data a z s k h e =
     let l : length (joined (packets a (suc (k .more)) z s)) ≡ suc (k .more) * (z + frameBytes) = length-packets a (suc (k .more)) z s h (e ∙ sym (k .whole)) in

@@ -8,7 +8,7 @@ use lib.Dec.{T, eqb, ltb, eqb·suc-zero}
 use borrow.Author.Tests.{lt-ltb, eq-eqb}
 use lib.ListN.{length, take, drop, length-drop, take-append-drop}
 use lib.Seq.{take-all, length-take-le}
-use Rattle.protocol.specs.Numbers.{pageBytes, wordBytes, commandPacket, acknowledgePacket, dataPacket, lastPacket}
+use Rattle.protocol.specs.Numbers.{pageBytes, fourBytes, commandPacket, acknowledgePacket, dataPacket, lastPacket}
 use Rattle.protocol.specs.Bytes.{lay}
 use Rattle.protocol.specs.Packet.{packet, lengthOf, accepts, identifierAt, rightAt, contentAt}
 use Rattle.protocol.specs.Finder.{findOf}
@@ -31,7 +31,7 @@ use Rattle.protocol.proofs.Promises.ReplyFits.{size-of}
 use Rattle.protocol.proofs.Promises.StaysLegal.{Legal, good, stays-legal}
 
 -- what a packet for the address a says to its reader
-heard-packet : (a : List ℕ) (i : ℕ) (c : List ℕ) → length a ≡ wordBytes → T (accepts i (lengthOf c)) → hear a (packet a i c) ≡ hearAs i true c
+heard-packet : (a : List ℕ) (i : ℕ) (c : List ℕ) → length a ≡ fourBytes → T (accepts i (lengthOf c)) → hear a (packet a i c) ≡ hearAs i true c
 unfolding hear
 heard-packet a i c h t =
     let s : List ℕ = packet a i c in
@@ -51,7 +51,7 @@ unfoldable pub deliver : (ℕ → List ℕ) → List (List ℕ) → List Event
 deliver room [] = []
 deliver room (p ∷ ps) = received p (room (length ps)) ∷ deliver room ps
 
-module _ (p : Plain) (g : Guarded) (w : Bool) (h : length (p .address) ≡ wordBytes) where
+module _ (p : Plain) (g : Guarded) (w : Bool) (h : length (p .address) ≡ fourBytes) where
   -- a transfer with the bytes got so far, and one that is through
   abbrev under : ℕ → List ℕ → Reader
   under got b = reader (withTransfer (opened w got) p) (withBuffer w (unfilled b) g)

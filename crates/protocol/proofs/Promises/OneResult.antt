@@ -75,9 +75,9 @@ one-call x y t i n b c o t′ i′ n′ b′ c′ o′ e =
     (λ j. record { settings = r .settings j; refusal = e j .told .refusal; used = e j .told .used; length = e j .told .length }, (r, ap (λ (z : Ended). z .told .room) e))
 
 -- a line switch's record and its lent memory
-pub one-switch : (x y : Switched) (t i n b c o t′ i′ n′ b′ c′ o′ : List ℕ) → switchedOf x t i n b c o ≡ switchedOf y t′ i′ n′ b′ c′ o′
+pub one-switch : (x y : Switched) (t i n b c t′ i′ n′ b′ c′ : List ℕ) → switchedOf x t i n b c ≡ switchedOf y t′ i′ n′ b′ c′
     → (x ≡ y) × OneReader (x .settings) (y .settings) t i n b c t′ i′ n′ b′ c′
-one-switch x y t i n b c o t′ i′ n′ b′ c′ o′ e =
+one-switch x y t i n b c t′ i′ n′ b′ c′ e =
     let r : OneReader (x .settings) (y .settings) t i n b c t′ i′ n′ b′ c′ =
     one-reader (x .settings) (y .settings) t i n b c t′ i′ n′ b′ c′ (ap (λ (z : Ended). z .after) e)
     in

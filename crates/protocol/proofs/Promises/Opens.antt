@@ -1,4 +1,4 @@
--- What opens the lock: VfyPwd with the right password, and nothing else. And the premises of demand 3 can be met.
+-- What opens the lock: VfyPwd with the right password, and nothing else; and what VfyPwd does, locked or not.
 use mathlib.Core.Bool.{Bool, true, false, true≢false, _&&_, not, cond}
 use mathlib.Core.Path.{_≡_, refl, sym, ap, _∙_}
 use mathlib.Core.List.{List, [], _∷_}

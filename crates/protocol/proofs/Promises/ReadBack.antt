@@ -2,7 +2,6 @@
 -- identifier, address and content."
 use mathlib.Core.Bool.{Bool, true, false, _&&_, cond}
 use mathlib.Core.Path.{_≡_, refl, sym, ap, ap₂, _∙_, subst}
-use mathlib.Core.Logic.{_≢_}
 use mathlib.Core.List.{List, [], _∷_, _++_, append-assoc, append-nil}
 use Prim.Native.Nat.{ℕ, zero, suc, _+_, _-_, _*_, _/_, _%_, _≤_, _<_}
 use native.Mathlib.Omega.{arith}
@@ -11,7 +10,7 @@ use borrow.Author.Tests.{le-leb}
 use lib.ListN.{length, getD, take, drop, length-append}
 use lib.Seq.{take-at, getD-drop, getD-append-seam, getD-append-add}
 use Rattle.protocol.specs.declared.Found.the-variants.{Whole}
-use Rattle.protocol.specs.Numbers.{firstMark, secondMark, headBytes, frameBytes, shortest, longest, wordBytes}
+use Rattle.protocol.specs.Numbers.{firstMark, secondMark, headBytes, frameBytes, shortest, longest, fourBytes}
 use Rattle.protocol.specs.Bytes.{two, byteAt, wordAt, part, lay}
 use Rattle.protocol.specs.Tests.{verdict}
 use Rattle.protocol.specs.Packet.{lengthOf, sumOf, packet, isIdentifier, accepts, addressAt, identifierAt, lengthAt, contentAt, endAt, rightAt, Made, buildRefusal, buildAs, buildOf}
@@ -73,11 +72,11 @@ module _ (w x y z i : ℕ) (c t : List ℕ) (ok : T (accepts i (lengthOf c))) wh
 
 -- ---- for any address of four bytes
 
-pub reads-back : (a : List ℕ) (i : ℕ) (c t : List ℕ) → length a ≡ wordBytes → T (accepts i (lengthOf c)) → ReadsAs (packet a i c ++ t) a i c
+pub reads-back : (a : List ℕ) (i : ℕ) (c t : List ℕ) → length a ≡ fourBytes → T (accepts i (lengthOf c)) → ReadsAs (packet a i c ++ t) a i c
 unfolding sent
 reads-back a i c t h ok = by-four a h (λ (b : List ℕ). ReadsAs (packet b i c ++ t) b i c) (λ w x y z. reads w x y z i c t ok)
 
-pub packet-reads : (a : List ℕ) (i : ℕ) (c : List ℕ) → length a ≡ wordBytes → T (accepts i (lengthOf c)) → ReadsAs (packet a i c) a i c
+pub packet-reads : (a : List ℕ) (i : ℕ) (c : List ℕ) → length a ≡ fourBytes → T (accepts i (lengthOf c)) → ReadsAs (packet a i c) a i c
 packet-reads a i c h ok = subst (λ (s : List ℕ). ReadsAs s a i c) (append-nil (packet a i c)) (reads-back a i c [] h ok)
 
 -- ---- the builder
@@ -94,7 +93,7 @@ pub record BuiltBack (a : List ℕ) (i : ℕ) (c : List ℕ) (m : Made) : Type 0
   pub used : usedOf (findOf (take (m .length) (m .room))) ≡ m .length
   pub reads : ReadsAs (take (m .length) (m .room)) a i c
 
-pub built-back : (a : List ℕ) (i : ℕ) (c room : List ℕ) → length a ≡ wordBytes → buildOf a i c room .refusal ≡ 0 → BuiltBack a i c (buildOf a i c room)
+pub built-back : (a : List ℕ) (i : ℕ) (c room : List ℕ) → length a ≡ fourBytes → buildOf a i c room .refusal ≡ 0 → BuiltBack a i c (buildOf a i c room)
 unfolding buildOf buildRefusal buildAs usedOf
 built-back a i c room h = go (buildRefusal i c room) refl
   where
@@ -109,12 +108,3 @@ built-back a i c room h = go (buildRefusal i c room) refl
           reads = rw (take-lay p room) back;
         }
     go (suc k) e z = absurd (omega arith)
-
--- a refused build writes nothing
-pub unbuilt : (a : List ℕ) (i : ℕ) (c room : List ℕ) → buildOf a i c room .refusal ≢ 0 → (buildOf a i c room .length ≡ 0) × (buildOf a i c room .room ≡ room)
-unfolding buildOf buildAs
-unbuilt a i c room = go (buildRefusal i c room)
-  where
-    go : (k : ℕ) → buildAs (packet a i c) room k .refusal ≢ 0 → (buildAs (packet a i c) room k .length ≡ 0) × (buildAs (packet a i c) room k .room ≡ room)
-    go zero d = absurd (d refl)
-    go (suc k) d = (refl, refl)

@@ -6,7 +6,7 @@ use Prim.Native.Nat.{ℕ, zero, suc, _+_, _-_, _*_, _≤_}
 use native.Mathlib.Omega.{arith}
 use lib.Dec.{T, leb, leb→le}
 use lib.ListN.{length, length-append, length-take, length-drop}
-use Rattle.protocol.specs.Numbers.{pageBytes, wordBytes, noteBytes, indexBytes, replyRoom, highestSize, done}
+use Rattle.protocol.specs.Numbers.{pageBytes, fourBytes, noteBytes, indexBytes, replyRoom, highestSize, done}
 use Rattle.protocol.specs.Bytes.{two, follow, joined}
 use Rattle.protocol.specs.Tests.{within}
 use Rattle.protocol.specs.Reader.{Transfer, closed, Plain, Guarded, Reader, sizeOf, locked, bufferOf, withMark}
@@ -24,7 +24,7 @@ use Rattle.protocol.proofs.Laws.Sizes.{Size, sizes, length-data}
 use Rattle.protocol.proofs.Laws.Finder.{length-packet}
 use Rattle.protocol.proofs.Promises.StaysLegal.{Legal, good, good-rested, row-good}
 
-length-acknowledge : (a : List ℕ) (code : ℕ) (b : List ℕ) → length a ≡ wordBytes → length (acknowledge a code b) ≡ length b + 12
+length-acknowledge : (a : List ℕ) (code : ℕ) (b : List ℕ) → length a ≡ fourBytes → length (acknowledge a code b) ≡ length b + 12
 unfolding acknowledge
 length-acknowledge a code b h = length-packet a _ (code ∷ b) h ∙ omega arith
 
@@ -32,7 +32,7 @@ length-acknowledge a code b h = length-packet a _ (code ∷ b) h ∙ omega arith
 Fits : Row → Type 0
 Fits w = length (w .bytes) + (12 + length (w .behind)) ≤ replyRoom
 
-row-fits : (r : Reader) → length (r .plain .address) ≡ wordBytes → Size (sizeOf (r .plain .size)) → ((w : Bool) → length (bufferOf w (r .guarded) .bytes) ≡ pageBytes)
+row-fits : (r : Reader) → length (r .plain .address) ≡ fourBytes → Size (sizeOf (r .plain .size)) → ((w : Bool) → length (bufferOf w (r .guarded) .bytes) ≡ pageBytes)
     → (c : Barred) → Fits (rule r c)
 unfolding Fits rule two joined
 row-fits r a z b (store n p) = omega arith
@@ -50,7 +50,7 @@ row-fits r a z b (readNotepad p) = simp length-take (omega arith)
 row-fits r a z b templeteNum = omega arith
 row-fits r a z b (readIndexTable p) = simp length-take (omega arith)
 
-free-fits : (v : Public) → length (v .plain .address) ≡ wordBytes → (c : Free) → length (acknowledge (freeRule v c .plain .address) (freeRule v c .code) (freeRule v c .bytes)) ≤ replyRoom
+free-fits : (v : Public) → length (v .plain .address) ≡ fourBytes → (c : Free) → length (acknowledge (freeRule v c .plain .address) (freeRule v c .code) (freeRule v c .bytes)) ≤ replyRoom
 unfolding freeRule withMark
 free-fits v a (verifyPassword w) = omega (arith, length-acknowledge (v .plain .address) (freeRule v (verifyPassword w) .code) [] a)
 free-fits v a handShake = omega (arith, length-acknowledge (v .plain .address) done [] a)

@@ -7,7 +7,7 @@ use native.Mathlib.Nat.{add-mod-right}
 use native.Mathlib.Omega.{arith}
 use lib.Dec.{T, eqb, ltb, leb, eqb→eq, leb→le, ltb→lt}
 use lib.ListN.{length, take, drop, length-take, length-drop}
-use Rattle.protocol.specs.Numbers.{pageBytes, noteBytes, wordBytes, highestSize, lowestBaud, highestBaud, lowestLevel, highestLevel, baudParameter, levelParameter, sizeParameter}
+use Rattle.protocol.specs.Numbers.{pageBytes, noteBytes, fourBytes, highestSize, lowestBaud, highestBaud, lowestLevel, highestLevel, baudParameter, levelParameter, sizeParameter}
 use Rattle.protocol.specs.Bytes.{part, lay}
 use Rattle.protocol.specs.Tests.{within}
 use Rattle.protocol.specs.Reader.{Transfer, closed, opened, unfit, Plain, Buffer, Guarded, Reader, capacity, sizeOf, keyed, locked, bufferOf, emptied, filledWith, withMark, withTransfer, withPassword, withAddress, withTuning, withBuffer, reader}

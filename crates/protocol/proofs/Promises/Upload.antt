@@ -11,7 +11,7 @@ use lib.ListN.{length, take, drop, length-drop}
 use lib.Seq.{length-take-le, drop-at}
 use Rattle.protocol.specs.declared.Found.{Found}
 use Rattle.protocol.specs.declared.Found.the-variants.{Noise, Unfinished, Unfit, Whole}
-use Rattle.protocol.specs.Numbers.{pageBytes, wordBytes, frameBytes, dataPacket, lastPacket, done}
+use Rattle.protocol.specs.Numbers.{pageBytes, fourBytes, frameBytes, dataPacket, lastPacket, done}
 use Rattle.protocol.specs.Bytes.{joined, split}
 use Rattle.protocol.specs.Packet.{packet, lengthOf, accepts, addressAt, identifierAt, contentAt, rightAt, endAt}
 use Rattle.protocol.specs.Finder.{findOf}
@@ -65,7 +65,7 @@ parts-split a (suc k) n s = ap (λ (t : List (List ℕ)). take n s ∷ t) (parts
 
 -- ---- the data packets read back
 
-module _ (a : List ℕ) (h : length a ≡ wordBytes) (n : ℕ) (carries : T (accepts dataPacket (n + 2))) (ends : T (accepts lastPacket (n + 2))) where
+module _ (a : List ℕ) (h : length a ≡ fourBytes) (n : ℕ) (carries : T (accepts dataPacket (n + 2))) (ends : T (accepts lastPacket (n + 2))) where
   either : (k : ℕ) → T (accepts (cond (eqb k 0) lastPacket dataPacket) (n + 2))
   either zero = ends
   either (suc k) = rw (eqb·suc-zero k) carries
