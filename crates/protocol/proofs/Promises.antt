@@ -12,5 +12,6 @@ pub mod ReplyFits
 pub mod Download
 pub mod Upload
 pub mod Moves
+pub mod Switch
 pub mod Order
 pub mod OneResult

@@ -1,0 +1,57 @@
+-- Document 01: "Line switch: verified mark and filled marks cleared, transfer closed, both buffers zeroed." Whatever the settings were.
+use mathlib.Core.Bool.{Bool, true, false, _&&_, not}
+use mathlib.Core.Path.{_≡_, refl, ap, _∙_}
+use mathlib.Core.List.{List, []}
+use lib.Dec.{T}
+use Rattle.protocol.specs.Numbers.{pageBytes}
+use Rattle.protocol.specs.Bytes.{zeros}
+use Rattle.protocol.specs.Tests.{verdict}
+use Rattle.protocol.specs.Reader.{Transfer, closed, Plain, Guarded, Reader, keyed, locked, emptied, withMark, withTransfer}
+use Rattle.protocol.specs.Step.{wiped, switched}
+use Rattle.protocol.specs.Call.{fitBuffers, Told, Ended, switchRefusal, switchAs, switchOf}
+use Rattle.protocol.proofs.Laws.Logic.{T→true, and-i}
+
+pub record Wiped (r : Reader) (e : Ended) : Type 0 where
+  pub refusal : e .told .refusal ≡ 0
+  pub verified : e .after .plain .verified ≡ false
+  pub transfer : e .after .plain .transfer ≡ closed
+  pub filled1 : e .after .guarded .buffer1 .filled ≡ false
+  pub filled2 : e .after .guarded .buffer2 .filled ≡ false
+  pub buffer1 : e .after .guarded .buffer1 .bytes ≡ zeros pageBytes
+  pub buffer2 : e .after .guarded .buffer2 .bytes ≡ zeros pageBytes
+  -- the rest stays
+  pub templates : e .after .guarded .templates ≡ r .guarded .templates
+  pub index : e .after .guarded .index ≡ r .guarded .index
+  pub notepad : e .after .guarded .notepad ≡ r .guarded .notepad
+  pub password : e .after .plain .password ≡ r .plain .password
+  pub address : e .after .plain .address ≡ r .plain .address
+  pub level : e .after .plain .level ≡ r .plain .level
+  pub size : e .after .plain .size ≡ r .plain .size
+  pub baud : e .after .plain .baud ≡ r .plain .baud
+  pub sensor : e .after .plain .sensor ≡ r .plain .sensor
+  -- so a reader with a password is locked
+  pub locks : T (keyed (r .plain)) → T (locked (e .after .plain))
+
+pub switch-wipes : (r : Reader) → T (fitBuffers (r .guarded)) → Wiped r (switchOf r)
+unfolding switchOf switchAs switchRefusal verdict switched wiped emptied withMark withTransfer locked keyed
+switch-wipes r t =
+    rw (T→true (fitBuffers (r .guarded)) t)
+    record {
+      refusal = refl;
+      verified = refl;
+      transfer = refl;
+      filled1 = refl;
+      filled2 = refl;
+      buffer1 = refl;
+      buffer2 = refl;
+      templates = refl;
+      index = refl;
+      notepad = refl;
+      password = refl;
+      address = refl;
+      level = refl;
+      size = refl;
+      baud = refl;
+      sensor = refl;
+      locks = λ k. and-i (keyed (r .plain)) true k tt;
+    }
