@@ -15,3 +15,4 @@ pub mod Moves
 pub mod Switch
 pub mod Order
 pub mod OneResult
+pub mod Broken

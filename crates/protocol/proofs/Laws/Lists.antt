@@ -7,7 +7,7 @@ use native.Mathlib.Nat.{suc-mul, add-zero}
 use native.Mathlib.Omega.{arith}
 use lib.Dec.{eqb, eqb→eq}
 use lib.ListN.{length, getD, take, drop, length-append, length-take, length-drop, take-append-drop, drop-of-length-le}
-use lib.Seq.{take-at, take-append-le, take-append-seam, drop-append-le, drop-append-add, drop-drop, length-take-le}
+use lib.Seq.{take-at, take-append-le, take-append-seam, drop-append-seam, drop-append-le, drop-append-add, drop-drop, length-take-le}
 use Rattle.protocol.specs.Bytes.{two, part, zeros, same, lay, follow, joined, split}
 use Rattle.protocol.proofs.Laws.Logic.{T→true, and-l, and-r, eqb-same}
 
@@ -112,6 +112,10 @@ last-lay i s d h =
 pub take-lay : (s d : List ℕ) → take (length s) (lay 0 s d) ≡ s
 unfolding lay
 take-lay s d = take-append-seam s (drop (0 + length s) d)
+
+pub drop-lay : (s d : List ℕ) → drop (length s) (lay 0 s d) ≡ drop (length s) d
+unfolding lay
+drop-lay s d = let e : 0 + length s ≡ length s = omega arith in drop-append-seam s (drop (0 + length s) d) ∙ ap (λ (n : ℕ). drop n d) e
 
 pub lay-nothing : (i : ℕ) (d : List ℕ) → lay i [] d ≡ d
 unfolding lay

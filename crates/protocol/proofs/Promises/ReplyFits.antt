@@ -5,7 +5,7 @@ use mathlib.Core.List.{List, [], _∷_, _++_}
 use Prim.Native.Nat.{ℕ, zero, suc, _+_, _-_, _*_, _≤_}
 use native.Mathlib.Omega.{arith}
 use lib.Dec.{T, leb, leb→le}
-use lib.ListN.{length, length-append, length-take, length-drop}
+use lib.ListN.{length, drop, length-append, length-take, length-drop}
 use Rattle.protocol.specs.Numbers.{pageBytes, fourBytes, noteBytes, indexBytes, replyRoom, highestSize, done}
 use Rattle.protocol.specs.Bytes.{two, follow, joined}
 use Rattle.protocol.specs.Tests.{within}
@@ -14,9 +14,9 @@ use Rattle.protocol.specs.Commands.{Free, verifyPassword, handShake, Bar
 use Rattle.protocol.specs.Data.{acknowledge, dataPackets}
 use Rattle.protocol.specs.Table.{Row, rule, apply, second, Public, freeRule, publicOf}
 use Rattle.protocol.specs.Step.{Heard, order, piece, hear, Said, silence, says, carryAs, carryFree, rested, takeAs, answer, stepOf}
-use Rattle.protocol.specs.Call.{Shape, fitPlain, Told, Ended, refused, carried, callOf}
+use Rattle.protocol.specs.Call.{Shape, fitRoom, fitPlain, Told, Ended, refused, carried, callOf}
 use Rattle.protocol.proofs.Laws.Logic.{and-l, and-r, passed}
-use Rattle.protocol.proofs.Laws.Lists.{follow-append}
+use Rattle.protocol.proofs.Laws.Lists.{follow-append, length-lay, drop-lay}
 use Rattle.protocol.proofs.Laws.Commands.{Long, LongHeard, long-heard}
 use Rattle.protocol.proofs.Laws.Answers.{Kinds, answer-kinds, call-kinds}
 use Rattle.protocol.proofs.Laws.Legal.{buffer-long, Good}
@@ -98,3 +98,16 @@ module _ (σ : Shape) (ok : σ .most ≤ 8 * σ .indexed) where
   reply-fits r l s room =
       call-kinds σ r s room (λ (e : Ended). e .told .length ≤ replyRoom) (λ n. omega arith)
       (λ t u. answer-fits r (good σ ok r l) (hear (r .plain .address) s) (long-heard (r .plain .address) s))
+
+  -- "Reply room past the reply length keeps its bytes", and the room keeps its length
+  pub room-kept : (r : Reader) → Legal σ ok r → (s room : List ℕ)
+      → (drop (callOf σ r s room .told .length) (callOf σ r s room .told .room) ≡ drop (callOf σ r s room .told .length) room)
+      × (length (callOf σ r s room .told .room) ≡ length room)
+  unfolding refused carried stepOf fitRoom
+  room-kept r l s room =
+      call-kinds σ r s room (λ (e : Ended). (drop (e .told .length) (e .told .room) ≡ drop (e .told .length) room) × (length (e .told .room) ≡ length room))
+      (λ n. (refl, refl))
+      (λ t u.
+      let a : List ℕ = answer r (hear (r .plain .address) s) .reply in
+      let m : length a ≤ replyRoom = answer-fits r (good σ ok r l) (hear (r .plain .address) s) (long-heard (r .plain .address) s) in
+      (drop-lay a room, length-lay 0 a room (omega (arith, leb→le replyRoom (length room) u))))

@@ -20,7 +20,7 @@ use Rattle.protocol.specs.Commands.{barred, upChar, command}
 use Rattle.protocol.specs.Data.{acknowledge, packets, dataPackets}
 use Rattle.protocol.specs.Table.{isBuffer, second, rule, apply}
 use Rattle.protocol.specs.Step.{order, hear, carryAs, rested}
-use Rattle.protocol.specs.Call.{Shape, fitRoom, replyOf, carried, callOf}
+use Rattle.protocol.specs.Call.{Shape, fitRoom, Ended, replyOf, carried, callOf}
 use Rattle.protocol.proofs.Laws.Logic.{and-i}
 use Rattle.protocol.proofs.Laws.Lists.{follow-append, split-joined, take-lay}
 use Rattle.protocol.proofs.Laws.Finder.{length-packet}
@@ -91,17 +91,21 @@ module _ (a : List ℕ) (h : length a ≡ fourBytes) (n : ℕ) (carries : T (acc
 
 -- ---- UpChar
 
--- the reply is an acknowledge and these bytes, which read back as the parts of the template s in packets of n bytes; joined they are s
-pub record Uploads (a : List ℕ) (n : ℕ) (s reply : List ℕ) : Type 0 where
-  pub sent : List ℕ
-  pub reads : reply ≡ acknowledge a done [] ++ sent
-  pub back : readAll (pageBytes / n) sent ≡ parts a (pageBytes / n) n s
-  pub whole : joined (map (λ (x : Read). x .content) (readAll (pageBytes / n) sent)) ≡ s
+-- the reply is an acknowledge and the data packets of the template s in one size; they read back as its parts, which joined are s; and
+-- nothing changes
+pub record Uploads (r : Reader) (s : List ℕ) (e : Ended) : Type 0 where
+  pub reply : replyOf (e .told) ≡ acknowledge (r .plain .address) done [] ++ dataPackets (r .plain .address) (sizeOf (r .plain .size)) s
+  pub back :
+      readAll (pageBytes / sizeOf (r .plain .size)) (dataPackets (r .plain .address) (sizeOf (r .plain .size)) s)
+      ≡ parts (r .plain .address) (pageBytes / sizeOf (r .plain .size)) (sizeOf (r .plain .size)) s
+  pub whole :
+      joined (map (λ (x : Read). x .content) (readAll (pageBytes / sizeOf (r .plain .size)) (dataPackets (r .plain .address) (sizeOf (r .plain .size)) s))) ≡ s
+  pub after : e .after ≡ r
 
 module _ (σ : Shape) (ok : σ .most ≤ 8 * σ .indexed) where
   pub upload : (r : Reader) → Legal σ ok r → locked (r .plain) ≡ false → (b : ℕ) → T (isBuffer b) → (d room : List ℕ) → T (fitRoom room)
       → hear (r .plain .address) d ≡ order (command (barred (upChar b))) → T (bufferOf (second b) (rested r .guarded) .filled)
-      → Uploads (rested r .plain .address) (sizeOf (rested r .plain .size)) (bufferOf (second b) (rested r .guarded) .bytes) (replyOf (callOf σ r d room .told))
+      → Uploads (rested r) (bufferOf (second b) (rested r .guarded) .bytes) (callOf σ r d room)
   unfolding carried replyOf carryAs rule apply dataPackets
   upload r l u b i d room v h m =
       let t : Reader = rested r in
@@ -113,9 +117,15 @@ module _ (σ : Shape) (ok : σ .most ≤ 8 * σ .indexed) where
       let sent : List ℕ = dataPackets a n s in
       let long : length s ≡ pageBytes / n * n = buffer-long (second b) (t .guarded) (k .buffers) ∙ sym (z .whole) ∙ ap (λ (q : ℕ). q * n) (sym (z .count)) in
       let back : readAll (pageBytes / n) sent ≡ parts a (pageBytes / n) n s = packets-read a (k .typed .address) n (z .carries) (z .ends) (pageBytes / n) s long in
+      let call =
+      obeyed σ r d room (l .legal) v u (upChar b) h
+      (and-i (isBuffer b) (bufferOf (second b) (t .guarded) .filled && true) i (and-i (bufferOf (second b) (t .guarded) .filled) true m tt))
+      in
       record {
-        sent = sent;
-        reads = rw (obeyed σ r d room (l .legal) v u (upChar b) h (and-i (isBuffer b) (bufferOf (second b) (t .guarded) .filled && true) i (and-i (bufferOf (second b) (t .guarded) .filled) true m tt)), take-lay) (follow-append (acknowledge a done []) sent);
+        reply = rw (call, take-lay) (follow-append (acknowledge a done []) sent);
         back = back;
-        whole = ap (λ (x : List Read). joined (map (λ (y : Read). y .content) x)) back ∙ ap joined (parts-split a (pageBytes / n) n s) ∙ split-joined (pageBytes / n) n s long;
+        whole =
+            ap (λ (x : List Read). joined (map (λ (y : Read). y .content) x)) back ∙ ap joined (parts-split a (pageBytes / n) n s)
+            ∙ split-joined (pageBytes / n) n s long;
+        after = ap (λ (e : Ended). e .after) call;
       }

@@ -6,7 +6,7 @@ use mathlib.Core.List.{List, [], _∷_}
 use Prim.Native.Nat.{ℕ, zero, suc, _+_, _-_, _≤_, _<_}
 use native.Mathlib.Omega.{arith}
 use lib.Dec.{T, eqb, ltb}
-use borrow.Author.Tests.{ltb-true, eqb-true}
+use borrow.Author.Tests.{ltb-true, eqb-true, lt-ltb}
 use lib.ListN.{length}
 use Rattle.protocol.specs.declared.Start.{Start}
 use Rattle.protocol.specs.declared.Start.the-variants.{Nowhere, At}
@@ -15,10 +15,11 @@ use Rattle.protocol.specs.declared.Found.the-variants.{Noise, Unfinished
 use Rattle.protocol.specs.Numbers.{firstMark, headBytes, longest}
 use Rattle.protocol.specs.Bytes.{byteAt}
 use Rattle.protocol.specs.Packet.{accepts, identifierAt, lengthAt, endAt}
-use Rattle.protocol.specs.Finder.{marksAt, startOf, allBut, findFrom, findOf, usedOf}
+use Rattle.protocol.specs.Finder.{marksAt, later, startOf, allBut, findFrom, findOf, usedOf}
 use Rattle.protocol.specs.Reader.{Reader}
 use Rattle.protocol.specs.Step.{stepOf}
 use Rattle.protocol.specs.Call.{Shape, Ended, Told, refusalOf, callAs, callOf, refused, carried}
+use Rattle.protocol.proofs.Laws.Logic.{T→true}
 use Rattle.protocol.proofs.Laws.Finder.{FirstStart, start-first, accepts-most}
 
 -- a packet that starts at place 0 and is not all there: its head is short, or its content and sum are
@@ -82,3 +83,32 @@ zero-used σ r s room = go (refusalOf σ r room)
     go : (k : ℕ) → callAs r s room k .told .used ≡ 0 → (callAs r s room k .told .refusal ≢ 0) ⊎ Waiting s
     go zero z = inr (found-waits s z)
     go (suc k) z = inl (λ e. absurd (omega arith))
+
+-- ---- and of those three runs a call that is not refused uses nothing
+
+starts-first : (s : List ℕ) → marksAt s 0 ≡ true → startOf s ≡ At 0
+unfolding startOf marksAt
+starts-first [] m = cc
+starts-first (b ∷ s) m = rw m refl
+
+waits-unused : (s : List ℕ) → Waiting s → usedOf (findOf s) ≡ 0
+unfolding findOf findFrom usedOf startOf later marksAt allBut
+waits-unused s (inl e) = rw e refl
+waits-unused s (inr (inl e)) = rw e refl
+waits-unused s (inr (inr w)) = rw (starts-first s (w .starts)) (go (w .short))
+  where
+    go : (length s < headBytes) ⊎ (T (accepts (identifierAt s 0) (lengthAt s 0)) × (length s < endAt 0 (lengthAt s 0))) → usedOf (findFrom s (At 0)) ≡ 0
+    go (inl l) = rw (lt-ltb (length s) headBytes l) refl
+    go (inr l) = either (ltb (length s) (0 + headBytes))
+      where
+        either : (b : Bool) → usedOf (cond b (Unfinished 0) (cond (accepts (identifierAt s 0) (lengthAt s 0)) (cond (ltb (length s) (endAt 0 (lengthAt s 0))) (Unfinished 0) (Whole 0 (lengthAt s 0))) (Unfit 0))) ≡ 0
+        either true = refl
+        either false = rw (T→true (accepts (identifierAt s 0) (lengthAt s 0)) (l .0), lt-ltb (length s) (endAt 0 (lengthAt s 0)) (l .1)) refl
+
+pub waiting-unused : (σ : Shape) (r : Reader) (s room : List ℕ) → Waiting s → callOf σ r s room .told .used ≡ 0
+unfolding callOf callAs refused carried stepOf
+waiting-unused σ r s room w = go (refusalOf σ r room)
+  where
+    go : (k : ℕ) → callAs r s room k .told .used ≡ 0
+    go zero = waits-unused s w
+    go (suc k) = refl
