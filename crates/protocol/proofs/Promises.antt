@@ -16,3 +16,5 @@ pub mod Switch
 pub mod Order
 pub mod OneResult
 pub mod Broken
+pub mod Settings
+pub mod Parameters

@@ -7,9 +7,9 @@ use lib.Dec.{eqb, ltb, leb}
 use lib.ListN.{length, take}
 use Rattle.protocol.specs.Numbers.{pageBytes, fourBytes, replyRoom, lowestLevel, highestLevel, lowestBaud, highestBaud, highestSize, badLength, badRoom, badSetting}
 use Rattle.protocol.specs.Bytes.{Bytes, lay}
-use Rattle.protocol.specs.Tests.{Test, verdict, within}
+use Rattle.protocol.specs.Tests.{verdict, within}
 use Rattle.protocol.specs.Index.{clearFrom}
-use Rattle.protocol.specs.Reader.{Transfer, closed, opened, unfit, Plain, Buffer, Guarded, Reader, capacity, sizeOf, locked, bufferOf}
+use Rattle.protocol.specs.Reader.{Transfer, closed, opened, unfit, Plain, Guarded, Reader, capacity, sizeOf, locked, bufferOf}
 use Rattle.protocol.specs.Step.{Outcome, stepOf, switched}
 
 -- ---- legal readers

@@ -1,9 +1,9 @@
 -- The sixteen commands: document 01's table, left half. Each code fixes its length field, and says where its parameters lie in the content.
 use mathlib.Core.Bool.{Bool, cond}
 use mathlib.Core.List.{List, [], _∷_}
-use Prim.Native.Nat.{ℕ, _+_}
+use Prim.Native.Nat.{ℕ}
 use lib.Dec.{eqb}
-use lib.ListN.{length, drop}
+use lib.ListN.{drop}
 use Rattle.protocol.specs.Bytes.{byteAt, wordAt}
 use Rattle.protocol.specs.Packet.{lengthOf}
 

@@ -1,5 +1,5 @@
 -- Sequences of calls and line switches: the dialogue up to the first accepted password, and the library's history as its host saw it.
-use mathlib.Core.Bool.{Bool, true, false, _&&_, _||_, not, cond}
+use mathlib.Core.Bool.{Bool, false, _&&_, _||_, not, cond}
 use mathlib.Core.List.{List, [], _∷_, _++_}
 use Prim.Native.Nat.{ℕ}
 use lib.Dec.{eqb}
@@ -11,7 +11,7 @@ use Rattle.protocol.specs.Tests.{among}
 use Rattle.protocol.specs.Packet.{addressAt}
 use Rattle.protocol.specs.Finder.{findOf}
 use Rattle.protocol.specs.Reader.{Guarded, Reader}
-use Rattle.protocol.specs.Commands.{Command, free, barred, Barred, store, loadChar, upChar, downChar, deletChar, empty, setSysPara, readSysPara, setPassword, setAddress, writeNotepad, readNotepad, templeteNum, readIndexTable, Order, damaged, unknown, misfit, command}
+use Rattle.protocol.specs.Commands.{free, barred, Barred, store, loadChar, upChar, downChar, deletChar, empty, setSysPara, readSysPara, setPassword, setAddress, writeNotepad, readNotepad, templeteNum, readIndexTable, damaged, unknown, misfit, command}
 use Rattle.protocol.specs.Data.{acknowledge}
 use Rattle.protocol.specs.Step.{Heard, nothing, order, piece, hear, wiped}
 use Rattle.protocol.specs.Call.{Shape, Told, Ended, replyOf, callOf, switchOf}

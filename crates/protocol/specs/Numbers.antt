@@ -1,5 +1,5 @@
 -- The numbers of document 01, each named once.
-use Prim.Native.Nat.{ℕ, _+_}
+use Prim.Native.Nat.{ℕ}
 
 -- ---- lent memory
 

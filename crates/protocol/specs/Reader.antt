@@ -1,9 +1,9 @@
 -- A reader: its settings and its lent memory, split as document 01 splits them into what is guarded and the rest.
 use mathlib.Core.Bool.{Bool, true, false, _&&_, not, cond}
-use mathlib.Core.List.{List, [], _∷_}
+use mathlib.Core.List.{List}
 use Prim.Native.Nat.{ℕ, _+_, _*_, _/_, _^_}
 use lib.ListN.{length}
-use Rattle.protocol.specs.Numbers.{pageBytes, fourBytes}
+use Rattle.protocol.specs.Numbers.{pageBytes}
 use Rattle.protocol.specs.Bytes.{four, zeros, same}
 
 -- a transfer: none, or into a buffer (the second?) with the bytes got so far

@@ -7,8 +7,8 @@ use Rattle.protocol.specs.declared.Called.{Called}
 use Rattle.protocol.specs.declared.Switched.{Switched}
 use Rattle.protocol.specs.declared.Built.{Built}
 use Rattle.protocol.specs.Packet.{Made}
-use Rattle.protocol.specs.Reader.{Transfer, closed, opened, unfit, Plain, Buffer, Guarded, Reader, settings, fresh, contents, reader}
-use Rattle.protocol.specs.Call.{Told, Ended}
+use Rattle.protocol.specs.Reader.{Transfer, closed, opened, unfit, Plain, Buffer, Reader, settings, fresh, contents, reader}
+use Rattle.protocol.specs.Call.{Ended}
 
 -- the transfer of the settings' two numbers: the buffer's, and the bytes got so far; none is 0 and 0
 unfoldable pub transferOf : ℕ → ℕ → Transfer

@@ -1,5 +1,5 @@
 -- The sixteen commands: document 01's table, right half. Each row's tests, left to right, and its effect.
-use mathlib.Core.Bool.{Bool, true, false, _&&_, _||_, cond}
+use mathlib.Core.Bool.{Bool, _&&_, _||_, cond}
 use mathlib.Core.List.{List, [], _∷_}
 use Prim.Native.Nat.{ℕ, _+_, _*_, _/_}
 use lib.Dec.{eqb, ltb, leb}
@@ -8,7 +8,7 @@ use Rattle.protocol.specs.Numbers.{pageBytes, noteBytes, indexBytes, low
 use Rattle.protocol.specs.Bytes.{two, part, zeros, same, lay, joined}
 use Rattle.protocol.specs.Tests.{Test, within}
 use Rattle.protocol.specs.Index.{stored, setBit, clearBits, setBits}
-use Rattle.protocol.specs.Reader.{Transfer, opened, Plain, Buffer, Guarded, Reader, capacity, sizeOf, bufferOf, emptied, filledWith, withMark, withTransfer, withPassword, withAddress, withTuning, withLibrary, withNotepad, withBuffer, reader}
+use Rattle.protocol.specs.Reader.{opened, Plain, Reader, capacity, sizeOf, bufferOf, emptied, filledWith, withMark, withTransfer, withPassword, withAddress, withTuning, withLibrary, withNotepad, withBuffer, reader}
 use Rattle.protocol.specs.Commands.{Free, verifyPassword, handShake, Barred, store, loadChar, upChar, downChar, deletChar, empty, setSysPara, readSysPara, setPassword, setAddress, writeNotepad, readNotepad, templeteNum, readIndexTable}
 use Rattle.protocol.specs.Data.{dataPackets}
 

@@ -1,6 +1,6 @@
 -- The one principle of a call: refused, or an answer of five kinds. What holds of each kind holds of every answer.
-use mathlib.Core.Bool.{Bool, true, false, _&&_, cond}
-use mathlib.Core.Path.{_≡_, refl, sym, ap, _∙_, subst}
+use mathlib.Core.Bool.{Bool, true, false, cond}
+use mathlib.Core.Path.{_≡_, refl, ap, _∙_, subst}
 use mathlib.Core.List.{List, [], _∷_}
 use Prim.Native.Nat.{ℕ, zero, suc, _-_}
 use lib.Dec.{T}
@@ -8,8 +8,8 @@ use Rattle.protocol.specs.Numbers.{badRoom, badPacket, transferFailed, u
 use Rattle.protocol.specs.Tests.{verdict}
 use Rattle.protocol.specs.Finder.{findOf, usedOf}
 use Rattle.protocol.specs.Reader.{Transfer, closed, opened, unfit, Reader, keyed, locked, withTransfer, withBuffer}
-use Rattle.protocol.specs.Commands.{Free, Barred, Command, free, barred, Order, damaged, unknown, misfit, command}
-use Rattle.protocol.specs.Table.{Row, rule, freeRule, publicOf}
+use Rattle.protocol.specs.Commands.{Free, Barred, free, barred, damaged, unknown, misfit, command}
+use Rattle.protocol.specs.Table.{rule, freeRule, publicOf}
 use Rattle.protocol.specs.Step.{Heard, nothing, order, piece, hear, Said, silence, says, carryAs, carry, carryFree, obey, heed, ended, rested, fits, takeAs, takeIn, answer, stepOf}
 use Rattle.protocol.specs.Call.{Shape, fitLengths, fitRoom, sound, legal, Ended, refusalOf, refused, carried, callAs, callOf}
 use Rattle.protocol.proofs.Laws.Logic.{T→true, and-l, and-r, and-i, passed, verdict-passed, passed-verdict}

@@ -1,6 +1,6 @@
 -- A byte's bits: set, cleared, read by shift and mask, and counted. Each law is a test that the checker computes at every byte.
-use mathlib.Core.Bool.{Bool, true, false, _&&_, cond}
-use mathlib.Core.Path.{_≡_, refl}
+use mathlib.Core.Bool.{Bool, true, false, cond}
+use mathlib.Core.Path.{_≡_}
 use Prim.Native.Nat.{ℕ, _+_, _-_, _*_, _/_, _%_, _^_, _<_}
 use lib.Dec.{T, eqb, ltb, eqb→eq, ltb→lt}
 use lib.Bits.{bitAnd, bitOr, and-mask}

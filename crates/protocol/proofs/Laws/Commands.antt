@@ -14,7 +14,7 @@ use Rattle.protocol.specs.Bytes.{byteAt, same}
 use Rattle.protocol.specs.Packet.{lengthOf, addressAt, identifierAt, contentAt, rightAt}
 use Rattle.protocol.specs.Finder.{findOf}
 use Rattle.protocol.specs.Reader.{Reader}
-use Rattle.protocol.specs.Commands.{Free, verifyPassword, handShake, Barred, store, loadChar, upChar, downChar, deletChar, empty, setSysPara, readSysPara, setPassword, setAddress, writeNotepad, readNotepad, templeteNum, readIndexTable, Command, free, barred, Entry, commands, Known, none, some, rowOf, Order, damaged, unknown, misfit, command, orderAs, orderOf}
+use Rattle.protocol.specs.Commands.{Barred, store, loadChar, upChar, downChar, deletChar, empty, setSysPara, readSysPara, setPassword, setAddress, writeNotepad, readNotepad, templeteNum, readIndexTable, Command, free, barred, Entry, commands, Known, none, some, rowOf, damaged, unknown, misfit, command, orderAs, orderOf}
 use Rattle.protocol.specs.Table.{rule}
 use Rattle.protocol.specs.Step.{Heard, nothing, order, piece, hearAs, hearAt, hear}
 use Rattle.protocol.proofs.Laws.Logic.{numbered}

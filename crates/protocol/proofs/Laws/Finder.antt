@@ -11,10 +11,9 @@ use borrow.Author.Tests.{le-ltb}
 use lib.ListN.{length, length-append, List·getD-eq-default}
 use Rattle.protocol.specs.declared.Start.{Start}
 use Rattle.protocol.specs.declared.Start.the-variants.{Nowhere, At}
-use Rattle.protocol.specs.declared.Found.{Found}
-use Rattle.protocol.specs.declared.Found.the-variants.{Noise, Unfinished, Unfit, Whole}
+use Rattle.protocol.specs.declared.Found.the-variants.{Whole}
 use Rattle.protocol.specs.Numbers.{firstMark, secondMark, headBytes, frameBytes, fourBytes, shortest, longest}
-use Rattle.protocol.specs.Bytes.{two, byteAt, same}
+use Rattle.protocol.specs.Bytes.{two, byteAt}
 use Rattle.protocol.specs.Packet.{packet, isIdentifier, limit, accepts, addressAt, identifierAt, lengthAt, contentAt, endAt, rightAt}
 use Rattle.protocol.specs.Finder.{marksAt, later, startOf, findFrom}
 use Rattle.protocol.specs.Step.{hearAs, hearAt}

@@ -1,21 +1,21 @@
 -- The index: what setting and clearing bits does to the pages stored. Every law is over any index of bytes.
 use mathlib.Core.Bool.{Bool, true, false, _&&_, _||_, not, cond}
-use mathlib.Core.Path.{_≡_, refl, sym, ap, _∙_, subst}
-use mathlib.Core.Logic.{_⊎_, inl, inr, _≢_}
-use mathlib.Core.List.{List, [], _∷_}
+use mathlib.Core.Path.{_≡_, refl, sym, ap, _∙_}
+use mathlib.Core.Logic.{_≢_}
+use mathlib.Core.List.{List}
 use Prim.Native.Nat.{ℕ, zero, suc, _+_, _-_, _*_, _/_, _%_, _^_, _≤_, _<_}
 use native.Mathlib.Nat.{zero-div}
 use native.Mathlib.Omega.{arith}
 use native.Mathlib.Decide.{ℕ-discrete, decLe, decLt}
-use lib.Dec.{T, eqb, leb, ltb, lit<}
+use lib.Dec.{T, eqb, lit<}
 use borrow.Author.Tests.{le-leb, lt-leb, lt-ltb, le-ltb, ne-eqb}
 use lib.Bits.{bitAnd, bitOr}
-use lib.ListN.{length, getD, set, length-set, length-replicate, getD-replicate, List·getD-eq-default}
+use lib.ListN.{length, set, length-set, length-replicate}
 use lib.Seq.{getD-set-same, getD-set-other, set-out, set-getD}
 use Rattle.protocol.specs.Bytes.{Bytes, byteAt, zeros}
 use Rattle.protocol.specs.Tests.{among}
 use Rattle.protocol.specs.Index.{bit, stored, setBit, clearBit, clearBits, bits, clearFrom}
-use Rattle.protocol.proofs.Laws.Logic.{T→true, T→false, and-l, and-r, eqb-same, every-at, every-of}
+use Rattle.protocol.proofs.Laws.Logic.{T→false, eqb-same, every-at, every-of}
 use Rattle.protocol.proofs.Laws.Bits.{or-bit, and-bit, bit-less, bit-more, more-byte}
 
 -- an index of n bytes

@@ -1,26 +1,25 @@
 -- Legal readers: the facts that a legal reader has, and that every answer keeps them.
-use mathlib.Core.Bool.{Bool, true, false, _&&_, _||_, not, cond}
+use mathlib.Core.Bool.{Bool, true, false, not, cond}
 use mathlib.Core.Path.{_≡_, refl, sym, ap, _∙_, subst}
-use mathlib.Core.List.{List, [], _∷_}
-use Prim.Native.Nat.{ℕ, zero, suc, _+_, _-_, _*_, _/_, _%_, _≤_, _<_}
-use native.Mathlib.Nat.{zero-mod, add-mod-right}
+use mathlib.Core.List.{List}
+use Prim.Native.Nat.{ℕ, _+_, _-_, _*_, _/_, _%_, _≤_, _<_}
+use native.Mathlib.Nat.{zero-mod}
 use native.Mathlib.Omega.{arith}
-use lib.Dec.{T, eqb, ltb, leb, eqb→eq, leb→le, le→leb, ltb→lt}
+use lib.Dec.{T, eqb, ltb, eqb→eq, leb→le, le→leb, ltb→lt}
 use borrow.Author.Tests.{ne-eqb, lt-ltb}
-use lib.ListN.{length, take, drop, length-take, length-drop, length-replicate}
-use Rattle.protocol.specs.Numbers.{pageBytes, noteBytes, fourBytes, highestSize, baudParameter, levelParameter}
-use Rattle.protocol.specs.Bytes.{Bytes, part, zeros, same, lay}
+use lib.ListN.{length, length-replicate}
+use Rattle.protocol.specs.Numbers.{pageBytes, fourBytes}
+use Rattle.protocol.specs.Bytes.{zeros, lay}
 use Rattle.protocol.specs.Tests.{within, among}
 use Rattle.protocol.specs.Index.{stored, setBit, clearBits, bits, clearFrom}
-use Rattle.protocol.specs.Reader.{Transfer, closed, opened, unfit, Plain, Buffer, Guarded, Reader, capacity, sizeOf, keyed, locked, bufferOf, emptied, filledWith, withMark, withTransfer, withPassword, withAddress, withTuning, withLibrary, withNotepad, withBuffer, reader}
-use Rattle.protocol.specs.Commands.{Free, verifyPassword, handShake, Barred, store, loadChar, upChar, downChar, deletChar, empty, setSysPara, readSysPara, setPassword, setAddress, writeNotepad, readNotepad, templeteNum, readIndexTable, Command, free, barred, Order, command}
-use Rattle.protocol.specs.Table.{Effect, keep, fillPage, erase, eraseAll, fillBuffer, await, note, settle, apply, second, inRange, withParameter, rule, freeRule, publicOf}
-use Rattle.protocol.specs.Step.{Heard, order, hear, Said, silence, says, carryAs, carryFree, ended, rested, fits, takeAs, answer, stepOf, wiped, switched}
+use Rattle.protocol.specs.Reader.{Transfer, closed, opened, Plain, Buffer, Guarded, Reader, capacity, sizeOf, keyed, locked, bufferOf, emptied, filledWith, withTransfer, withLibrary, withNotepad, withBuffer, reader}
+use Rattle.protocol.specs.Commands.{free}
+use Rattle.protocol.specs.Table.{Effect, keep, fillPage, erase, eraseAll, fillBuffer, await, note, settle, apply}
+use Rattle.protocol.specs.Step.{fits}
 use Rattle.protocol.specs.Call.{Shape, fitLibrary, fitBuffers, fitLengths, fitPlain, fitTransfer, sound, legal, Typed}
-use Rattle.protocol.proofs.Laws.Logic.{T→true, T→false, and-l, and-r, and-i, and-false, or-false, eq→eqb, passed}
+use Rattle.protocol.proofs.Laws.Logic.{T→false, and-l, and-r, and-i, and-false, or-false, eq→eqb}
 use Rattle.protocol.proofs.Laws.Lists.{length-lay}
 use Rattle.protocol.proofs.Laws.Index.{Fine, stored-with, stored-span, stored-zeros, fine-with, fine-span, fine-zeros, clear-from, clear-to}
-use Rattle.protocol.proofs.Laws.Commands.{Long, LongHeard}
 use Rattle.protocol.proofs.Laws.Effects.{buffer-same}
 
 -- ---- buffers

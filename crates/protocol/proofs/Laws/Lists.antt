@@ -1,14 +1,14 @@
 -- Lists of bytes: comparison, parts, one list laid over another, split and joined.
-use mathlib.Core.Bool.{Bool, true, false, _&&_}
+use mathlib.Core.Bool.{true}
 use mathlib.Core.Path.{_≡_, refl, sym, ap, ap₂, _∙_}
 use mathlib.Core.List.{List, [], _∷_, _++_, append-assoc, append-nil}
 use Prim.Native.Nat.{ℕ, zero, suc, _+_, _-_, _*_, _/_, _%_, _≤_, _<_}
 use native.Mathlib.Nat.{suc-mul, add-zero}
 use native.Mathlib.Omega.{arith}
 use lib.Dec.{eqb, eqb→eq}
-use lib.ListN.{length, getD, take, drop, length-append, length-take, length-drop, take-append-drop, drop-of-length-le}
+use lib.ListN.{length, take, drop, length-append, length-take, length-drop, take-append-drop, drop-of-length-le}
 use lib.Seq.{take-at, take-append-le, take-append-seam, drop-append-seam, drop-append-le, drop-append-add, drop-drop, length-take-le}
-use Rattle.protocol.specs.Bytes.{two, part, zeros, same, lay, follow, joined, split}
+use Rattle.protocol.specs.Bytes.{part, zeros, same, lay, follow, joined, split}
 use Rattle.protocol.proofs.Laws.Logic.{T→true, and-l, and-r, eqb-same}
 
 -- ---- comparison

@@ -1,19 +1,19 @@
 -- A legal locked reader: what it answers, and the settings after it, go by what is public alone; its guarded contents stay.
-use mathlib.Core.Bool.{Bool, true, false, _&&_, not, cond}
+use mathlib.Core.Bool.{Bool, true, false, not, cond}
 use mathlib.Core.Path.{_≡_, refl, sym, ap, ap₂, _∙_}
 use mathlib.Core.List.{List, []}
 use Prim.Native.Nat.{ℕ}
 use lib.Dec.{T, T-not}
 use lib.ListN.{length}
 use Rattle.protocol.specs.Numbers.{badPacket, unknownCommand, passwordFirst, badRoom}
-use Rattle.protocol.specs.Bytes.{same, lay}
+use Rattle.protocol.specs.Bytes.{lay}
 use Rattle.protocol.specs.Finder.{findOf, usedOf}
-use Rattle.protocol.specs.Reader.{Transfer, closed, opened, unfit, Plain, Guarded, Reader, capacity, keyed, locked, withMark, withTransfer, reader, emptied, contents}
-use Rattle.protocol.specs.Commands.{Free, verifyPassword, handShake, Barred, Command, free, barred, Order, damaged, unknown, misfit, command}
+use Rattle.protocol.specs.Reader.{Transfer, closed, opened, unfit, Plain, Guarded, Reader, capacity, keyed, locked, withMark, withTransfer, reader, emptied}
+use Rattle.protocol.specs.Commands.{verifyPassword, handShake, free, barred, damaged, unknown, misfit, command}
 use Rattle.protocol.specs.Data.{acknowledge}
-use Rattle.protocol.specs.Table.{rule, Public, FreeRow, freeRule, publicOf}
-use Rattle.protocol.specs.Step.{Heard, nothing, order, piece, hear, Said, silence, says, carry, carryFree, obey, heed, ended, rested, takeIn, answer, Outcome, stepOf, wiped, switched}
-use Rattle.protocol.specs.Call.{Shape, fitBuffers, fitRoom, fitPlain, fitTransfer, fitLibrary, fitLengths, sound, legal, Told, Ended, refused, carried, callOf, switchRefusal, switchAs, switchOf}
+use Rattle.protocol.specs.Table.{rule, Public, freeRule, publicOf}
+use Rattle.protocol.specs.Step.{Heard, nothing, order, piece, hear, Said, silence, says, carry, carryFree, obey, heed, ended, rested, takeIn, answer, stepOf, wiped, switched}
+use Rattle.protocol.specs.Call.{Shape, fitBuffers, fitRoom, fitTransfer, fitLibrary, fitLengths, sound, legal, Told, Ended, refused, carried, callOf, switchRefusal, switchAs, switchOf}
 use Rattle.protocol.proofs.Laws.Logic.{T→true, T→false, and-l, and-r, and-i}
 use Rattle.protocol.proofs.Laws.Answers.{call-legal, call-short}
 use Rattle.protocol.proofs.Laws.Legal.{fit-closed}

@@ -1,20 +1,20 @@
 -- Steps 6 and 7 where a transfer does not go on: identifier 1 ends it, a data packet that does not fit ends it with 0Eh, and without a
 -- transfer a data packet is silent.
-use mathlib.Core.Bool.{Bool, true, false, _&&_, cond}
-use mathlib.Core.Path.{_≡_, refl, sym, ap, _∙_}
+use mathlib.Core.Bool.{Bool, true, false, cond}
+use mathlib.Core.Path.{_≡_, refl, ap, _∙_}
 use mathlib.Core.List.{List, []}
-use Prim.Native.Nat.{ℕ, zero, suc, _+_, _<_}
+use Prim.Native.Nat.{ℕ, _+_, _<_}
 use lib.Dec.{T, eqb, ltb, eqb→eq, ltb→lt}
 use lib.ListN.{length}
 use Rattle.protocol.specs.Numbers.{pageBytes, transferFailed}
-use Rattle.protocol.specs.Reader.{Transfer, closed, opened, Plain, Buffer, Guarded, Reader, sizeOf, emptied, withTransfer, withBuffer, reader}
+use Rattle.protocol.specs.Reader.{closed, opened, Plain, Reader, sizeOf, emptied, withTransfer, withBuffer, reader}
 use Rattle.protocol.specs.Data.{acknowledge}
 use Rattle.protocol.specs.Step.{piece, hear, silence, says, ended, rested, fits, takeAs, takeIn, answer, stepOf}
-use Rattle.protocol.specs.Call.{Shape, fitRoom, legal, Told, Ended, replyOf, carried, callOf}
-use Rattle.protocol.proofs.Laws.Logic.{T→true, and-l, and-r}
+use Rattle.protocol.specs.Call.{Shape, fitRoom, legal, Ended, replyOf, carried, callOf}
+use Rattle.protocol.proofs.Laws.Logic.{T→true, and-l}
 use Rattle.protocol.proofs.Laws.Lists.{take-lay}
 use Rattle.protocol.proofs.Laws.Answers.{call-legal}
-use Rattle.protocol.proofs.Laws.Legal.{fitting, Fitting}
+use Rattle.protocol.proofs.Laws.Legal.{fitting}
 
 -- the transfer closed, its buffer zeroed and unmarked, all else as it was
 abbrev pub stopped : Bool → Reader → Reader

@@ -1,37 +1,37 @@
 -- A download: data packets of a template, sent one to a call, give the buffer those bytes, whatever the size. Proved once over the size.
-use mathlib.Core.Bool.{Bool, true, false, _&&_, cond}
+use mathlib.Core.Bool.{Bool, true, false, cond}
 use mathlib.Core.Path.{_≡_, refl, sym, ap, ap₂, _∙_, subst}
 use mathlib.Core.List.{List, [], _∷_, _++_, append-assoc}
 use Prim.Native.Nat.{ℕ, zero, suc, _+_, _-_, _*_, _/_, _≤_, _<_}
 use native.Mathlib.Omega.{arith}
-use lib.Dec.{T, eqb, ltb, eqb·suc-zero}
-use borrow.Author.Tests.{lt-ltb, eq-eqb}
+use lib.Dec.{T, eqb, eqb·suc-zero}
+use borrow.Author.Tests.{lt-ltb}
 use lib.ListN.{length, take, drop, length-drop, take-append-drop}
 use lib.Seq.{take-all, length-take-le}
-use Rattle.protocol.specs.Numbers.{pageBytes, fourBytes, commandPacket, acknowledgePacket, dataPacket, lastPacket}
-use Rattle.protocol.specs.Bytes.{lay}
-use Rattle.protocol.specs.Packet.{packet, lengthOf, accepts, identifierAt, rightAt, contentAt}
-use Rattle.protocol.specs.Finder.{findOf}
+use Rattle.protocol.specs.Numbers.{pageBytes, fourBytes, dataPacket, lastPacket, done}
+use Rattle.protocol.specs.Bytes.{lay, follow}
+use Rattle.protocol.specs.Packet.{packet, lengthOf, accepts}
 use Rattle.protocol.specs.Reader.{Transfer, closed, opened, Plain, Buffer, Guarded, Reader, sizeOf, bufferOf, filledWith, emptied, locked, withTransfer, withBuffer, contents, reader}
 use Rattle.protocol.specs.Commands.{barred, downChar, command}
-use Rattle.protocol.specs.Data.{packets}
+use Rattle.protocol.specs.Data.{acknowledge, packets}
 use Rattle.protocol.specs.Table.{await, apply, isBuffer, second, rule}
-use Rattle.protocol.specs.Step.{Heard, order, piece, hearAs, hearAt, hear, Said, silence, carryAs, carry, obey, heed, ended, rested, fits, takeAs, takeIn, answer, stepOf}
-use Rattle.protocol.specs.Call.{Shape, fitRoom, fitTransfer, carried, callOf, Ended}
-use Rattle.protocol.specs.Dialogue.{Event, received, on, finally}
+use Rattle.protocol.specs.Step.{order, hearAs, hearAt, hear, silence, carryAs, rested, fits, takeAs, takeIn, answer, stepOf}
+use Rattle.protocol.specs.Call.{Shape, fitRoom, fitTransfer, replyOf, carried, callOf, Ended}
+use Rattle.protocol.specs.Dialogue.{Event, received, on, finally, Exchange, exchanges}
 use Rattle.protocol.proofs.Laws.Logic.{and-i, eqb-same}
-use Rattle.protocol.proofs.Laws.Lists.{length-lay, head-lay, last-lay}
+use Rattle.protocol.proofs.Laws.Lists.{length-lay, head-lay, last-lay, take-lay}
 use Rattle.protocol.proofs.Laws.Finder.{heard-at}
 use Rattle.protocol.proofs.Laws.Effects.{buffer-same}
 use Rattle.protocol.proofs.Laws.Answers.{call-legal, obeyed}
 use Rattle.protocol.proofs.Laws.Legal.{buffer-long, Good, Moving, moving}
-use Rattle.protocol.proofs.Laws.Sizes.{Size, sizes}
+use Rattle.protocol.proofs.Laws.Locked.{rested-still}
+use Rattle.protocol.proofs.Laws.Sizes.{Size}
 use Rattle.protocol.proofs.Promises.ReadBack.{ReadsAs, packet-reads}
 use Rattle.protocol.proofs.Promises.ReplyFits.{size-of}
 use Rattle.protocol.proofs.Promises.StaysLegal.{Legal, good, stays-legal}
 
 -- what a packet for the address a says to its reader
-heard-packet : (a : List ℕ) (i : ℕ) (c : List ℕ) → length a ≡ fourBytes → T (accepts i (lengthOf c)) → hear a (packet a i c) ≡ hearAs i true c
+pub heard-packet : (a : List ℕ) (i : ℕ) (c : List ℕ) → length a ≡ fourBytes → T (accepts i (lengthOf c)) → hear a (packet a i c) ≡ hearAs i true c
 unfolding hear
 heard-packet a i c h t =
     let s : List ℕ = packet a i c in
@@ -50,6 +50,11 @@ unfilled b = record { bytes = b; filled = false }
 unfoldable pub deliver : (ℕ → List ℕ) → List (List ℕ) → List Event
 deliver room [] = []
 deliver room (p ∷ ps) = received p (room (length ps)) ∷ deliver room ps
+
+-- every reply is silence
+abbrev pub Silent : List Exchange → Type 0
+Silent [] = Unit {0}
+Silent (x ∷ xs) = (x .reply ≡ []) × Silent xs
 
 module _ (p : Plain) (g : Guarded) (w : Bool) (h : length (p .address) ≡ fourBytes) where
   -- a transfer with the bytes got so far, and one that is through
@@ -80,11 +85,20 @@ module _ (p : Plain) (g : Guarded) (w : Bool) (h : length (p .address) ≡ fourB
         (ap (λ (f : Bool). reader (withTransfer (opened w (got + sizeOf (p .size))) p) (withBuffer w (laid f) (withBuffer w (unfilled b) g))) mark
         ∙ ap (reader (withTransfer (opened w (got + sizeOf (p .size))) p)) (again false))
 
+    more-silent : T (accepts dataPacket (sizeOf (p .size) + 2)) → got + sizeOf (p .size) < pageBytes → stepOf (under got b) (packet (p .address) dataPacket c) .reply ≡ []
+    unfolding stepOf answer hearAs takeIn takeAs silence fits withTransfer
+    more-silent t l =
+        rw (heard-packet (p .address) dataPacket c h (rw one t), one, eqb-same (sizeOf (p .size)), lt-ltb (got + sizeOf (p .size)) pageBytes l) refl
+
     last : T (accepts lastPacket (sizeOf (p .size) + 2)) → got + sizeOf (p .size) ≡ pageBytes
         → stepOf (under got b) (packet (p .address) lastPacket c) .after ≡ through (lay got c b)
     unfolding stepOf answer hearAs takeIn takeAs silence fits filledWith withTransfer laid
     last t l =
         rw (heard-packet (p .address) lastPacket c h (rw one t), one, eqb-same (sizeOf (p .size)), l) (ap (reader (withTransfer closed p)) (again true))
+
+    last-silent : T (accepts lastPacket (sizeOf (p .size) + 2)) → got + sizeOf (p .size) ≡ pageBytes → stepOf (under got b) (packet (p .address) lastPacket c) .reply ≡ []
+    unfolding stepOf answer hearAs takeIn takeAs silence fits withTransfer
+    last-silent t l = rw (heard-packet (p .address) lastPacket c h (rw one t), one, eqb-same (sizeOf (p .size)), l) refl
 
   -- ---- k + 1 packets to come
 
@@ -125,6 +139,31 @@ module _ (p : Plain) (g : Guarded) (w : Bool) (h : length (p .address) ≡ fourB
         (legally (under got b) (under (got + n) (lay got c b)) l (packet (p .address) dataPacket c) (length ps) next)
         ∙ ap through (ap (λ (t : List ℕ). t ++ drop n s) ahead ∙ append-assoc (take got b) c (drop n s) ∙ ap (λ (t : List ℕ). take got b ++ t) (take-append-drop n s))
 
+    quiet : (r : Reader) → Legal σ ok r → (s : List ℕ) (k : ℕ) → stepOf r s .reply ≡ [] → replyOf (callOf σ r s (room k) .told) ≡ []
+    unfolding carried replyOf
+    quiet r l s k e = rw (call-legal σ r s (room k) (l .legal) (f k), e) refl
+
+    feeding-silent : (k got : ℕ) (s b : List ℕ) → got + suc k * n ≡ pageBytes → length s ≡ suc k * n → length b ≡ pageBytes → Legal σ ok (under got b)
+        → Silent (exchanges σ (under got b) (deliver room (packets (p .address) (suc k) n s)))
+    unfolding exchanges deliver packets
+    feeding-silent zero got s b e m x l =
+        let c : List ℕ = take n s in
+        let one : length c ≡ n = length-take-le n s (omega arith) in
+        (quiet (under got b) l (packet (p .address) lastPacket c) 0 (last-silent c one got b (z .ends) (omega arith)), tt)
+    feeding-silent (suc k) got s b e m x l =
+        let c : List ℕ = take n s in
+        let ps : List (List ℕ) = packets (p .address) (suc k) n (drop n s) in
+        let one : length c ≡ n = length-take-le n s (omega arith) in
+        let fit : got + length c ≤ length b = omega arith in
+        let two : cond {A = ℕ} (eqb (suc k) 0) lastPacket dataPacket ≡ dataPacket = ap (λ (t : Bool). cond t lastPacket dataPacket) (eqb·suc-zero k) in
+        let i : List ℕ = packet (p .address) dataPacket c in
+        let next : callOf σ (under got b) i (room (length ps)) .after ≡ under (got + n) (lay got c b) = call (under got b) l i (length ps) ∙ more c one got b (z .carries) (omega arith) in
+        let on : Legal σ ok (under (got + n) (lay got c b)) = legally (under got b) (under (got + n) (lay got c b)) l i (length ps) next in
+        let rest : Silent (exchanges σ (under (got + n) (lay got c b)) (deliver room ps)) =
+        feeding-silent k (got + n) (drop n s) (lay got c b) (omega arith) (length-drop n s ∙ omega arith) (length-lay got c b fit ∙ x) on
+        in
+        rw two (quiet (under got b) l i (length ps) (more-silent c one got b (z .carries) (omega arith)), subst (λ (r : Reader). Silent (exchanges σ r (deliver room ps))) (sym next) rest)
+
 -- ---- from an open transfer, and from DownChar
 
 transfer-own : (p : Plain) (t : Transfer) → p .transfer ≡ t → withTransfer t p ≡ p
@@ -141,8 +180,12 @@ module _ (σ : Shape) (ok : σ .most ≤ 8 * σ .indexed) (room : ℕ → List �
   abbrev pub template : Reader → List ℕ → List Event
   template r s = deliver room (packets (r .plain .address) (pageBytes / sizeOf (r .plain .size)) (sizeOf (r .plain .size)) s)
 
-  pub downloaded : (r : Reader) → Legal σ ok r → (w : Bool) → r .plain .transfer ≡ opened w 0 → (s : List ℕ) → length s ≡ pageBytes
-      → finally σ r (template r s) ≡ reader (withTransfer closed (r .plain)) (withBuffer w (filledWith s) (r .guarded))
+  -- the buffer has the template and its mark, the transfer is closed, all else is as it was; and no packet was answered
+  pub record Downloads (r : Reader) (w : Bool) (s : List ℕ) : Type 0 where
+    pub ends : finally σ r (template r s) ≡ reader (withTransfer closed (r .plain)) (withBuffer w (filledWith s) (r .guarded))
+    pub silent : Silent (exchanges σ r (template r s))
+
+  pub downloaded : (r : Reader) → Legal σ ok r → (w : Bool) → r .plain .transfer ≡ opened w 0 → (s : List ℕ) → length s ≡ pageBytes → Downloads r w s
   downloaded r l w e s m =
       let p : Plain = r .plain in
       let g : Guarded = r .guarded in
@@ -150,22 +193,41 @@ module _ (σ : Shape) (ok : σ .most ≤ 8 * σ .indexed) (room : ℕ → List �
       let z : Size (sizeOf (p .size)) = size-of σ ok r k in
       let b : List ℕ = bufferOf w g .bytes in
       let moves : Moving p g w 0 = moving p g w 0 (subst (λ (t : Transfer). T (fitTransfer p g t)) e (k .transfer)) in
-      let own : reader (withTransfer (opened w 0) p) (withBuffer w (unfilled b) g) ≡ r = ap₂ reader (transfer-own p (opened w 0) e) (buffer-own w g (moves .unfilled)) in
-      ap (λ (x : Reader). finally σ x (template r s)) (sym own)
-      ∙ ap (λ (n : ℕ). finally σ (reader (withTransfer (opened w 0) p) (withBuffer w (unfilled b) g)) (deliver room (packets (p .address) n (sizeOf (p .size)) s))) (z .count)
-      ∙ feeding p g w (k .typed .address) σ ok z room f (z .more) 0 s b (omega (arith, z .whole)) (m ∙ sym (z .whole)) (buffer-long w g (k .buffers)) (subst (Legal σ ok) (sym own) l)
+      let now : Reader = reader (withTransfer (opened w 0) p) (withBuffer w (unfilled b) g) in
+      let own : now ≡ r = ap₂ reader (transfer-own p (opened w 0) e) (buffer-own w g (moves .unfilled)) in
+      let legal : Legal σ ok now = subst (Legal σ ok) (sym own) l in
+      let sent : ℕ → List Event = λ n. deliver room (packets (p .address) n (sizeOf (p .size)) s) in
+      record {
+        ends =
+            ap (λ (x : Reader). finally σ x (template r s)) (sym own)
+            ∙ ap (λ (n : ℕ). finally σ now (sent n)) (z .count)
+            ∙ feeding p g w (k .typed .address) σ ok z room f (z .more) 0 s b (omega (arith, z .whole)) (m ∙ sym (z .whole)) (buffer-long w g (k .buffers)) legal;
+        silent =
+            subst (λ (x : Reader). Silent (exchanges σ x (template r s))) own
+            (rw (z .count)
+            (feeding-silent p g w (k .typed .address) σ ok z room f (z .more) 0 s b (omega (arith, z .whole)) (m ∙ sym (z .whole)) (buffer-long w g (k .buffers)) legal));
+      }
 
-  -- DownChar of a buffer that there is, and then the data packets: the buffer has the template and its mark, no transfer is open, and
-  -- all else is as the order left it
-  pub download : (r : Reader) → Legal σ ok r → locked (r .plain) ≡ false → (b : ℕ) → T (isBuffer b) → (d lent : List ℕ) → T (fitRoom lent)
-      → hear (r .plain .address) d ≡ order (command (barred (downChar b))) → (s : List ℕ) → length s ≡ pageBytes
-      → finally σ (callOf σ r d lent .after) (template (callOf σ r d lent .after) s)
-      ≡ reader (withTransfer closed (rested r .plain)) (withBuffer (second b) (filledWith s) (rested r .guarded))
-  unfolding on carried carryAs rule apply withTransfer
-  download r l u b i d lent v h s m =
+  -- DownChar of a buffer that there is, answered 00h, and then the data packets
+  pub record Download (r : Reader) (b : ℕ) (d lent s : List ℕ) : Type 0 where
+    pub reply : replyOf (callOf σ r d lent .told) ≡ acknowledge (r .plain .address) done []
+    pub silent : Silent (exchanges σ (callOf σ r d lent .after) (template (callOf σ r d lent .after) s))
+    pub ends :
+        finally σ (callOf σ r d lent .after) (template (callOf σ r d lent .after) s)
+        ≡ reader (withTransfer closed (r .plain)) (withBuffer (second b) (filledWith s) (r .guarded))
+
+  pub download : (r : Reader) → Legal σ ok r → locked (r .plain) ≡ false → r .plain .transfer ≡ closed → (b : ℕ) → T (isBuffer b) → (d lent : List ℕ) → T (fitRoom lent)
+      → hear (r .plain .address) d ≡ order (command (barred (downChar b))) → (s : List ℕ) → length s ≡ pageBytes → Download r b d lent s
+  unfolding on carried replyOf carryAs follow rule apply withTransfer
+  download r l u c b i d lent v h s m =
       let w : Bool = second b in
-      let t : Reader = apply (await w) (rested r) in
-      let e : callOf σ r d lent .after ≡ t = ap (λ (x : Ended). x .after) (obeyed σ r d lent (l .legal) v u (downChar b) h (and-i (isBuffer b) true i tt)) in
-      rw e
-      (downloaded t (subst (Legal σ ok) e (stays-legal σ ok r l (received d lent))) w refl s m
-      ∙ ap (reader (withTransfer closed (rested r .plain))) (buffer-twice w emptied (filledWith s) (rested r .guarded)))
+      let call = obeyed σ r d lent (l .legal) v u (downChar b) h (and-i (isBuffer b) true i tt) in
+      let still : rested r ≡ r = rested-still r c in
+      let t : Reader = apply (await w) r in
+      let e : callOf σ r d lent .after ≡ t = ap (λ (x : Ended). x .after) call ∙ ap (apply (await w)) still in
+      let sent : Downloads t w s = downloaded t (subst (Legal σ ok) e (stays-legal σ ok r l (received d lent))) w refl s m in
+      record {
+        reply = rw (call, take-lay) (ap (λ (x : Reader). acknowledge (x .plain .address) done []) still);
+        silent = rw e (sent .silent);
+        ends = rw e (sent .ends ∙ ap (reader (withTransfer closed (r .plain))) (buffer-twice w emptied (filledWith s) (r .guarded)));
+      }

@@ -1,8 +1,8 @@
 -- P1 to P12 of document 01: one table under one statement about the whole outcome of a call, whatever the reply room.
-use mathlib.Core.Bool.{Bool, true, false, _&&_}
-use mathlib.Core.Path.{_≡_, refl, ap, _∙_}
-use mathlib.Core.List.{List, [], _∷_, _++_}
-use Prim.Native.Nat.{ℕ, zero, suc}
+use mathlib.Core.Bool.{true}
+use mathlib.Core.Path.{_≡_, refl}
+use mathlib.Core.List.{List, [], _∷_}
+use Prim.Native.Nat.{ℕ}
 use lib.Dec.{T}
 use lib.ListN.{length, take, drop}
 use Rattle.protocol.specs.Numbers.{highestSize, longest}
@@ -11,12 +11,12 @@ use Rattle.protocol.specs.Bytes.{zeros, two, four, wordAt, total, same, 
 use Rattle.protocol.specs.Packet.{sumOf, packet, isIdentifier, limit, accepts}
 use Rattle.protocol.specs.Finder.{marksAt, later, startOf, allBut, findFrom, findOf, usedOf}
 use Rattle.protocol.specs.Index.{bit, stored, setBit, clearBit, clearBits, setBits, clearFrom}
-use Rattle.protocol.specs.Reader.{Plain, Guarded, Reader, reader, settings, closed, capacity, sizeOf, keyed, locked, bufferOf, emptied, filledWith, withMark, withTransfer, withPassword, withAddress, withTuning, withLibrary, withNotepad, withBuffer, fresh, zeroed}
+use Rattle.protocol.specs.Reader.{Reader, reader, capacity, sizeOf, keyed, locked, bufferOf, emptied, filledWith, withMark, withTransfer, withPassword, withAddress, withTuning, withLibrary, withNotepad, withBuffer, fresh, zeroed}
 use Rattle.protocol.specs.Commands.{commands, rowOf, orderAs, orderOf}
 use Rattle.protocol.specs.Data.{acknowledge, packets, dataPackets}
 use Rattle.protocol.specs.Table.{apply, isBuffer, inRange, withParameter, statusOf, rule, publicOf, freeRule}
 use Rattle.protocol.specs.Step.{Outcome, hearAs, hearAt, hear, silence, says, carryAs, carry, carryFree, obey, heed, ended, rested, fits, takeAs, takeIn, answer, stepOf, wiped, switched}
-use Rattle.protocol.specs.Call.{Told, Ended, fitRoom, carried, callOf, core, fitLibrary, fitBuffers, fitLengths, fitPlain, fitTransfer, sound, legal}
+use Rattle.protocol.specs.Call.{Ended, fitRoom, carried, callOf, core, fitLibrary, fitBuffers, fitLengths, fitPlain, fitTransfer, sound, legal}
 use Rattle.protocol.proofs.Laws.Lists.{take-lay, drop-lay}
 use Rattle.protocol.proofs.Laws.Answers.{call-legal}
 

@@ -1,15 +1,13 @@
 -- What legal means, in plain numbers: document 01's "Lent memory and settings" and "Legal transfer".
-use mathlib.Core.Bool.{Bool, true, false, _&&_, not}
-use mathlib.Core.Path.{_≡_, refl}
-use mathlib.Core.List.{List}
-use Prim.Native.Nat.{ℕ, _+_, _*_, _%_, _≤_, _<_}
-use native.Mathlib.Omega.{arith}
-use lib.Dec.{T, leb, ltb, leb→le, le→leb, ltb→lt, lt→ltb, lit≤}
+use mathlib.Core.Bool.{true, false}
+use mathlib.Core.Path.{_≡_}
+use Prim.Native.Nat.{ℕ, _*_, _≤_, _<_}
+use lib.Dec.{T, leb→le, le→leb, ltb→lt, lt→ltb, lit≤}
 use lib.ListN.{length}
 use Rattle.protocol.specs.Numbers.{pageBytes, highestSize}
 use Rattle.protocol.specs.Tests.{within}
 use Rattle.protocol.specs.Index.{stored, bits}
-use Rattle.protocol.specs.Reader.{Transfer, closed, opened, unfit, Plain, Guarded, Reader, capacity, sizeOf, locked, bufferOf}
+use Rattle.protocol.specs.Reader.{Transfer, closed, opened, unfit, Plain, Guarded, Reader, capacity, bufferOf}
 use Rattle.protocol.specs.Call.{Shape, core, fitBuffers, fitPlain, fitTransfer, sound, fitLengths, legal}
 use Rattle.protocol.proofs.Laws.Logic.{and-l, and-r, and-i, eq→eqb}
 use Rattle.protocol.proofs.Laws.Index.{clear-from, clear-to}

@@ -3,8 +3,8 @@
 -- locked readers of equal capacity and, but for the filled marks, equal settings, whose templates, index, notepad, buffers and filled marks
 -- differ at will, answer any sequence of runs alike, line switches among them, up to and including the first accepted password. Until then
 -- these contents stay as they were, save that a line switch wipes the two buffers and clears their filled marks."
-use mathlib.Core.Bool.{Bool, true, false, true≢false, _&&_, not, cond}
-use mathlib.Core.Path.{_≡_, refl, sym, ap, ap₂, _∙_, subst}
+use mathlib.Core.Bool.{Bool, true, false, true≢false, cond}
+use mathlib.Core.Path.{_≡_, refl, sym, ap, _∙_, subst}
 use mathlib.Core.Logic.{_⊎_, inl, inr}
 use mathlib.Core.List.{List, [], _∷_}
 use Prim.Native.Nat.{ℕ}
@@ -12,18 +12,18 @@ use lib.Dec.{T}
 use Rattle.protocol.specs.Numbers.{passwordFirst}
 use Rattle.protocol.specs.Bytes.{lay}
 use Rattle.protocol.specs.Finder.{findOf, usedOf}
-use Rattle.protocol.specs.Reader.{Transfer, closed, Plain, Guarded, Reader, capacity, keyed, locked, withMark, reader}
-use Rattle.protocol.specs.Commands.{Free, verifyPassword, handShake, Barred, Command, free, barred, Order, damaged, unknown, misfit, command}
+use Rattle.protocol.specs.Reader.{closed, Plain, Guarded, Reader, capacity, keyed, locked, withMark, reader}
+use Rattle.protocol.specs.Commands.{verifyPassword, handShake, free, barred, Order, damaged, unknown, misfit, command}
 use Rattle.protocol.specs.Data.{acknowledge}
-use Rattle.protocol.specs.Table.{rule, Public, freeRule, publicOf}
-use Rattle.protocol.specs.Step.{Heard, nothing, order, piece, hear, Said, silence, says, carry, carryFree, obey, heed, ended, rested, takeIn, answer, Outcome, stepOf, wiped}
-use Rattle.protocol.specs.Call.{Shape, fitRoom, fitPlain, sound, legal, Told, Ended, replyOf, refused, carried, callOf, switchOf}
+use Rattle.protocol.specs.Table.{freeRule, publicOf}
+use Rattle.protocol.specs.Step.{Heard, nothing, order, piece, hear, Said, silence, says, carryFree, obey, heed, ended, rested, takeIn, answer, stepOf, wiped}
+use Rattle.protocol.specs.Call.{Shape, fitRoom, fitPlain, sound, legal, Told, Ended, replyOf, refused, carried, callOf}
 use Rattle.protocol.specs.Dialogue.{Event, received, switch, on, Dialogue, over, first, dialogue, kept}
 use Rattle.protocol.proofs.Laws.Logic.{T→true, and-l, and-r, and-i}
 use Rattle.protocol.proofs.Laws.Lists.{take-lay}
 use Rattle.protocol.proofs.Laws.Answers.{call-legal, call-short}
 use Rattle.protocol.proofs.Laws.Legal.{fit-closed}
-use Rattle.protocol.proofs.Laws.Locked.{toldBy, plainBy, Shut, shut-of, locked-call, plain-or, locked-switch, wiped-legal}
+use Rattle.protocol.proofs.Laws.Locked.{toldBy, plainBy, shut-of, locked-call, plain-or, locked-switch, wiped-legal}
 
 -- ---- the first half
 

@@ -1,8 +1,7 @@
 -- The premises of demand 3 can be met: two legal locked readers of ten pages, one empty and one full, with the same settings but for the
 -- filled marks.
-use mathlib.Core.Bool.{Bool, true, false, _&&_}
 use mathlib.Core.Path.{_≡_, refl}
-use mathlib.Core.List.{List, [], _∷_}
+use mathlib.Core.List.{_∷_}
 use lib.Dec.{T}
 use lib.ListN.{replicate}
 use Rattle.protocol.specs.Numbers.{pageBytes, highestSize}
@@ -11,7 +10,10 @@ use Rattle.protocol.specs.Tests.{within, every}
 use Rattle.protocol.specs.Index.{bit, stored, clearFrom}
 use Rattle.protocol.specs.Reader.{closed, Reader, capacity, keyed, locked, bufferOf, emptied, filledWith, withPassword, fresh, zeroed, contents, reader}
 use Rattle.protocol.specs.Call.{core, fitLibrary, fitBuffers, fitLengths, fitPlain, fitTransfer, sound, legal}
+use Rattle.protocol.proofs.Laws.Index.{fine-zeros}
 use Rattle.protocol.proofs.Promises.Examples.{keyed10, fresh10}
+use Rattle.protocol.proofs.Promises.LegalMeans.{core-holds}
+use Rattle.protocol.proofs.Promises.StaysLegal.{Legal}
 
 -- P9's reader with every page stored and both buffers filled
 pub full10 : Reader
@@ -31,3 +33,8 @@ pub record Met (r t : Reader) : Type 0 where
 pub premises-met : Met keyed10 full10
 unfolding keyed10 fresh10 full10 fresh zeroed withPassword emptied filledWith four same within every bit stored clearFrom capacity keyed locked bufferOf core fitLibrary fitBuffers fitLengths fitPlain fitTransfer sound legal highestSize
 premises-met = record { one = tt; other = tt; locks = tt; keys = tt; still = refl; settings = refl; pages = refl }
+
+-- and a fresh reader is legal, with what its types say
+pub fresh-legal : Legal core core-holds fresh10
+unfolding fresh10 fresh zeroed emptied four same within every bit stored clearFrom capacity keyed locked core fitLibrary fitBuffers fitLengths fitPlain fitTransfer sound legal highestSize
+fresh-legal = record { typed = record { password = refl; address = refl; index = fine-zeros 32 .bytes }; legal = tt }

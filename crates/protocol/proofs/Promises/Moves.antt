@@ -1,10 +1,10 @@
 -- What Store, LoadChar, DeletChar and Empty do once their row's tests pass, stated with document 01's own tests: the answer, every page's
 -- bytes and bit, both buffers, the notepad and the settings.
 use mathlib.Core.Bool.{Bool, true, false, _&&_, _||_, not}
-use mathlib.Core.Path.{_≡_, refl, sym, ap, _∙_, subst}
+use mathlib.Core.Path.{_≡_, refl, ap, _∙_}
 use mathlib.Core.Logic.{_≢_}
-use mathlib.Core.List.{List, [], _∷_}
-use Prim.Native.Nat.{ℕ, zero, suc, _+_, _-_, _*_, _/_, _≤_, _<_}
+use mathlib.Core.List.{List, []}
+use Prim.Native.Nat.{ℕ, zero, _+_, _-_, _*_, _≤_, _<_}
 use native.Mathlib.Omega.{arith}
 use lib.Dec.{T, eqb, ltb, leb, lt→ltb, le→leb, ltb→lt}
 use lib.ListN.{length}
@@ -12,12 +12,12 @@ use Rattle.protocol.specs.Numbers.{pageBytes, done}
 use Rattle.protocol.specs.Bytes.{part, zeros, lay, follow}
 use Rattle.protocol.specs.Tests.{among}
 use Rattle.protocol.specs.Index.{stored, setBit, clearBits}
-use Rattle.protocol.specs.Reader.{Plain, Buffer, Guarded, Reader, capacity, locked, bufferOf, filledWith, withLibrary, withBuffer, reader}
+use Rattle.protocol.specs.Reader.{Buffer, Guarded, Reader, capacity, locked, bufferOf, filledWith, withLibrary, withBuffer, reader}
 use Rattle.protocol.specs.Commands.{Barred, store, loadChar, deletChar, empty, barred, command}
 use Rattle.protocol.specs.Data.{acknowledge}
 use Rattle.protocol.specs.Table.{isBuffer, second, rule, apply}
 use Rattle.protocol.specs.Step.{order, hear, carryAs, rested}
-use Rattle.protocol.specs.Call.{Shape, fitRoom, Told, Ended, replyOf, carried, callOf}
+use Rattle.protocol.specs.Call.{Shape, fitRoom, Ended, replyOf, carried, callOf}
 use Rattle.protocol.proofs.Laws.Logic.{and-i, passed}
 use Rattle.protocol.proofs.Laws.Lists.{part-zeros, take-lay}
 use Rattle.protocol.proofs.Laws.Index.{stored-with, stored-span, stored-zeros}

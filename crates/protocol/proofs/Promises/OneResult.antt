@@ -1,6 +1,6 @@
 -- Document 01: "Show that the statement admits only one result." A contract pins the code's records and lent memory by an equation to the
 -- definitions; two results of one such equation are the same.
-use mathlib.Core.Bool.{Bool, true, false}
+use mathlib.Core.Bool.{true, false}
 use mathlib.Core.Path.{_≡_, refl, sym, ap, _∙_}
 use mathlib.Core.List.{List}
 use Prim.Native.Nat.{ℕ, zero, suc}
@@ -9,8 +9,8 @@ use Rattle.protocol.specs.declared.Called.{Called}
 use Rattle.protocol.specs.declared.Switched.{Switched}
 use Rattle.protocol.specs.declared.Built.{Built}
 use Rattle.protocol.specs.Packet.{Made}
-use Rattle.protocol.specs.Reader.{Transfer, closed, opened, unfit, Plain, Guarded, Reader}
-use Rattle.protocol.specs.Call.{Told, Ended}
+use Rattle.protocol.specs.Reader.{Transfer, closed, opened, unfit, Reader}
+use Rattle.protocol.specs.Call.{Ended}
 use Rattle.protocol.specs.Records.{transferOf, readerOf, endedOf, switchedOf, madeOf}
 
 -- a transfer's two numbers

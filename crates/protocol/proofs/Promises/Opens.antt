@@ -1,21 +1,48 @@
--- What opens the lock: VfyPwd with the right password, and nothing else; and what VfyPwd does, locked or not.
-use mathlib.Core.Bool.{Bool, true, false, true≢false, _&&_, not, cond}
-use mathlib.Core.Path.{_≡_, refl, sym, ap, _∙_}
-use mathlib.Core.List.{List, [], _∷_}
+-- What opens the lock: VfyPwd with the right password, and nothing else. So a dialogue of a locked reader goes through every event, or stops
+-- at the first accepted password.
+use mathlib.Core.Bool.{Bool, true, false, true≢false, _&&_, cond}
+use mathlib.Core.Path.{_≡_, refl, sym, ap, _∙_, subst}
+use mathlib.Core.List.{List, [], _∷_, _++_}
 use Prim.Native.Nat.{ℕ}
 use lib.Dec.{T}
-use lib.ListN.{replicate}
-use Rattle.protocol.specs.Numbers.{done, wrongPassword, pageBytes}
-use Rattle.protocol.specs.Bytes.{same, zeros}
-use Rattle.protocol.specs.Reader.{Plain, Guarded, Reader, keyed, locked, withMark, reader, contents, emptied, filledWith}
-use Rattle.protocol.specs.Commands.{Free, verifyPassword, handShake, Barred, Command, free, barred, Order, damaged, unknown, misfit, command}
+use Rattle.protocol.specs.Numbers.{done, wrongPassword}
+use Rattle.protocol.specs.Bytes.{same}
+use Rattle.protocol.specs.Reader.{Plain, Guarded, Reader, keyed, locked, withMark, reader}
+use Rattle.protocol.specs.Commands.{verifyPassword, handShake, free, barred, damaged, unknown, misfit, command}
 use Rattle.protocol.specs.Data.{acknowledge}
-use Rattle.protocol.specs.Table.{Public, freeRule, publicOf}
-use Rattle.protocol.specs.Step.{Heard, nothing, order, piece, hear}
-use Rattle.protocol.specs.Call.{Shape, core, fitRoom, legal, Typed, Told, Ended, replyOf, callOf, switchOf}
+use Rattle.protocol.specs.Table.{freeRule, publicOf}
+use Rattle.protocol.specs.Step.{Heard, nothing, order, piece, hear, carryFree, obey, heed, rested, answer, stepOf, wiped}
+use Rattle.protocol.specs.Call.{Shape, fitRoom, legal, Told, Ended, replyOf, carried, callOf, switchOf}
+use Rattle.protocol.specs.Dialogue.{Event, received, switch, on, Dialogue, over, first, dialogue, kept}
 use Rattle.protocol.proofs.Laws.Logic.{T→true, and-l, and-i}
-use Rattle.protocol.proofs.Laws.Lists.{take-lay, same-eq}
-use Rattle.protocol.proofs.Laws.Locked.{tells, turns, toldBy, plainBy, locked-call, locked-switch}
+use Rattle.protocol.proofs.Laws.Lists.{take-lay, same-eq, same-refl}
+use Rattle.protocol.proofs.Laws.Answers.{spared, call-legal}
+use Rattle.protocol.proofs.Laws.Locked.{tells, turns, toldBy, plainBy, shut-of, locked-call, plain-or, locked-switch, wiped-legal}
+
+-- ---- VfyPwd, locked or not
+
+-- the reply, and the mark after it; all else as it was
+pub record Verifies (r : Reader) (code : ℕ) (mark : Bool) (e : Ended) : Type 0 where
+  pub reply : replyOf (e .told) ≡ acknowledge (r .plain .address) code []
+  pub after : e .after ≡ reader (withMark mark (rested r .plain)) (rested r .guarded)
+
+module _ (σ : Shape) (r : Reader) (s room : List ℕ) (f : T (legal σ r)) (u : T (fitRoom room)) (w : List ℕ)
+    (h : hear (r .plain .address) s ≡ order (command (free (verifyPassword w)))) where
+  verified : (b : Bool) → same w (rested r .plain .password) ≡ b → Verifies r (cond b done wrongPassword) b (callOf σ r s room)
+  unfolding carried replyOf stepOf answer heed obey carryFree freeRule publicOf withMark
+  verified b e =
+      rw (call-legal σ r s room f u, h, e)
+      record { reply = take-lay (acknowledge (rested r .plain .address) (cond b done wrongPassword) []) room ∙ ap (λ (a : List ℕ). acknowledge a (cond b done wrongPassword) []) (spared r .address); after = refl }
+
+  -- equal: 00h, the mark set
+  pub right-password : w ≡ rested r .plain .password → Verifies r done true (callOf σ r s room)
+  right-password e = verified true (ap (λ (x : List ℕ). same x (rested r .plain .password)) e ∙ same-refl (rested r .plain .password))
+
+  -- differs: 13h, the mark cleared
+  pub wrong-password : same w (rested r .plain .password) ≡ false → Verifies r wrongPassword false (callOf σ r s room)
+  wrong-password e = verified false e
+
+-- ---- nothing else opens a locked reader
 
 -- the run asked for VfyPwd with the reader's password, and was answered 00h
 pub record Accepted (r : Reader) (s : List ℕ) (e : Ended) : Type 0 where
@@ -26,34 +53,35 @@ keyed-locked : (p : Plain) → T (locked p) → T (keyed p)
 unfolding locked
 keyed-locked p l = search (and-l)
 
-address-marked : (p : Plain) (b : Bool) → acknowledge (withMark b p .address) done [] ≡ acknowledge (p .address) done []
-unfolding withMark
-address-marked p b = refl
-
 -- a mark that opens keyed settings is set
 opening : (p : Plain) (b : Bool) → T (keyed p) → locked (withMark b p) ≡ false → b ≡ true
 unfolding locked keyed withMark
 opening p true k e = refl
 opening p false k e = absurd (true≢false (sym (T→true (keyed p && true) (and-i (keyed p) true k tt)) ∙ e))
 
+unlocked-marked : (p : Plain) → p .verified ≡ true → locked p ≡ false
+unfolding locked keyed
+unlocked-marked p e = rw e (go (keyed p))
+  where
+    go : (b : Bool) → (b && false) ≡ false
+    go true = refl
+    go false = refl
+
 module _ (σ : Shape) (r : Reader) (f : T (legal σ r)) (l : T (locked (r .plain))) (s room : List ℕ) where
   -- the settings as they were do not open
   shut : {A : Type 0} → locked (r .plain) ≡ false → A
   shut e = absurd (true≢false (sym (T→true (locked (r .plain)) l) ∙ e))
 
-  -- what opens is VfyPwd with the password
-  heard-right : (h : Heard) → locked (turns (publicOf r) h) ≡ false → (h ≡ order (command (free (verifyPassword (r .plain .password))))) × (tells (publicOf r) h ≡ acknowledge (r .plain .address) done [])
-  unfolding turns tells freeRule publicOf
+  heard-right : (h : Heard) → locked (turns (publicOf r) h) ≡ false
+      → (h ≡ order (command (free (verifyPassword (r .plain .password))))) × (tells (publicOf r) h ≡ acknowledge (r .plain .address) done [])
+  unfolding turns tells freeRule publicOf withMark
   heard-right nothing e = shut e
   heard-right (order damaged) e = shut e
   heard-right (order unknown) e = shut e
   heard-right (order misfit) e = shut e
   heard-right (order (command (free (verifyPassword w)))) e =
-      let k : T (keyed (r .plain)) = keyed-locked (r .plain) l in
-      let b : same w (r .plain .password) ≡ true = opening (r .plain) (same w (r .plain .password)) k e in (
-        ap (λ (x : List ℕ). order (command (free (verifyPassword x)))) (same-eq w (r .plain .password) b),
-        ap (λ (x : Bool). acknowledge (withMark x (r .plain) .address) (cond x done wrongPassword) []) b ∙ address-marked (r .plain) true,
-      )
+      let b : same w (r .plain .password) ≡ true = opening (r .plain) (same w (r .plain .password)) (keyed-locked (r .plain) l) e in
+      (ap (λ (x : List ℕ). order (command (free (verifyPassword x)))) (same-eq w (r .plain .password) b), ap (λ (x : Bool). acknowledge (r .plain .address) (cond x done wrongPassword) []) b)
   heard-right (order (command (free handShake))) e = shut e
   heard-right (order (command (barred c))) e = shut e
   heard-right (piece last right content) e = shut e
@@ -74,3 +102,53 @@ module _ (σ : Shape) (r : Reader) (f : T (legal σ r)) (l : T (locked (r .plain
   -- a line switch opens nothing
   pub switch-opens-nothing : locked (switchOf r .after .plain) ≡ true
   switch-opens-nothing = rw (locked-switch σ r f l) (T→true (locked (r .plain)) l)
+
+-- ---- a dialogue
+
+-- it goes through every event, settings as they were; or some events, and then the first accepted password
+pub data Course (σ : Shape) (p : Plain) (g : Guarded) (es : List Event) (d : Dialogue) : Type 0 where
+  through : d .events ≡ es → d .last ≡ reader p (kept g es) → Course σ p g es d
+  stops : (before : List Event) (s room : List ℕ) (rest : List Event) → es ≡ before ++ (received s room ∷ rest)
+      → d .events ≡ before ++ (received s room ∷ []) → Accepted (reader p (kept g before)) s (callOf σ (reader p (kept g before)) s room) → Course σ p g es d
+
+module _ (σ : Shape) (p : Plain) (l : T (locked p)) where
+  pub course : (es : List Event) (g : Guarded) → T (legal σ (reader p g)) → Course σ p g es (dialogue σ (reader p g) es)
+  unfolding dialogue on over first kept publicOf
+  course [] g f = through refl refl
+  course (received s room ∷ es) g f = go (q .verified) refl (course es g f)
+    where
+      q : Plain
+      q = plainBy (publicOf (reader p g)) s room
+
+      e : callOf σ (reader p g) s room ≡ record { told = toldBy (publicOf (reader p g)) s room; after = reader q g }
+      e = locked-call σ (reader p g) f l s room
+
+      d : Bool → Plain → Dialogue
+      d b x = first (received s room) (toldBy (publicOf (reader p g)) s room) (cond b (over (reader x g)) (dialogue σ (reader x g) es))
+
+      on-with : Course σ p g es (dialogue σ (reader p g) es) → Course σ p g (received s room ∷ es) (d false p)
+      on-with (through a b) = through (ap (λ (x : List Event). received s room ∷ x) a) b
+      on-with (stops before t y rest a b c) =
+          stops (received s room ∷ before) t y rest (ap (λ (x : List Event). received s room ∷ x) a) (ap (λ (x : List Event). received s room ∷ x) b) c
+
+      go : (b : Bool) → q .verified ≡ b → Course σ p g es (dialogue σ (reader p g) es) → Course σ p g (received s room ∷ es) (dialogue σ (reader p g) (received s room ∷ es))
+      go true v i =
+          stops [] s room es refl (rw (e, v) refl) (opens-only σ (reader p g) f l s room (ap (λ (x : Ended). locked (x .after .plain)) e ∙ unlocked-marked q v))
+      go false v i =
+          let same-plain : q ≡ p = plain-or (publicOf (reader p g)) (shut-of σ (reader p g) f l .unverified) s room v in
+          let here : dialogue σ (reader p g) (received s room ∷ es) ≡ d (q .verified) q = ap (λ (x : Ended). first (received s room) (x .told) (cond (x .after .plain .verified) (over (x .after)) (dialogue σ (x .after) es))) e in
+          subst (Course σ p g (received s room ∷ es)) (sym (here ∙ ap (λ (b : Bool). d b q) v ∙ ap (d false) same-plain)) (on-with i)
+  course (switch ∷ es) g f = subst (Course σ p g (switch ∷ es)) (sym (here ∙ ap d (shut-of σ (reader p g) f l .unverified))) (on-with (course es (wiped g) (wiped-legal σ (reader p g) f l)))
+    where
+      quiet : Told
+      quiet = record { refusal = 0; used = 0; length = 0; room = [] }
+
+      d : Bool → Dialogue
+      d b = first switch quiet (cond b (over (reader p (wiped g))) (dialogue σ (reader p (wiped g)) es))
+
+      here : dialogue σ (reader p g) (switch ∷ es) ≡ d (p .verified)
+      here = ap (λ (x : Ended). first switch (x .told) (cond (x .after .plain .verified) (over (x .after)) (dialogue σ (x .after) es))) (locked-switch σ (reader p g) f l)
+
+      on-with : Course σ p (wiped g) es (dialogue σ (reader p (wiped g)) es) → Course σ p g (switch ∷ es) (d false)
+      on-with (through a b) = through (ap (λ (x : List Event). switch ∷ x) a) b
+      on-with (stops before t y rest a b c) = stops (switch ∷ before) t y rest (ap (λ (x : List Event). switch ∷ x) a) (ap (λ (x : List Event). switch ∷ x) b) c

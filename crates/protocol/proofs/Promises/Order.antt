@@ -2,11 +2,11 @@
 -- other than 00h changes nothing more." A wrong sum comes before all of them, whether the reader is locked or not. Stated over the bytes of
 -- a whole packet for this reader with identifier 1.
 use mathlib.Core.Bool.{Bool, true, false, cond}
-use mathlib.Core.Path.{_≡_, refl, sym, ap, _∙_}
+use mathlib.Core.Path.{_≡_, refl, ap, _∙_}
 use mathlib.Core.Logic.{_≢_}
 use mathlib.Core.List.{List, []}
-use Prim.Native.Nat.{ℕ, zero, suc}
-use lib.Dec.{T, eqb}
+use Prim.Native.Nat.{ℕ, suc}
+use lib.Dec.{T}
 use lib.ListN.{length}
 use borrow.Author.Tests.{eq-eqb, ne-eqb}
 use Rattle.protocol.specs.declared.Found.the-variants.{Whole}
@@ -16,11 +16,11 @@ use Rattle.protocol.specs.Tests.{verdict}
 use Rattle.protocol.specs.Packet.{lengthOf, addressAt, identifierAt, contentAt, rightAt, endAt}
 use Rattle.protocol.specs.Finder.{findOf, usedOf}
 use Rattle.protocol.specs.Reader.{Reader, locked}
-use Rattle.protocol.specs.Commands.{Command, Barred, barred, Entry, commands, Known, none, some, rowOf, Order, damaged, unknown, misfit, command, orderAs, orderOf}
+use Rattle.protocol.specs.Commands.{Barred, barred, Entry, commands, none, some, rowOf, Order, damaged, unknown, misfit, command, orderAs, orderOf}
 use Rattle.protocol.specs.Data.{acknowledge}
 use Rattle.protocol.specs.Table.{rule}
-use Rattle.protocol.specs.Step.{order, hearAs, hearAt, hear, Said, says, carryAs, carry, obey, heed, rested, answer, stepOf}
-use Rattle.protocol.specs.Call.{Shape, fitRoom, legal, Told, Ended, carried, callOf}
+use Rattle.protocol.specs.Step.{order, hearAs, hearAt, hear, says, carryAs, carry, obey, heed, rested, answer, stepOf}
+use Rattle.protocol.specs.Call.{Shape, fitRoom, legal, Ended, carried, callOf}
 use Rattle.protocol.proofs.Laws.Finder.{heard-at}
 use Rattle.protocol.proofs.Laws.Answers.{spared, call-legal}
 

@@ -1,21 +1,21 @@
 -- Demand 2: "A packet built by us reads back as itself." Document 01: "found at place 0, all its bytes used, the sum right, and the same
 -- identifier, address and content."
-use mathlib.Core.Bool.{Bool, true, false, _&&_, cond}
+use mathlib.Core.Bool.{true, _&&_}
 use mathlib.Core.Path.{_≡_, refl, sym, ap, ap₂, _∙_, subst}
 use mathlib.Core.List.{List, [], _∷_, _++_, append-assoc, append-nil}
-use Prim.Native.Nat.{ℕ, zero, suc, _+_, _-_, _*_, _/_, _%_, _≤_, _<_}
+use Prim.Native.Nat.{ℕ, zero, suc, _+_, _-_, _*_, _≤_}
 use native.Mathlib.Omega.{arith}
-use lib.Dec.{T, eqb, leb, leb→le, le→leb}
+use lib.Dec.{T, leb}
 use borrow.Author.Tests.{le-leb}
-use lib.ListN.{length, getD, take, drop, length-append}
-use lib.Seq.{take-at, getD-drop, getD-append-seam, getD-append-add}
+use lib.ListN.{length, take, drop, length-append}
+use lib.Seq.{take-at, getD-drop, getD-append-add}
 use Rattle.protocol.specs.declared.Found.the-variants.{Whole}
-use Rattle.protocol.specs.Numbers.{firstMark, secondMark, headBytes, frameBytes, shortest, longest, fourBytes}
-use Rattle.protocol.specs.Bytes.{two, byteAt, wordAt, part, lay}
+use Rattle.protocol.specs.Numbers.{headBytes, frameBytes, fourBytes}
+use Rattle.protocol.specs.Bytes.{two, byteAt, wordAt}
 use Rattle.protocol.specs.Tests.{verdict}
 use Rattle.protocol.specs.Packet.{lengthOf, sumOf, packet, isIdentifier, accepts, addressAt, identifierAt, lengthAt, contentAt, endAt, rightAt, Made, buildRefusal, buildAs, buildOf}
-use Rattle.protocol.specs.Finder.{marksAt, startOf, findFrom, findOf, usedOf}
-use Rattle.protocol.proofs.Laws.Logic.{T→true, eqb-same, passed, verdict-passed, passed-verdict, and-l, and-r, and-i}
+use Rattle.protocol.specs.Finder.{marksAt, startOf, findOf, usedOf}
+use Rattle.protocol.proofs.Laws.Logic.{T→true, eqb-same, verdict-passed, and-l}
 use Rattle.protocol.proofs.Laws.Lists.{by-four, two-bytes, take-lay}
 use Rattle.protocol.proofs.Laws.Finder.{length-packet, accepts-most, accepts-of, longest-word, found-at}
 

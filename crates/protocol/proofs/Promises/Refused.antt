@@ -1,18 +1,18 @@
 -- Demand 1: "Unfit memory, settings or packet parts get refusal 1, 2, 3 or 4 as document 01 says; no reply is written and no byte changes."
 -- When each refusal comes, in which order, and what a refused call leaves.
-use mathlib.Core.Bool.{Bool, true, false, _&&_}
-use mathlib.Core.Path.{_≡_, refl, ap}
+use mathlib.Core.Bool.{false}
+use mathlib.Core.Path.{_≡_, refl}
 use mathlib.Core.Logic.{_≢_}
-use mathlib.Core.List.{List, [], _∷_}
-use Prim.Native.Nat.{ℕ, zero, suc, _+_, _≤_}
+use mathlib.Core.List.{List, []}
+use Prim.Native.Nat.{ℕ, zero, suc, _+_}
 use native.Mathlib.Omega.{arith}
 use lib.Dec.{T, leb}
 use lib.ListN.{length}
 use Rattle.protocol.specs.Numbers.{frameBytes, badLength, badRoom, badSetting, badContent}
 use Rattle.protocol.specs.Tests.{verdict}
-use Rattle.protocol.specs.Packet.{lengthOf, packet, accepts, Made, buildRefusal, buildAs, buildOf}
+use Rattle.protocol.specs.Packet.{lengthOf, packet, accepts, buildRefusal, buildAs, buildOf}
 use Rattle.protocol.specs.Reader.{Reader}
-use Rattle.protocol.specs.Call.{Shape, fitLengths, fitBuffers, fitRoom, sound, legal, Told, Ended, refusalOf, refused, carried, callAs, callOf, switchRefusal, switchAs, switchOf}
+use Rattle.protocol.specs.Call.{Shape, fitLengths, fitBuffers, fitRoom, sound, legal, Ended, refusalOf, refused, carried, callAs, callOf, switchRefusal, switchAs, switchOf}
 use Rattle.protocol.proofs.Laws.Logic.{T→true}
 use Rattle.protocol.proofs.Laws.Answers.{call-kinds}
 

@@ -1,24 +1,23 @@
 -- The reply never exceeds 700 bytes, so the room that document 01 asks for is enough.
-use mathlib.Core.Bool.{Bool, true, false, _&&_, cond}
-use mathlib.Core.Path.{_≡_, refl, sym, ap, _∙_, subst}
-use mathlib.Core.List.{List, [], _∷_, _++_}
+use mathlib.Core.Bool.{Bool, true, false}
+use mathlib.Core.Path.{_≡_, refl, _∙_, subst}
+use mathlib.Core.List.{List, [], _∷_}
 use Prim.Native.Nat.{ℕ, zero, suc, _+_, _-_, _*_, _≤_}
 use native.Mathlib.Omega.{arith}
 use lib.Dec.{T, leb, leb→le}
-use lib.ListN.{length, drop, length-append, length-take, length-drop}
-use Rattle.protocol.specs.Numbers.{pageBytes, fourBytes, noteBytes, indexBytes, replyRoom, highestSize, done}
-use Rattle.protocol.specs.Bytes.{two, follow, joined}
-use Rattle.protocol.specs.Tests.{within}
-use Rattle.protocol.specs.Reader.{Transfer, closed, Plain, Guarded, Reader, sizeOf, locked, bufferOf, withMark}
-use Rattle.protocol.specs.Commands.{Free, verifyPassword, handShake, Barred, store, loadChar, upChar, downChar, deletChar, empty, setSysPara, readSysPara, setPassword, setAddress, writeNotepad, readNotepad, templeteNum, readIndexTable, Command, free, barred, Order, command}
-use Rattle.protocol.specs.Data.{acknowledge, dataPackets}
+use lib.ListN.{length, drop, length-append, length-take}
+use Rattle.protocol.specs.Numbers.{pageBytes, fourBytes, replyRoom, highestSize, done}
+use Rattle.protocol.specs.Bytes.{two, joined}
+use Rattle.protocol.specs.Reader.{Plain, Reader, sizeOf, locked, bufferOf, withMark}
+use Rattle.protocol.specs.Commands.{Free, verifyPassword, handShake, Barred, store, loadChar, upChar, downChar, deletChar, empty, setSysPara, readSysPara, setPassword, setAddress, writeNotepad, readNotepad, templeteNum, readIndexTable}
+use Rattle.protocol.specs.Data.{acknowledge}
 use Rattle.protocol.specs.Table.{Row, rule, apply, second, Public, freeRule, publicOf}
-use Rattle.protocol.specs.Step.{Heard, order, piece, hear, Said, silence, says, carryAs, carryFree, rested, takeAs, answer, stepOf}
-use Rattle.protocol.specs.Call.{Shape, fitRoom, fitPlain, Told, Ended, refused, carried, callOf}
+use Rattle.protocol.specs.Step.{Heard, hear, Said, silence, says, carryAs, carryFree, rested, takeAs, answer, stepOf}
+use Rattle.protocol.specs.Call.{Shape, fitRoom, fitPlain, Ended, refused, carried, callOf}
 use Rattle.protocol.proofs.Laws.Logic.{and-l, and-r, passed}
 use Rattle.protocol.proofs.Laws.Lists.{follow-append, length-lay, drop-lay}
 use Rattle.protocol.proofs.Laws.Commands.{Long, LongHeard, long-heard}
-use Rattle.protocol.proofs.Laws.Answers.{Kinds, answer-kinds, call-kinds}
+use Rattle.protocol.proofs.Laws.Answers.{answer-kinds, call-kinds}
 use Rattle.protocol.proofs.Laws.Legal.{buffer-long, Good}
 use Rattle.protocol.proofs.Laws.Sizes.{Size, sizes, length-data}
 use Rattle.protocol.proofs.Laws.Finder.{length-packet}

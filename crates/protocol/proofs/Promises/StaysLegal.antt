@@ -1,27 +1,27 @@
 -- A legal reader is legal after every call and line switch.
-use mathlib.Core.Bool.{Bool, true, false, _&&_, cond}
-use mathlib.Core.Path.{_≡_, refl, sym, ap, _∙_, subst}
+use mathlib.Core.Bool.{Bool, true, false, cond}
+use mathlib.Core.Path.{_≡_, refl, ap, _∙_, subst}
 use mathlib.Core.List.{List, [], _∷_}
-use Prim.Native.Nat.{ℕ, zero, suc, _+_, _-_, _*_, _/_, _%_, _≤_, _<_}
+use Prim.Native.Nat.{ℕ, zero, suc, _+_, _-_, _*_, _/_, _≤_, _<_}
 use native.Mathlib.Nat.{add-mod-right}
 use native.Mathlib.Omega.{arith}
-use lib.Dec.{T, eqb, ltb, leb, eqb→eq, leb→le, ltb→lt}
-use lib.ListN.{length, take, drop, length-take, length-drop}
-use Rattle.protocol.specs.Numbers.{pageBytes, noteBytes, fourBytes, highestSize, lowestBaud, highestBaud, lowestLevel, highestLevel, baudParameter, levelParameter, sizeParameter}
-use Rattle.protocol.specs.Bytes.{part, lay}
+use lib.Dec.{T, eqb, leb, eqb→eq, leb→le, ltb→lt}
+use lib.ListN.{length, length-take, length-drop}
+use Rattle.protocol.specs.Numbers.{pageBytes, noteBytes, highestSize, lowestBaud, highestBaud, lowestLevel, highestLevel, baudParameter, levelParameter}
+use Rattle.protocol.specs.Bytes.{lay}
 use Rattle.protocol.specs.Tests.{within}
-use Rattle.protocol.specs.Reader.{Transfer, closed, opened, unfit, Plain, Buffer, Guarded, Reader, capacity, sizeOf, keyed, locked, bufferOf, emptied, filledWith, withMark, withTransfer, withPassword, withAddress, withTuning, withBuffer, reader}
-use Rattle.protocol.specs.Commands.{Free, verifyPassword, handShake, Barred, store, loadChar, upChar, downChar, deletChar, empty, setSysPara, readSysPara, setPassword, setAddress, writeNotepad, readNotepad, templeteNum, readIndexTable, Command, free, barred, Order, command}
-use Rattle.protocol.specs.Table.{Effect, second, inRange, withParameter, rule, apply, freeRule, publicOf}
-use Rattle.protocol.specs.Step.{Heard, order, hear, Said, silence, says, carryAs, carryFree, ended, rested, fits, takeAs, answer, stepOf, wiped, switched}
-use Rattle.protocol.specs.Call.{Shape, fitBuffers, fitPlain, fitTransfer, legal, Typed, Told, Ended, refusalOf, refused, carried, callAs, callOf, switchRefusal, switchAs, switchOf}
+use Rattle.protocol.specs.Reader.{Transfer, closed, opened, unfit, Plain, Buffer, Reader, capacity, sizeOf, keyed, locked, bufferOf, emptied, filledWith, withMark, withTransfer, withPassword, withAddress, withTuning, withBuffer}
+use Rattle.protocol.specs.Commands.{Free, verifyPassword, handShake, Barred, store, loadChar, upChar, downChar, deletChar, empty, setSysPara, readSysPara, setPassword, setAddress, writeNotepad, readNotepad, templeteNum, readIndexTable, free}
+use Rattle.protocol.specs.Table.{second, inRange, withParameter, rule, apply, freeRule, publicOf}
+use Rattle.protocol.specs.Step.{Heard, hear, Said, silence, says, carryAs, carryFree, ended, rested, takeAs, answer, stepOf, wiped, switched}
+use Rattle.protocol.specs.Call.{Shape, fitBuffers, fitPlain, fitTransfer, legal, Typed, Ended, refused, carried, callOf, switchRefusal, switchAs, switchOf}
 use Rattle.protocol.specs.Dialogue.{Event, received, switch, on, finally}
 use Rattle.protocol.proofs.Laws.Logic.{and-l, and-r, and-i, passed}
 use Rattle.protocol.proofs.Laws.Lists.{length-lay}
 use Rattle.protocol.proofs.Laws.Commands.{Long, LongHeard, long-heard}
 use Rattle.protocol.proofs.Laws.Effects.{buffer-same}
-use Rattle.protocol.proofs.Laws.Answers.{Kinds, answer-kinds, call-kinds}
-use Rattle.protocol.proofs.Laws.Legal.{buffer-long, fit-closed, fit-opened, Moving, moving, Fitting, fitting, Shelf, Good, good-of, legal-of, good-plain, good-buffer, Proper, effect-good}
+use Rattle.protocol.proofs.Laws.Answers.{answer-kinds, call-kinds}
+use Rattle.protocol.proofs.Laws.Legal.{buffer-long, fit-closed, fit-opened, Moving, moving, Fitting, fitting, Good, good-of, legal-of, good-plain, good-buffer, Proper, effect-good}
 
 -- ---- SetSysPara
 

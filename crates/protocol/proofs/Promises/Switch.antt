@@ -1,14 +1,13 @@
 -- Document 01: "Line switch: verified mark and filled marks cleared, transfer closed, both buffers zeroed." Whatever the settings were.
-use mathlib.Core.Bool.{Bool, true, false, _&&_, not}
-use mathlib.Core.Path.{_≡_, refl, ap, _∙_}
-use mathlib.Core.List.{List, []}
+use mathlib.Core.Bool.{true, false}
+use mathlib.Core.Path.{_≡_, refl}
 use lib.Dec.{T}
 use Rattle.protocol.specs.Numbers.{pageBytes}
 use Rattle.protocol.specs.Bytes.{zeros}
 use Rattle.protocol.specs.Tests.{verdict}
-use Rattle.protocol.specs.Reader.{Transfer, closed, Plain, Guarded, Reader, keyed, locked, emptied, withMark, withTransfer}
+use Rattle.protocol.specs.Reader.{closed, Reader, keyed, locked, emptied, withMark, withTransfer}
 use Rattle.protocol.specs.Step.{wiped, switched}
-use Rattle.protocol.specs.Call.{fitBuffers, Told, Ended, switchRefusal, switchAs, switchOf}
+use Rattle.protocol.specs.Call.{fitBuffers, Ended, switchRefusal, switchAs, switchOf}
 use Rattle.protocol.proofs.Laws.Logic.{T→true, and-i}
 
 pub record Wiped (r : Reader) (e : Ended) : Type 0 where

@@ -1,7 +1,7 @@
 -- An upload: what follows UpChar's acknowledge are packets that read back, one behind the other, as the template's parts in order; joined
 -- they are the template. Proved once over the size.
 use mathlib.Core.Bool.{Bool, true, false, _&&_, cond}
-use mathlib.Core.Path.{_≡_, refl, sym, ap, ap₂, _∙_, subst}
+use mathlib.Core.Path.{_≡_, refl, sym, ap, ap₂, _∙_}
 use mathlib.Core.List.{List, [], _∷_, _++_, map}
 use Prim.Native.Nat.{ℕ, zero, suc, _+_, _-_, _*_, _/_, _≤_}
 use native.Mathlib.Nat.{suc-mul}
@@ -11,7 +11,7 @@ use lib.ListN.{length, take, drop, length-drop}
 use lib.Seq.{length-take-le, drop-at}
 use Rattle.protocol.specs.declared.Found.{Found}
 use Rattle.protocol.specs.declared.Found.the-variants.{Noise, Unfinished, Unfit, Whole}
-use Rattle.protocol.specs.Numbers.{pageBytes, fourBytes, frameBytes, dataPacket, lastPacket, done}
+use Rattle.protocol.specs.Numbers.{pageBytes, fourBytes, dataPacket, lastPacket, done}
 use Rattle.protocol.specs.Bytes.{joined, split}
 use Rattle.protocol.specs.Packet.{packet, lengthOf, accepts, addressAt, identifierAt, contentAt, rightAt, endAt}
 use Rattle.protocol.specs.Finder.{findOf}
@@ -24,7 +24,7 @@ use Rattle.protocol.specs.Call.{Shape, fitRoom, Ended, replyOf, carried,
 use Rattle.protocol.proofs.Laws.Logic.{and-i}
 use Rattle.protocol.proofs.Laws.Lists.{follow-append, split-joined, take-lay}
 use Rattle.protocol.proofs.Laws.Finder.{length-packet}
-use Rattle.protocol.proofs.Laws.Answers.{spared, obeyed}
+use Rattle.protocol.proofs.Laws.Answers.{obeyed}
 use Rattle.protocol.proofs.Laws.Legal.{buffer-long, Good}
 use Rattle.protocol.proofs.Laws.Sizes.{Size}
 use Rattle.protocol.proofs.Promises.ReadBack.{ReadsAs, reads-back}

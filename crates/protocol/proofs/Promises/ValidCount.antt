@@ -1,34 +1,34 @@
 -- Demand 2: "From an empty library, the valid count always equals the pages stored and not deleted since."
 -- The host knows what it sent and what it was answered: a Store, DeletChar or Empty that was answered 00h counts.
 use mathlib.Core.Bool.{Bool, true, false, _&&_, _||_, not, cond}
-use mathlib.Core.Path.{_≡_, refl, sym, ap, ap₂, _∙_, subst}
+use mathlib.Core.Path.{_≡_, refl, ap, _∙_, subst}
 use mathlib.Core.Logic.{_⊎_, inl, inr}
 use mathlib.Core.List.{List, [], _∷_, _++_}
 use Prim.Native.Nat.{ℕ, zero, suc, _+_, _*_, _≤_, _<_}
 use native.Mathlib.Omega.{arith}
 use lib.Dec.{T, eqb, leb→le, ltb→lt, eqb·suc-zero}
-use lib.ListN.{length, take}
+use lib.ListN.{length}
 use Rattle.protocol.specs.declared.Found.{Found}
 use Rattle.protocol.specs.declared.Found.the-variants.{Noise, Unfinished, Unfit, Whole}
 use Rattle.protocol.specs.Numbers.{done}
-use Rattle.protocol.specs.Bytes.{two, zeros, same, lay, follow}
-use Rattle.protocol.specs.Tests.{verdict, among, countBelow}
+use Rattle.protocol.specs.Bytes.{two, zeros, same, follow}
+use Rattle.protocol.specs.Tests.{among, countBelow}
 use Rattle.protocol.specs.Packet.{packet, addressAt, identifierAt, rightAt, contentAt}
 use Rattle.protocol.specs.Finder.{findOf}
 use Rattle.protocol.specs.Index.{stored, setBits}
-use Rattle.protocol.specs.Reader.{Transfer, closed, opened, unfit, Plain, Guarded, Reader, capacity, keyed, locked, withTransfer, withLibrary, withNotepad, withBuffer}
-use Rattle.protocol.specs.Commands.{Free, Barred, store, loadChar, upChar, downChar, deletChar, empty, setSysPara, readSysPara, setPassword, setAddress, writeNotepad, readNotepad, templeteNum, readIndexTable, Command, free, barred, Order, command}
+use Rattle.protocol.specs.Reader.{Reader, capacity, locked, withLibrary, withNotepad, withBuffer}
+use Rattle.protocol.specs.Commands.{Barred, store, loadChar, upChar, downChar, deletChar, empty, setSysPara, readSysPara, setPassword, setAddress, writeNotepad, readNotepad, templeteNum, readIndexTable, barred, command}
 use Rattle.protocol.specs.Data.{acknowledge}
 use Rattle.protocol.specs.Table.{rule, apply}
-use Rattle.protocol.specs.Step.{Heard, nothing, order, piece, hearAs, hearAt, hear, Said, silence, says, carryAs, carry, carryFree, obey, heed, ended, rested, takeAs, answer, stepOf, switched, wiped}
-use Rattle.protocol.specs.Call.{Shape, fitLengths, fitRoom, legal, Told, Ended, replyOf, refused, carried, callOf, switchRefusal, switchAs, switchOf}
-use Rattle.protocol.specs.Dialogue.{Event, received, switch, on, finally, Exchange, exchanges, Act, put, cut, cutAll, actsOf, actsIn, addressee, asks, grants, actsSeen, history, live}
-use Rattle.protocol.proofs.Laws.Logic.{T→true, and-l, and-r, passed, passed-verdict}
+use Rattle.protocol.specs.Step.{Heard, nothing, order, hearAs, hearAt, hear, Said, silence, says, carryAs, carryFree, rested, takeAs, answer, stepOf, switched, wiped}
+use Rattle.protocol.specs.Call.{Shape, fitLengths, fitRoom, legal, Ended, replyOf, refused, carried, callOf, switchRefusal, switchAs, switchOf}
+use Rattle.protocol.specs.Dialogue.{Event, received, switch, on, finally, exchanges, Act, put, cut, cutAll, actsOf, actsIn, addressee, asks, grants, actsSeen, history, live}
+use Rattle.protocol.proofs.Laws.Logic.{and-l, and-r, passed}
 use Rattle.protocol.proofs.Laws.Lists.{same-refl, same-eq, same-front, take-lay}
 use Rattle.protocol.proofs.Laws.Index.{Fine, stored-with, stored-span, stored-zeros, fine-with, fine-span, fine-zeros}
 use Rattle.protocol.proofs.Laws.Count.{count-ext}
-use Rattle.protocol.proofs.Laws.Answers.{Spared, spared, Kinds, answer-kinds, call-kinds, obeyed}
-use Rattle.protocol.proofs.Laws.Legal.{Good, shelf}
+use Rattle.protocol.proofs.Laws.Answers.{spared, answer-kinds, call-kinds, obeyed}
+use Rattle.protocol.proofs.Laws.Legal.{shelf}
 use Rattle.protocol.proofs.Promises.StaysLegal.{Legal, ever-legal}
 
 -- an index of m bytes tells of the same pages as the acts so far

@@ -1,6 +1,6 @@
 -- Document 01: "So, refusals apart, 0 bytes used means that the run is empty, a lone EF, or an unfinished packet of at most 264 bytes."
 use mathlib.Core.Bool.{Bool, true, false, cond}
-use mathlib.Core.Path.{_≡_, refl, sym, ap, _∙_}
+use mathlib.Core.Path.{_≡_, refl, ap}
 use mathlib.Core.Logic.{_⊎_, inl, inr, _≢_}
 use mathlib.Core.List.{List, [], _∷_}
 use Prim.Native.Nat.{ℕ, zero, suc, _+_, _-_, _≤_, _<_}
@@ -10,15 +10,14 @@ use borrow.Author.Tests.{ltb-true, eqb-true, lt-ltb}
 use lib.ListN.{length}
 use Rattle.protocol.specs.declared.Start.{Start}
 use Rattle.protocol.specs.declared.Start.the-variants.{Nowhere, At}
-use Rattle.protocol.specs.declared.Found.{Found}
-use Rattle.protocol.specs.declared.Found.the-variants.{Noise, Unfinished, Unfit, Whole}
+use Rattle.protocol.specs.declared.Found.the-variants.{Unfinished, Unfit, Whole}
 use Rattle.protocol.specs.Numbers.{firstMark, headBytes, longest}
 use Rattle.protocol.specs.Bytes.{byteAt}
 use Rattle.protocol.specs.Packet.{accepts, identifierAt, lengthAt, endAt}
 use Rattle.protocol.specs.Finder.{marksAt, later, startOf, allBut, findFrom, findOf, usedOf}
 use Rattle.protocol.specs.Reader.{Reader}
 use Rattle.protocol.specs.Step.{stepOf}
-use Rattle.protocol.specs.Call.{Shape, Ended, Told, refusalOf, callAs, callOf, refused, carried}
+use Rattle.protocol.specs.Call.{Shape, refusalOf, callAs, callOf, refused, carried}
 use Rattle.protocol.proofs.Laws.Logic.{T→true}
 use Rattle.protocol.proofs.Laws.Finder.{FirstStart, start-first, accepts-most}
 
