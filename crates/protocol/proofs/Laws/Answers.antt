@@ -106,12 +106,12 @@ module _ (σ : Shape) (r : Reader) (s room : List ℕ) where
   call-legal t u =
       let a : T (fitLengths σ (r .guarded)) = search (and-l) in
       let c : T (sound r) = search (and-r) in
-      ap (callAs r s room) (passed-verdict ((fitLengths σ (r .guarded), 1) ∷ (fitRoom room, 2) ∷ (sound r, 3) ∷ []) (search (and-i)))
+      ap (callAs r s room) (passed-verdict _ (search (and-i)))
 
   -- and with a short one, refusal 2
   pub call-short : T (legal σ r) → fitRoom room ≡ false → callOf σ r s room ≡ refused badRoom r room
   unfolding callOf callAs refusalOf legal verdict
-  call-short t u = rw (T→true (fitLengths σ (r .guarded)) (search (and-l)), u) refl
+  call-short t u = simp (T→true (fitLengths σ (r .guarded)) (search (and-l)), T→true (sound r) (search (and-r)), u) refl
 
   -- a command of a reader that is not locked, its tests passed, is carried out
   pub obeyed : T (legal σ r) → T (fitRoom room) → locked (r .plain) ≡ false → (c : Barred) → hear (r .plain .address) s ≡ order (command (barred c))
