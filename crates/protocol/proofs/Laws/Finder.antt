@@ -6,16 +6,17 @@ use Prim.Native.Nat.{ℕ, zero, suc, _+_, _-_, _≤_, _<_}
 use native.Mathlib.Nat.{not-suc-le-zero, le-of-suc-le-suc}
 use native.Mathlib.Omega.{arith}
 use native.Mathlib.Decide.{decLt}
-use lib.Dec.{T, eqb, leb, leb→le, le→leb, lit<}
-use borrow.Author.Tests.{le-ltb}
+use lib.Dec.{T, eqb, leb, leb→le, le→leb, lit<, ltb}
+use borrow.Author.Tests.{le-ltb, lt-leb, ltb-false}
 use lib.ListN.{length, length-append, List·getD-eq-default}
 use Rattle.protocol.specs.declared.Start.{Start}
 use Rattle.protocol.specs.declared.Start.the-variants.{Nowhere, At}
-use Rattle.protocol.specs.declared.Found.the-variants.{Whole}
+use Rattle.protocol.specs.declared.Found.{Found}
+use Rattle.protocol.specs.declared.Found.the-variants.{Noise, Unfinished, Unfit, Whole}
 use Rattle.protocol.specs.Numbers.{firstMark, secondMark, headBytes, frameBytes, fourBytes, shortest, longest}
 use Rattle.protocol.specs.Bytes.{two, byteAt}
 use Rattle.protocol.specs.Packet.{packet, isIdentifier, limit, accepts, addressAt, identifierAt, lengthAt, contentAt, endAt, rightAt}
-use Rattle.protocol.specs.Finder.{marksAt, later, startOf, findFrom}
+use Rattle.protocol.specs.Finder.{marksAt, later, startOf, allBut, findFrom, findOf}
 use Rattle.protocol.specs.Step.{hearAs, hearAt}
 use Rattle.protocol.proofs.Laws.Logic.{T→true, and-l, and-r, and-i, and-false}
 use Rattle.protocol.proofs.Laws.Lists.{same-refl}
@@ -38,6 +39,10 @@ pub accepts-of : (i n : ℕ) → T (isIdentifier i) → shortest ≤ n → n ≤
 unfolding accepts limit longest
 accepts-of i n t l h =
     and-i (isIdentifier i && leb shortest n) (leb n 256) (and-i (isIdentifier i) (leb shortest n) t (le→leb shortest n l)) (le→leb n 256 h)
+
+pub too-long : (i n : ℕ) → longest < n → accepts i n ≡ false
+unfolding accepts limit
+too-long i n h = and-false (isIdentifier i && leb shortest n) (leb n longest) (lt-leb n longest h)
 
 -- a length field has two bytes
 pub longest-word : longest < 65536
@@ -79,6 +84,34 @@ marks-in s p e = go (decLt (suc p) (length s))
     go (no h) =
         let z : byteAt s (suc p) ≡ 0 = List·getD-eq-default s 0 {n = suc p} (omega arith) in
         absurd (true≢false (sym e ∙ ap (λ (n : ℕ). eqb (byteAt s p) firstMark && eqb n secondMark) z ∙ and-false (eqb (byteAt s p) firstMark) false refl))
+
+-- ---- what is found lies in the run
+
+abbrev pub Within : List ℕ → Found → Type 0
+Within s (Noise n) = n ≤ length s
+Within s (Unfinished p) = p ≤ length s
+Within s (Unfit p) = p + headBytes ≤ length s
+Within s (Whole p n) = (endAt p n ≤ length s) × T (accepts (identifierAt s p) n)
+
+pub found-in : (s : List ℕ) → Within s (findOf s)
+unfolding findOf findFrom allBut
+found-in s = go (startOf s) (start-first s)
+  where
+    none : (b : Bool) → cond b (length s - 1) (length s) ≤ length s
+    none true = omega arith
+    none false = omega arith
+
+    at : (p : ℕ) → suc p < length s → (a b c : Bool) → ltb (length s) (p + headBytes) ≡ a → accepts (identifierAt s p) (lengthAt s p) ≡ b → ltb (length s) (endAt p (lengthAt s p)) ≡ c
+        → Within s (cond a (Unfinished p) (cond b (cond c (Unfinished p) (Whole p (lengthAt s p))) (Unfit p)))
+    at p h true b c ea eb ec = omega arith
+    at p h false true true ea eb ec = omega arith
+    at p h false true false ea eb ec = (ltb-false (length s) (endAt p (lengthAt s p)) ec, rw eb tt)
+    at p h false false c ea eb ec = ltb-false (length s) (p + headBytes) ea
+
+    go : (r : Start) → FirstStart s r → Within s (findFrom s r)
+    go Nowhere h = none (eqb (byteAt s (length s - 1)) firstMark)
+    go (At p) h =
+        at p (marks-in s p (h .0)) (ltb (length s) (p + headBytes)) (accepts (identifierAt s p) (lengthAt s p)) (ltb (length s) (endAt p (lengthAt s p))) refl refl refl
 
 -- ---- a whole packet at p, by the facts that the code's tests give
 

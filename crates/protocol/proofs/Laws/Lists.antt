@@ -3,11 +3,12 @@ use mathlib.Core.Bool.{true}
 use mathlib.Core.Path.{_≡_, refl, sym, ap, ap₂, _∙_}
 use mathlib.Core.List.{List, [], _∷_, _++_, append-assoc, append-nil}
 use Prim.Native.Nat.{ℕ, zero, suc, _+_, _-_, _*_, _/_, _%_, _≤_, _<_}
-use native.Mathlib.Nat.{suc-mul, add-zero}
+use native.Mathlib.Nat.{suc-mul, add-zero, add-assoc}
+use native.Mathlib.Numerals.{add-one}
 use native.Mathlib.Omega.{arith}
 use lib.Dec.{eqb, eqb→eq}
-use lib.ListN.{length, take, drop, length-append, length-take, length-drop, take-append-drop, drop-of-length-le}
-use lib.Seq.{take-at, take-append-le, take-append-seam, drop-append-seam, drop-append-le, drop-append-add, drop-drop, length-take-le}
+use lib.ListN.{length, take, drop, length-append, length-take, length-drop, take-append-drop, drop-of-length-le, getD, set}
+use lib.Seq.{take-at, take-append-le, take-append-seam, drop-append-seam, drop-append-le, drop-append-add, drop-drop, length-take-le, take-suc, drop-cons, set-at}
 use Rattle.protocol.specs.Bytes.{part, zeros, same, lay, follow, joined, split}
 use Rattle.protocol.proofs.Laws.Logic.{T→true, and-l, and-r, eqb-same}
 
@@ -127,6 +128,46 @@ part-zeros zero (suc n) zero h = absurd (omega arith)
 part-zeros zero (suc n) (suc m) h = ap (λ (t : List ℕ). 0 ∷ t) (part-zeros zero n m (omega arith))
 part-zeros (suc j) n zero h = absurd (omega arith)
 part-zeros (suc j) n (suc m) h = part-zeros j n m (omega arith)
+
+-- ---- laid piece by piece
+
+-- the bytes from i on, of which there is one
+pub from : (s : List ℕ) (i : ℕ) → i < length s → drop i s ≡ getD s i 0 ∷ drop (i + 1) s
+from s i h = rw (add-one, drop-cons s i 0)
+
+-- two pieces laid one after the other are their join, laid once
+pub lay-lay : (i n : ℕ) (a b d : List ℕ) → n ≡ i + length a → n + length b ≤ length d → lay n b (lay i a d) ≡ lay i (a ++ b) d
+unfolding lay
+lay-lay i n a b d e h =
+    let long : length (take i d ++ a) ≡ n = simp (length-append, length-take) (omega arith) in
+    let rest : drop (n + length b) ((take i d ++ a) ++ drop (i + length a) d) ≡ drop (i + length (a ++ b)) d =
+    rw (← long, drop-append-add, drop-drop, length-append, add-assoc)
+    in
+    rw (← append-assoc (take i d) a (drop (i + length a) d), take-at (take i d ++ a) (drop (i + length a) d) n long, rest) (simp append-assoc)
+
+-- one byte more
+pub lay-more : (i k : ℕ) (s d : List ℕ) → k < length s → i + length s ≤ length d → set (lay i (take k s) d) (i + k) (getD s k 0) ≡ lay i (take (k + 1) s) d
+unfolding lay
+lay-more i k s d h l =
+    let one : length (take k s) ≡ k = length-take-le k s (omega arith) in
+    let long : length (take i d ++ take k s) ≡ i + k = simp (length-append, length-take) (omega arith) in
+    let next : take (k + 1) s ≡ take k s ++ (getD s k 0 ∷ []) = rw (add-one, take-suc s k 0) in
+    let more : length (take (k + 1) s) ≡ k + 1 = length-take-le (k + 1) s (omega arith) in
+    let here : drop (i + k) d ≡ getD d (i + k) 0 ∷ drop (i + k + 1) d = from d (i + k) (omega arith) in
+    rw (
+      more,
+      one,
+      here,
+      ← append-assoc (take i d) (take k s) (getD d (i + k) 0 ∷ drop (i + k + 1) d),
+      set-at (take i d ++ take k s) (getD d (i + k) 0) (drop (i + k + 1) d) (getD s k 0) (i + k) long,
+      next,
+    )
+    (simp (append-assoc, add-assoc))
+
+-- a list as long as what it is laid over
+pub lay-whole : (s d : List ℕ) → length s ≡ length d → lay 0 s d ≡ s
+unfolding lay
+lay-whole s d e = let h : length d ≤ 0 + length s = omega arith in rw (drop-of-length-le d h, append-nil)
 
 -- ---- split and joined
 

@@ -1,0 +1,4 @@
+pub mod Picks
+pub mod Sums
+pub mod Starts
+pub mod Packets

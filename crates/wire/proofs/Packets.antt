@@ -1,0 +1,41 @@
+-- A packet laid piece by piece: head, content, sum.
+use mathlib.Core.Path.{_≡_, refl, ap, _∙_}
+use mathlib.Core.List.{List, [], _∷_, _++_, append-assoc}
+use Prim.Native.Nat.{ℕ, _+_, _/_, _%_, _≤_}
+use native.Mathlib.Nat.{add-mod-mod}
+use native.Mathlib.Omega.{arith}
+use lib.ListN.{length, getD, length-append}
+use Rattle.protocol.specs.Numbers.{firstMark, secondMark}
+use Rattle.protocol.specs.Bytes.{two, total, lay}
+use Rattle.protocol.specs.Packet.{lengthOf, sumOf, packet}
+use Rattle.protocol.proofs.Laws.Lists.{by-four, lay-lay}
+use Rattle.wire.specs.Laying.{headOf}
+
+-- the sum as the code adds it
+pub packet-sum : (i : ℕ) (c : List ℕ) → (i + lengthOf c / 256 % 256 + lengthOf c % 256 + total c % 65536) % 65536 ≡ sumOf i c
+unfolding total sumOf two
+packet-sum i c = add-mod-mod _ _ _ ∙ ap (λ (m : ℕ). m % 65536) (omega arith)
+
+-- the head as the code lists it
+pub head-list : (a : List ℕ) (i n : ℕ) → length a ≡ 4
+    → firstMark ∷ secondMark ∷ getD a 0 0 ∷ getD a 1 0 ∷ getD a 2 0 ∷ getD a 3 0 ∷ i ∷ n / 256 % 256 ∷ n % 256 ∷ [] ≡ headOf a i n
+unfolding headOf two
+head-list a i n e =
+    by-four a e
+    (λ (x : List ℕ). firstMark ∷ secondMark ∷ getD x 0 0 ∷ getD x 1 0 ∷ getD x 2 0 ∷ getD x 3 0 ∷ i ∷ n / 256 % 256 ∷ n % 256 ∷ [] ≡ headOf x i n) (λ w x y z. refl)
+
+length-head : (a : List ℕ) (i n : ℕ) → length a ≡ 4 → length (headOf a i n) ≡ 9
+unfolding headOf two
+length-head a i n e = simp length-append (omega arith)
+
+pub packet-laid : (a : List ℕ) (i : ℕ) (c d : List ℕ) → length a ≡ 4 → length c + 11 ≤ length d
+    → lay (9 + length c) (two (sumOf i c)) (lay 9 c (lay 0 (headOf a i (lengthOf c)) d)) ≡ lay 0 (packet a i c) d
+unfolding headOf packet two
+packet-laid a i c d e h =
+    let head : List ℕ = headOf a i (lengthOf c) in
+    let sum : List ℕ = two (sumOf i c) in
+    let long : length head ≡ 9 = length-head a i (lengthOf c) e in
+    let both : length (head ++ c) ≡ 9 + length c = length-append head c ∙ omega arith in
+    ap (lay (9 + length c) sum) (lay-lay 0 9 head c d (omega arith) (omega arith))
+    ∙ lay-lay 0 (9 + length c) (head ++ c) sum d (omega arith) (omega arith)
+    ∙ ap (λ (x : List ℕ). lay 0 x d) (append-assoc head c sum ∙ simp append-assoc)

@@ -1,0 +1,56 @@
+// Bytes: widened, summed, compared, and copied.
+ghost use mathlib.Core.Path.{_≡_};
+ghost use Prim.Native.Nat.{_+_, _%_, _≤_, _<_};
+ghost use lib.ListN.{length};
+ghost use Rattle.protocol.specs.Bytes.{total, same, lay};
+ghost use Rattle.wire.specs.Laying.{layFront};
+
+// A byte as a number.
+pub fn wide(x: u8) -> usize
+    ensures { λ r. ⌜ (r ≡ x) × (r < 256) ⌝ }
+{
+    x as usize
+}
+
+// The sum of all bytes modulo 65536.
+pub fn sum(s: &[u8]) -> u16
+    ensures { λ r. ⌜ r ≡ total (now (s .entry)) % 65536 ⌝ }
+{
+    let mut acc: u16 = 0;
+    let mut i = 0;
+    while i < s.len() {
+        acc = std::num::wrapping_add_u16(acc, s[i] as u16);
+        i += 1;
+    }
+    acc
+}
+
+// Whether two words of four bytes are the same. Every byte is looked at, whatever the others are.
+pub fn is_same(a: [u8; 4], b: [u8; 4]) -> bool
+    ensures { λ r. ⌜ r ≡ same a b ⌝ }
+{
+    let d = wide(a[0] ^ b[0]) + wide(a[1] ^ b[1]) + wide(a[2] ^ b[2]) + wide(a[3] ^ b[3]);
+    d == 0
+}
+
+// Lays src over dst from place at on, and returns the place after it.
+pub(crate) fn lay_at(dst: &mut [u8], at: usize, src: &[u8]) -> usize
+    requires { ⌜ at + length (now src) ≤ length (now dst) ⌝ }
+    ensures { λ r. ⌜ (r ≡ at + length (now (src .entry))) × (now (dst .exit) ≡ lay at (now (src .entry)) (now (dst .entry))) ⌝ }
+{
+    let mut i = 0;
+    while i < src.len() {
+        dst[at + i] = src[i];
+        i += 1;
+    }
+    at + i
+}
+
+// Copies src over the front of dst; where it is too long, nothing is written.
+pub fn put(dst: &mut [u8], src: &[u8])
+    ensures { λ _. ⌜ now (dst .exit) ≡ layFront (now (src .entry)) (now (dst .entry)) ⌝ }
+{
+    if src.len() <= dst.len() {
+        lay_at(dst, 0, src);
+    }
+}

@@ -1,0 +1,126 @@
+// Finding a packet: steps 1 to 4 of document 01.
+ghost use mathlib.Core.Path.{_≡_};
+ghost use Prim.Native.Nat.{_+_, _*_, _<_};
+ghost use lib.ListN.{length};
+ghost use Rattle.protocol.specs.Bytes.{wordAt};
+ghost use Rattle.protocol.specs.Packet.{isIdentifier, accepts};
+ghost use Rattle.protocol.specs.Finder.{startOf, allBut, findOf, usedOf};
+ghost use Rattle.protocol.specs.Services.{usedService};
+use crate::bytes;
+use protocol::Found;
+use protocol::Start;
+
+const FIRST_MARK: u8 = 0xEF;
+
+const SECOND_MARK: u8 = 0x01;
+
+const HEAD: usize = 9;
+
+const SHORTEST: usize = 3;
+
+const LONGEST: usize = 256;
+
+// The first place with EF followed by 01.
+pub fn start(s: &[u8]) -> Start
+    ensures { λ r. ⌜ r ≡ startOf (now (s .entry)) ⌝ }
+{
+    if s.len() == 0 {
+        return Start::Nowhere;
+    }
+    let last = s.len() - 1;
+    let mut i = 0;
+    while i < last {
+        if s[i] == FIRST_MARK {
+            if s[i + 1] == SECOND_MARK {
+                return Start::At { place: i };
+            }
+        }
+        i += 1;
+    }
+    Start::Nowhere
+}
+
+// The whole run, less one if it ends in EF.
+pub fn all_but(s: &[u8]) -> usize
+    ensures { λ r. ⌜ r ≡ allBut (now (s .entry)) ⌝ }
+{
+    if s.len() == 0 {
+        return 0;
+    }
+    let last = s.len() - 1;
+    if s[last] == FIRST_MARK {
+        return last;
+    }
+    s.len()
+}
+
+pub fn is_identifier(i: u8) -> bool
+    ensures { λ r. ⌜ r ≡ isIdentifier i ⌝ }
+{
+    match i {
+        1 => true,
+        2 => true,
+        7 => true,
+        8 => true,
+        _ => false,
+    }
+}
+
+// Whether a packet can have this identifier and this length field.
+pub fn is_head(i: u8, n: usize) -> bool
+    ensures { λ r. ⌜ r ≡ accepts i n ⌝ }
+{
+    let known = is_identifier(i);
+    if known {
+        if n < SHORTEST {
+            return false;
+        }
+        return n <= LONGEST;
+    }
+    false
+}
+
+// The number in the two bytes at a place.
+fn word_at(s: &[u8], at: usize) -> usize
+    requires { ⌜ at + 1 < length (now s) ⌝ }
+    ensures { λ r. ⌜ (r ≡ wordAt (now (s .entry)) at) × (r < 65536) ⌝ }
+{
+    bytes::wide(s[at]) * 256 + bytes::wide(s[at + 1])
+}
+
+// Steps 1 to 4.
+pub fn find(s: &[u8]) -> Found
+    ensures { λ r. ⌜ r ≡ findOf (now (s .entry)) ⌝ }
+{
+    let f = start(s);
+    let Start::At { place } = f else {
+        return Found::Noise { used: all_but(s) };
+    };
+    let left = s.len() - place;
+    if left < HEAD {
+        return Found::Unfinished { at: place };
+    }
+    let i = s[place + 6];
+    let n = word_at(s, place + 7);
+    let fit = is_head(i, n);
+    if fit {
+        if left < HEAD + n {
+            return Found::Unfinished { at: place };
+        }
+        return Found::Whole { at: place, len: n };
+    }
+    Found::Unfit { at: place }
+}
+
+// The bytes used of a run.
+pub fn used(s: &[u8]) -> usize
+    ensures { λ r. ⌜ r ≡ usedService (now (s .entry)) ⌝ }
+{
+    let f = find(s);
+    match f {
+        Found::Noise { used } => used,
+        Found::Unfinished { at } => at,
+        Found::Unfit { at } => at + 2,
+        Found::Whole { at, len } => at + HEAD + len,
+    }
+}
