@@ -9,11 +9,11 @@ use Rattle.protocol.specs.Index.{bit}
 use Rattle.protocol.proofs.Laws.Logic.{every-at}
 
 -- a test at every byte and every place of a bit
-unfoldable everyBit : (ℕ → ℕ → Bool) → Bool
+unfoldable pub everyBit : (ℕ → ℕ → Bool) → Bool
 unfolding every
 everyBit f = every (λ b. every (f b) 8) 256
 
-every-bit : (f : ℕ → ℕ → Bool) → T (everyBit f) → (b k : ℕ) → b < 256 → k < 8 → T (f b k)
+pub every-bit : (f : ℕ → ℕ → Bool) → T (everyBit f) → (b k : ℕ) → b < 256 → k < 8 → T (f b k)
 unfolding everyBit
 every-bit f t b k h l = every-at (f b) 8 (every-at (λ (c : ℕ). every (f c) 8) 256 t b h) k l
 

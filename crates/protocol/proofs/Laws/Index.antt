@@ -186,7 +186,7 @@ byte-zeros zero i = refl
 byte-zeros (suc n) zero = refl
 byte-zeros (suc n) (suc i) = byte-zeros n i
 
-bit-zero : (k : ℕ) → bit 0 k ≡ 0
+pub bit-zero : (k : ℕ) → bit 0 k ≡ 0
 unfolding bit
 bit-zero k = ap (λ (n : ℕ). n % 2) (zero-div (2 ^ k))
 

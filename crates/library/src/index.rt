@@ -1,0 +1,107 @@
+// The index: page p is the bit of weight 2^(p mod 8) in byte p / 8. A page that the index has no bit for is not stored, and stays so.
+ghost use mathlib.Core.Path.{_≡_};
+ghost use Prim.Native.Nat.{_+_, _*_, _/_, _%_, _≤_, _<_};
+ghost use lib.ListN.{length};
+ghost use Rattle.protocol.specs.Bytes.{byteAt};
+ghost use Rattle.protocol.specs.Index.{bit, stored, setBit, clearBit, clearBits, setBits, clearFrom};
+ghost use Rattle.library.specs.Lent.{countOf};
+use wire::bytes;
+
+const NO_COUNT: u16 = 0xFFFF;
+
+// A page's bit: shifted down and masked.
+fn bit_at(index: &[u8], p: usize) -> usize
+    requires { ⌜ p / 8 < length (now index) ⌝ }
+    ensures { λ r. ⌜ (r ≡ bit (byteAt (now (index .entry)) (p / 8)) (p % 8)) × (r ≤ 1) ⌝ }
+{
+    let b = index[p / 8];
+    let v = b >> (p % 8);
+    bytes::wide(v & 1)
+}
+
+// Whether a page is stored.
+pub fn has_bit(index: &[u8], p: usize) -> bool
+    ensures { λ r. ⌜ r ≡ stored (now (index .entry)) p ⌝ }
+{
+    if p / 8 < index.len() {
+        let v = bit_at(index, p);
+        return v == 1;
+    }
+    false
+}
+
+pub fn set_bit(index: &mut [u8], p: usize)
+    ensures { λ _. ⌜ now (index .exit) ≡ setBit (now (index .entry)) p ⌝ }
+{
+    if p / 8 < index.len() {
+        let b = index[p / 8];
+        let m = 1u8 << (p % 8);
+        index[p / 8] = b | m;
+    }
+}
+
+pub fn clear_bit(index: &mut [u8], p: usize)
+    ensures { λ _. ⌜ now (index .exit) ≡ clearBit (now (index .entry)) p ⌝ }
+{
+    if p / 8 < index.len() {
+        let b = index[p / 8];
+        let m = 1u8 << (p % 8);
+        index[p / 8] = b & !m;
+    }
+}
+
+// Clears n bits from p on.
+pub fn clear_bits(index: &mut [u8], p: u16, n: u16)
+    ensures { λ _. ⌜ now (index .exit) ≡ clearBits (now (index .entry)) p n ⌝ }
+{
+    let mut q = p as usize;
+    let mut left = n as usize;
+    while 0 < left {
+        clear_bit(index, q);
+        q += 1;
+        left = left - 1;
+    }
+}
+
+// Whether every bit from page c on is clear. It goes by bytes: the rest of c's byte, then every later byte, without an early exit.
+pub fn is_clear_from(index: &[u8], c: usize) -> bool
+    ensures { λ r. ⌜ r ≡ clearFrom (now (index .entry)) c ⌝ }
+{
+    let at = c / 8;
+    if at < index.len() {
+        let mut found = index[at] >> (c % 8);
+        let mut i = at + 1;
+        while i < index.len() {
+            found = found | index[i];
+            i += 1;
+        }
+        return found == 0;
+    }
+    true
+}
+
+// The set bits of a short index, one by one.
+fn count_bits(index: &[u8]) -> usize
+    requires { ⌜ length (now index) < 256 ⌝ }
+    ensures { λ r. ⌜ (r ≡ setBits (now (index .entry))) × (r ≤ 8 * length (now (index .entry))) ⌝ }
+{
+    let end = 8 * index.len();
+    let mut n = 0;
+    let mut p = 0;
+    while p < end {
+        n += bit_at(index, p);
+        p += 1;
+    }
+    n
+}
+
+// The number of set bits in an index of so many bytes, FFFFh if it is not that long.
+pub fn count(index: &[u8], length: u8) -> u16
+    ensures { λ r. ⌜ r ≡ countOf length (now (index .entry)) ⌝ }
+{
+    let n = bytes::wide(length);
+    if index.len() == n {
+        return count_bits(index) as u16;
+    }
+    NO_COUNT
+}

@@ -1,0 +1,70 @@
+// Pages of the templates: page p is the 512 bytes that start at 512 × p, lent as a part. What does not fit changes nothing.
+ghost use mathlib.Core.Path.{_≡_};
+ghost use Prim.Native.Nat.{_+_, _*_, _/_, _≤_, _<_};
+ghost use lib.ListN.{length};
+ghost use Rattle.protocol.specs.Bytes.{zeros};
+ghost use Rattle.library.specs.Lent.{writePage, readPage, zeroPage, zeroPages};
+use wire::bytes;
+
+const PAGE: usize = 512;
+
+// Zeroes a slice.
+pub fn zero(s: &mut [u8])
+    ensures { λ _. ⌜ now (s .exit) ≡ zeros (length (now (s .entry))) ⌝ }
+{
+    let mut i = 0;
+    while i < s.len() {
+        s[i] = 0;
+        i += 1;
+    }
+}
+
+// Copies 512 bytes to a page.
+pub fn write_page(templates: &mut [u8], page: usize, src: &[u8])
+    ensures { λ _. ⌜ now (templates .exit) ≡ writePage page (now (src .entry)) (now (templates .entry)) ⌝ }
+{
+    if page < templates.len() / PAGE {
+        if src.len() == PAGE {
+            let a = PAGE * page;
+            let e = a + PAGE;
+            bytes::put(&mut templates[a..e], src);
+        }
+    }
+}
+
+// Copies a page to 512 bytes.
+pub fn read_page(dst: &mut [u8], templates: &[u8], page: usize)
+    ensures { λ _. ⌜ now (dst .exit) ≡ readPage page (now (templates .entry)) (now (dst .entry)) ⌝ }
+{
+    if page < templates.len() / PAGE {
+        if dst.len() == PAGE {
+            let a = PAGE * page;
+            let e = a + PAGE;
+            bytes::put(dst, &templates[a..e]);
+        }
+    }
+}
+
+// Zeroes a page.
+pub fn zero_page(templates: &mut [u8], page: usize)
+    ensures { λ _. ⌜ now (templates .exit) ≡ zeroPage page (now (templates .entry)) ⌝ }
+{
+    if page < templates.len() / PAGE {
+        let a = PAGE * page;
+        let e = a + PAGE;
+        zero(&mut templates[a..e]);
+    }
+}
+
+// Zeroes n pages from a page on.
+pub fn zero_pages(templates: &mut [u8], page: u16, n: u16)
+    ensures { λ _. ⌜ now (templates .exit) ≡ zeroPages page n (now (templates .entry)) ⌝ }
+{
+    let mut q = page as usize;
+    let mut left = n as usize;
+    while 0 < left {
+        zero_page(templates, q);
+        q += 1;
+        left = left - 1;
+    }
+}
