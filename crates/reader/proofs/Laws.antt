@@ -1,0 +1,78 @@
+-- Small laws of the commands: parameters, chosen buffers, pages and counts within range, and the sixteen bytes of ReadSysPara.
+use mathlib.Core.Path.{_≡_, refl, sym, ap, _∙_}
+use mathlib.Core.Bool.{Bool, true, false, cond}
+use mathlib.Core.List.{List, [], _∷_, _++_}
+use Prim.Native.Nat.{ℕ, _+_, _-_, _*_, _/_, _%_, _≤_, _<_}
+use native.Mathlib.Omega.{arith}
+use lib.ListN.{length, getD, take, drop, length-drop}
+use lib.Seq.{take-all}
+use borrow.Author.Tests.{lt-ltb, eq-eqb}
+use Rattle.protocol.specs.Bytes.{two, part, lay, joined}
+use Rattle.protocol.specs.Index.{setBits}
+use Rattle.protocol.specs.Reader.{Buffer}
+use Rattle.protocol.proofs.Laws.Lists.{from, by-four}
+use Rattle.library.specs.Lent.{countOf, writePage, readPage}
+
+-- ---- parameters
+
+-- four bytes from a place on
+pub four-from : (s : List ℕ) (i : ℕ) → i + 4 ≤ length s → getD s i 0 ∷ getD s (i + 1) 0 ∷ getD s (i + 2) 0 ∷ getD s (i + 3) 0 ∷ [] ≡ part i 4 s
+four-from s i h =
+    let a : i < length s = omega arith in
+    let b : i + 1 < length s = omega arith in
+    let c : i + 2 < length s = omega arith in
+    let d : i + 3 < length s = omega arith in
+    let e : i + 1 + 1 ≡ i + 2 = omega arith in
+    let f : i + 2 + 1 ≡ i + 3 = omega arith in
+    rw (from s i a, from s (i + 1) b, e, from s (i + 2) c, f, from s (i + 3) d)
+
+-- all but the first k of k + n bytes
+pub take-rest : (k n : ℕ) (c : List ℕ) → length c ≡ k + n → take n (drop k c) ≡ drop k c
+take-rest k n c h = take-all n (drop k c) (omega (arith, length-drop k c))
+
+-- ---- a buffer by its number
+
+pub chosen-filled : (w : Bool) (x y : Buffer) → (cond w x y) .filled ≡ cond w (x .filled) (y .filled)
+chosen-filled true x y = refl
+chosen-filled false x y = refl
+
+pub chosen-bytes : (w : Bool) (x y : Buffer) → (cond w x y) .bytes ≡ cond w (x .bytes) (y .bytes)
+chosen-bytes true x y = refl
+chosen-bytes false x y = refl
+
+pub chosen-long : (w : Bool) (a b : List ℕ) (n : ℕ) → length a ≡ n → length b ≡ n → length (cond w a b) ≡ n
+chosen-long true a b n p q = p
+chosen-long false a b n p q = q
+
+-- ---- within range
+
+pub writes : (p : ℕ) (b t : List ℕ) → p < length t / 512 → length b ≡ 512 → writePage p b t ≡ lay (512 * p) b t
+unfolding writePage
+writes p b t h e = rw (lt-ltb _ _ h, eq-eqb _ _ e) refl
+
+pub reads : (p : ℕ) (t d : List ℕ) → p < length t / 512 → length d ≡ 512 → readPage p t d ≡ part (512 * p) 512 t
+unfolding readPage
+reads p t d h e = rw (lt-ltb _ _ h, eq-eqb _ _ e) refl
+
+pub counts : (n : ℕ) (x : List ℕ) → length x ≡ n → countOf n x ≡ setBits x
+unfolding countOf
+counts n x e = rw (eq-eqb _ _ e) refl
+
+-- a 16-bit number's high byte
+pub high-byte : (n : ℕ) → n < 65536 → n / 256 ≡ n / 256 % 256
+high-byte n h = omega arith
+
+-- ---- ReadSysPara
+
+pub parameter-list : (s k p l : ℕ) (a : List ℕ) (z f : ℕ) → length a ≡ 4
+    → (s / 256 % 256) ∷ (s % 256) ∷ (k / 256 % 256) ∷ (k % 256) ∷ (p / 256 % 256) ∷ (p % 256) ∷ (l / 256 % 256) ∷ (l % 256) ∷ getD a 0 0 ∷ getD a 1 0 ∷ getD a 2 0 ∷ getD a 3 0
+    ∷ (z / 256 % 256) ∷ (z % 256) ∷ (f / 256 % 256) ∷ (f % 256) ∷ []
+    ≡ joined (two s ∷ two k ∷ two p ∷ two l ∷ a ∷ two z ∷ two f ∷ [])
+unfolding joined two
+parameter-list s k p l a z f e =
+    by-four a e
+    (λ (x : List ℕ).
+    (s / 256 % 256) ∷ (s % 256) ∷ (k / 256 % 256) ∷ (k % 256) ∷ (p / 256 % 256) ∷ (p % 256) ∷ (l / 256 % 256) ∷ (l % 256) ∷ getD x 0 0 ∷ getD x 1 0 ∷ getD x 2 0 ∷ getD x 3 0
+    ∷ (z / 256 % 256) ∷ (z % 256) ∷ (f / 256 % 256) ∷ (f % 256) ∷ []
+    ≡ joined (two s ∷ two k ∷ two p ∷ two l ∷ x ∷ two z ∷ two f ∷ []))
+    (λ w x y z. refl)

@@ -1,0 +1,107 @@
+-- Each return is the row's value, by the tests that led there.
+use Rattle.wire.proofs.Picks.{picks}
+use lib.Dec.{T, eqb, ltb, leb}
+use lib.ListN.{length, getD, take, drop, set, replicate, length-take, length-drop, length-set, length-replicate}
+use denote.Ref.{now}
+use borrow.Author.Tests.{lt-ltb, le-ltb, le-leb, lt-leb, eq-eqb, ne-eqb, ltb-true, ltb-false, leb-true, leb-false, eqb-true, eqb-false}
+use native.Mathlib.Omega.{arith}
+use Prim.Native.Nat.{ℕ, zero, suc, _+_, _-_, _*_, _/_, _%_, _^_, _≤_, _<_}
+use mathlib.Core.List.{List, [], _∷_, _++_}
+use mathlib.Core.Logic.{_⊎_, inl, inr, ⊎-elim}
+use mathlib.Core.Bool.{Bool, true, false, _&&_, _||_, not, cond}
+use mathlib.Core.Path.{_≡_, refl, sym, ap, ap₂, _∙_, subst}
+use borrow.Author.Needs.{needs}
+use Rattle.protocol.specs.Tests.{verdict, within}
+use Rattle.protocol.specs.Bytes.{two, follow, four, same, wordAt, part, zeros}
+use Rattle.protocol.specs.Reader.{capacity, bufferOf, emptied, filledWith, withMark, withTransfer, withPassword, withAddress, withTuning, withLibrary, withNotepad, withBuffer, sizeOf, locked, keyed, fresh, closed}
+use Rattle.protocol.specs.Table.{apply, isBuffer, inRange, withParameter, statusOf, rule, freeRule, publicOf}
+use Rattle.protocol.specs.Step.{silence, says, carry, carryAs, carryFree}
+use Rattle.protocol.specs.Records.{transferOf, plainOf}
+use Rattle.reader.specs.Answers.{sent}
+use Rattle.reader.proofs.Laws.{four-from, take-rest, chosen-filled, chosen-bytes, chosen-long, writes, reads, counts, high-byte, parameter-list}
+use Rattle.reader.proofs.Transfers.{fit-none, fit-far, fit-at}
+use Rattle.library.proofs.Parts.{zeroed, part-put, part-read}
+use lib.Seq.{take-all}
+use Rattle.protocol.specs.Call.{fitPlain}
+use Rattle.protocol.specs.Numbers.{highestSize}
+use Rattle.reader.proofs.buffers.down_char.Statement.{statement}
+use Rattle.reader.proofs.buffers.down_char.Tie as tie
+use Rattle.reader.proofs.buffers.down_char.Reads as reads
+use Rattle.reader.proofs.buffers.down_char.Lts as lts
+use Rattle.library.proofs.pages.zero.Reads as zero-reads
+use Rattle.reader.proofs.answers.plain.Reads as plain-reads
+use Rattle.reader.proofs.settings.filled.Reads as filled-reads
+use Rattle.reader.proofs.settings.moved.Reads as moved-reads
+use Rattle.reader.proofs.stored.is_buffer.Reads as is-buffer-reads
+
+is-buffer-requires : tie.Need-is-buffer-requires
+is-buffer-requires c κs = search needs
+
+zero-requires : tie.Need-zero-requires
+zero-requires c κs = search needs
+
+filled-requires : tie.Need-filled-requires
+filled-requires c κs = search needs
+
+moved-requires : tie.Need-moved-requires
+moved-requires c κs = search needs
+
+plain-requires : tie.Need-plain-requires
+plain-requires c κs = search needs
+
+same-length : tie.Need-same-length
+same-length c = search needs
+
+returns : tie.Need-returns
+unfolding carry carryAs rule verdict capacity says follow sent apply withBuffer emptied withTransfer transferOf
+returns c =
+    let e : length (now (c .before .before .before .before .before .before .before .before .before .before .before .before .args .buffer2)) ≡ 512 = c .before .before .before .before .before .before .before .before .before .before .before .before .pre .1 .0 in
+    (λ t i m. rw (c .plain .ensures, c .before .moved .ensures, c .before .before .filled .ensures, c .before .before .before .before .before .zero .ensures, e, ← c .before .before .before .before .before .before .before .before .before .is-buffer .ensures, c .before .before .before .before .before .before .before .before .if1 .taken, c .before .before .before .before .before .before .before .if2 .taken), rw (c .plain .ensures, c .before .moved .ensures, c .before .before .filled .ensures) (record { few = omega arith; size = c .before .before .before .before .before .before .before .before .before .before .before .before .pre .1 .1 }))
+
+zero-requires-2 : tie.Need-zero-requires-2
+zero-requires-2 c κs = search needs
+
+filled-requires-2 : tie.Need-filled-requires-2
+filled-requires-2 c κs = search needs
+
+moved-requires-2 : tie.Need-moved-requires-2
+moved-requires-2 c κs = search needs
+
+plain-requires-2 : tie.Need-plain-requires-2
+plain-requires-2 c κs = search needs
+
+same-length-2 : tie.Need-same-length-2
+same-length-2 c = search needs
+
+returns-2 : tie.Need-returns-2
+unfolding carry carryAs rule verdict capacity says follow sent apply withBuffer emptied withTransfer transferOf
+returns-2 c =
+    let e : length (now (c .before .before .before .before .before .before .before .before .before .before .before .before .args .buffer1)) ≡ 512 = c .before .before .before .before .before .before .before .before .before .before .before .before .pre .0 in
+    (λ t i m. rw (c .plain2 .ensures, c .before .moved2 .ensures, c .before .before .filled2 .ensures, c .before .before .before .before .before .zero2 .ensures, e, ← c .before .before .before .before .before .before .before .before .before .is-buffer .ensures, c .before .before .before .before .before .before .before .before .if1 .taken, ne-eqb _ _ (c .before .before .before .before .before .before .before .if2 .left)), rw (c .plain2 .ensures, c .before .moved2 .ensures, c .before .before .filled2 .ensures) (record { few = omega arith; size = c .before .before .before .before .before .before .before .before .before .before .before .before .pre .1 .1 }))
+
+plain-requires-3 : tie.Need-plain-requires-3
+plain-requires-3 c κs = search needs
+
+returns-3 : tie.Need-returns-3
+unfolding carry carryAs rule verdict capacity says follow sent
+returns-3 c = (λ t i m. rw (c .plain3 .ensures, ← c .before .before .is-buffer .ensures, c .before .if1 .left), rw (c .plain3 .ensures) (record { few = omega arith; size = c .before .before .before .before .before .pre .1 .1 }))
+
+pub down-char-spec : {M : Type 1} → statement M
+down-char-spec =
+    tie.close
+    (tie.spec
+    is-buffer-requires
+    zero-requires
+    filled-requires
+    moved-requires
+    plain-requires
+    same-length
+    returns
+    zero-requires-2
+    filled-requires-2
+    moved-requires-2
+    plain-requires-2
+    same-length-2
+    returns-2
+    plain-requires-3
+    returns-3)

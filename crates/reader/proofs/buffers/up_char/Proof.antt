@@ -1,0 +1,83 @@
+-- Each return is the row's value, by the tests that led there.
+use Rattle.wire.proofs.Picks.{picks}
+use lib.Dec.{T, eqb, ltb, leb}
+use lib.ListN.{length, getD, take, drop, set, replicate, length-take, length-drop, length-set, length-replicate}
+use denote.Ref.{now}
+use borrow.Author.Tests.{lt-ltb, le-ltb, le-leb, lt-leb, eq-eqb, ne-eqb, ltb-true, ltb-false, leb-true, leb-false, eqb-true, eqb-false}
+use native.Mathlib.Omega.{arith}
+use Prim.Native.Nat.{ℕ, zero, suc, _+_, _-_, _*_, _/_, _%_, _^_, _≤_, _<_}
+use mathlib.Core.List.{List, [], _∷_, _++_}
+use mathlib.Core.Logic.{_⊎_, inl, inr, ⊎-elim}
+use mathlib.Core.Bool.{Bool, true, false, _&&_, _||_, not, cond}
+use mathlib.Core.Path.{_≡_, refl, sym, ap, ap₂, _∙_, subst}
+use borrow.Author.Needs.{needs}
+use Rattle.protocol.specs.Tests.{verdict, within}
+use Rattle.protocol.specs.Bytes.{two, follow, four, same, wordAt, part, zeros}
+use Rattle.protocol.specs.Reader.{capacity, bufferOf, emptied, filledWith, withMark, withTransfer, withPassword, withAddress, withTuning, withLibrary, withNotepad, withBuffer, sizeOf, locked, keyed, fresh, closed}
+use Rattle.protocol.specs.Table.{apply, isBuffer, inRange, withParameter, statusOf, rule, freeRule, publicOf}
+use Rattle.protocol.specs.Step.{silence, says, carry, carryAs, carryFree}
+use Rattle.protocol.specs.Records.{transferOf, plainOf}
+use Rattle.reader.specs.Answers.{sent}
+use Rattle.reader.proofs.Laws.{four-from, take-rest, chosen-filled, chosen-bytes, chosen-long, writes, reads, counts, high-byte, parameter-list}
+use Rattle.reader.proofs.Transfers.{fit-none, fit-far, fit-at}
+use Rattle.library.proofs.Parts.{zeroed, part-put, part-read}
+use lib.Seq.{take-all}
+use Rattle.protocol.specs.Call.{fitPlain}
+use Rattle.protocol.specs.Numbers.{highestSize}
+use Rattle.reader.proofs.buffers.up_char.Statement.{statement}
+use Rattle.reader.proofs.buffers.up_char.Tie as tie
+use Rattle.reader.proofs.buffers.up_char.Reads as reads
+use Rattle.reader.proofs.buffers.up_char.Lts as lts
+use Rattle.reader.proofs.answers.plain.Reads as plain-reads
+use Rattle.reader.proofs.answers.sending.Reads as sending-reads
+use Rattle.reader.proofs.settings.filled_of.Reads as filled-of-reads
+use Rattle.reader.proofs.stored.is_buffer.Reads as is-buffer-reads
+
+is-buffer-requires : tie.Need-is-buffer-requires
+is-buffer-requires c κs = search needs
+
+filled-of-requires : tie.Need-filled-of-requires
+filled-of-requires c κs = search needs
+
+sending-requires : tie.Need-sending-requires
+sending-requires c κs = search needs
+
+returns : tie.Need-returns
+unfolding carry carryAs rule verdict capacity says follow sent apply bufferOf
+returns c = (λ t i m b d. rw (c .sending .ensures, ← c .before .before .before .before .before .is-buffer .ensures, c .before .before .before .before .if1 .taken, chosen-filled, ← c .before .before .before .filled-of .ensures, c .before .before .if2 .taken, c .before .if3 .taken), rw (c .sending .ensures) (record { few = omega arith; size = omega arith }))
+
+sending-requires-2 : tie.Need-sending-requires-2
+sending-requires-2 c κs = search needs
+
+returns-2 : tie.Need-returns-2
+unfolding carry carryAs rule verdict capacity says follow sent apply bufferOf
+returns-2 c = (λ t i m b d. rw (c .sending2 .ensures, ← c .before .before .before .before .before .is-buffer .ensures, c .before .before .before .before .if1 .taken, chosen-filled, ← c .before .before .before .filled-of .ensures, c .before .before .if2 .taken, ne-eqb _ _ (c .before .if3 .left)), rw (c .sending2 .ensures) (record { few = omega arith; size = omega arith }))
+
+plain-requires : tie.Need-plain-requires
+plain-requires c κs = search needs
+
+returns-3 : tie.Need-returns-3
+unfolding carry carryAs rule verdict capacity says follow sent bufferOf
+returns-3 c = (λ t i m b d. rw (c .plain .ensures, ← c .before .before .before .before .is-buffer .ensures, c .before .before .before .if1 .taken, chosen-filled, ← c .before .before .filled-of .ensures, c .before .if2 .left), rw (c .plain .ensures) (record { few = omega arith; size = omega arith }))
+
+plain-requires-2 : tie.Need-plain-requires-2
+plain-requires-2 c κs = search needs
+
+returns-4 : tie.Need-returns-4
+unfolding carry carryAs rule verdict capacity says follow sent
+returns-4 c = (λ t i m b d. rw (c .plain2 .ensures, ← c .before .before .is-buffer .ensures, c .before .if1 .left), rw (c .plain2 .ensures) (record { few = omega arith; size = omega arith }))
+
+pub up-char-spec : {M : Type 1} → statement M
+up-char-spec =
+    tie.close
+    (tie.spec
+    is-buffer-requires
+    filled-of-requires
+    sending-requires
+    returns
+    sending-requires-2
+    returns-2
+    plain-requires
+    returns-3
+    plain-requires-2
+    returns-4)

@@ -1,0 +1,96 @@
+-- Each return is the row's value, by the tests that led there.
+use Rattle.wire.proofs.Picks.{picks}
+use lib.Dec.{T, eqb, ltb, leb}
+use lib.ListN.{length, getD, take, drop, set, replicate, length-take, length-drop, length-set, length-replicate}
+use denote.Ref.{now}
+use borrow.Author.Tests.{lt-ltb, le-ltb, le-leb, lt-leb, eq-eqb, ne-eqb, ltb-true, ltb-false, leb-true, leb-false, eqb-true, eqb-false}
+use native.Mathlib.Omega.{arith}
+use Prim.Native.Nat.{ℕ, zero, suc, _+_, _-_, _*_, _/_, _%_, _^_, _≤_, _<_}
+use mathlib.Core.List.{List, [], _∷_, _++_}
+use mathlib.Core.Logic.{_⊎_, inl, inr, ⊎-elim}
+use mathlib.Core.Bool.{Bool, true, false, _&&_, _||_, not, cond}
+use mathlib.Core.Path.{_≡_, refl, sym, ap, ap₂, _∙_, subst}
+use borrow.Author.Needs.{needs}
+use Rattle.protocol.specs.Tests.{verdict, within}
+use Rattle.protocol.specs.Bytes.{two, follow, four, same, wordAt, part, zeros}
+use Rattle.protocol.specs.Reader.{capacity, bufferOf, emptied, filledWith, withMark, withTransfer, withPassword, withAddress, withTuning, withLibrary, withNotepad, withBuffer, sizeOf, locked, keyed, fresh, closed}
+use Rattle.protocol.specs.Table.{apply, isBuffer, inRange, withParameter, statusOf, rule, freeRule, publicOf}
+use Rattle.protocol.specs.Step.{silence, says, carry, carryAs, carryFree}
+use Rattle.protocol.specs.Records.{transferOf, plainOf}
+use Rattle.reader.specs.Answers.{sent}
+use Rattle.reader.proofs.Laws.{four-from, take-rest, chosen-filled, chosen-bytes, chosen-long, writes, reads, counts, high-byte, parameter-list}
+use Rattle.reader.proofs.Transfers.{fit-none, fit-far, fit-at}
+use Rattle.library.proofs.Parts.{zeroed, part-put, part-read}
+use lib.Seq.{take-all}
+use Rattle.protocol.specs.Call.{fitPlain}
+use Rattle.protocol.specs.Numbers.{highestSize}
+use Rattle.reader.proofs.notes.read_note.Statement.{statement}
+use Rattle.reader.proofs.notes.read_note.Tie as tie
+use Rattle.reader.proofs.notes.read_note.Reads as reads
+use Rattle.reader.proofs.notes.read_note.Lts as lts
+use Rattle.reader.proofs.answers.listed.Reads as listed-reads
+use Rattle.reader.proofs.answers.plain.Reads as plain-reads
+use Rattle.wire.proofs.bytes.put.Reads as put-reads
+use Rattle.wire.proofs.bytes.wide.Reads as wide-reads
+
+wide-requires : tie.Need-wide-requires
+wide-requires c κs = search needs
+
+mul-a : tie.Need-mul-a
+mul-a c = search needs
+
+add-e : tie.Need-add-e
+add-e c = search needs
+
+slice-aggregate-put : tie.Need-slice-aggregate-put
+slice-aggregate-put c = search needs
+
+sub-put : tie.Need-sub-put
+sub-put c = search needs
+
+part-put-start : tie.Need-part-put-start
+part-put-start c = search needs
+
+part-put-end : tie.Need-part-put-end
+part-put-end c = search needs
+
+put-requires : tie.Need-put-requires
+put-requires c κs = search needs
+
+listed-requires : tie.Need-listed-requires
+listed-requires c κs = search needs
+
+returns : tie.Need-returns
+unfolding carry carryAs rule verdict capacity says follow sent apply
+returns c =
+    let a = c .before .before .before .before .before .before .before .before .args in
+    let p = c .before .before .before .before .before .before .wide .result in
+    let h : 32 * p + 32 ≤ length (now (a .notepad)) = omega (arith, c .before .before .before .before .before .if1 .taken) in
+    let w = part-read (32 * p) 32 (now (a .notepad)) (replicate 32 0) refl h in
+    let l : length (take 32 (drop (32 * p) (now (a .notepad)))) ≤ 32 = simp (length-take, length-drop) (omega arith) in
+    let g = take-all 32 (take 32 (drop (32 * p) (now (a .notepad)))) l in
+    (λ t i b d. rw (c .listed .ensures, c .before .before .put .ensures, w, g, ← c .before .before .before .before .before .before .wide .ensures .0, lt-ltb _ _ (c .before .before .before .before .before .if1 .taken)), rw (c .listed .ensures) (record { few = omega arith; size = c .before .before .before .before .before .before .before .before .pre }))
+
+plain-requires : tie.Need-plain-requires
+plain-requires c κs = search needs
+
+returns-2 : tie.Need-returns-2
+unfolding carry carryAs rule verdict capacity says follow sent
+returns-2 c = (λ t i b d. rw (c .plain .ensures, ← c .before .before .wide .ensures .0, le-ltb _ _ (c .before .if1 .left)), rw (c .plain .ensures) (record { few = omega arith; size = c .before .before .before .before .pre }))
+
+pub read-note-spec : {M : Type 1} → statement M
+read-note-spec =
+    tie.close
+    (tie.spec
+    wide-requires
+    mul-a
+    add-e
+    slice-aggregate-put
+    sub-put
+    part-put-start
+    part-put-end
+    put-requires
+    listed-requires
+    returns
+    plain-requires
+    returns-2)

@@ -1,0 +1,111 @@
+-- Each return is the row's value, by the tests that led there.
+use Rattle.wire.proofs.Picks.{picks}
+use lib.Dec.{T, eqb, ltb, leb}
+use lib.ListN.{length, getD, take, drop, set, replicate, length-take, length-drop, length-set, length-replicate}
+use denote.Ref.{now}
+use borrow.Author.Tests.{lt-ltb, le-ltb, le-leb, lt-leb, eq-eqb, ne-eqb, ltb-true, ltb-false, leb-true, leb-false, eqb-true, eqb-false}
+use native.Mathlib.Omega.{arith}
+use Prim.Native.Nat.{ℕ, zero, suc, _+_, _-_, _*_, _/_, _%_, _^_, _≤_, _<_}
+use mathlib.Core.List.{List, [], _∷_, _++_}
+use mathlib.Core.Logic.{_⊎_, inl, inr, ⊎-elim}
+use mathlib.Core.Bool.{Bool, true, false, _&&_, _||_, not, cond}
+use mathlib.Core.Path.{_≡_, refl, sym, ap, ap₂, _∙_, subst}
+use borrow.Author.Needs.{needs}
+use Rattle.protocol.specs.Tests.{verdict, within}
+use Rattle.protocol.specs.Bytes.{two, follow, four, same, wordAt, part, zeros}
+use Rattle.protocol.specs.Reader.{capacity, bufferOf, emptied, filledWith, withMark, withTransfer, withPassword, withAddress, withTuning, withLibrary, withNotepad, withBuffer, sizeOf, locked, keyed, fresh, closed}
+use Rattle.protocol.specs.Table.{apply, isBuffer, inRange, withParameter, statusOf, rule, freeRule, publicOf}
+use Rattle.protocol.specs.Step.{silence, says, carry, carryAs, carryFree}
+use Rattle.protocol.specs.Records.{transferOf, plainOf}
+use Rattle.reader.specs.Answers.{sent}
+use Rattle.reader.proofs.Laws.{four-from, take-rest, chosen-filled, chosen-bytes, chosen-long, writes, reads, counts, high-byte, parameter-list}
+use Rattle.reader.proofs.Transfers.{fit-none, fit-far, fit-at}
+use Rattle.library.proofs.Parts.{zeroed, part-put, part-read}
+use lib.Seq.{take-all}
+use Rattle.protocol.specs.Call.{fitPlain}
+use Rattle.protocol.specs.Numbers.{highestSize}
+use Rattle.reader.proofs.notes.write_note.Statement.{statement}
+use Rattle.reader.proofs.notes.write_note.Tie as tie
+use Rattle.reader.proofs.notes.write_note.Reads as reads
+use Rattle.reader.proofs.notes.write_note.Lts as lts
+use Rattle.reader.proofs.answers.plain.Reads as plain-reads
+use Rattle.wire.proofs.bytes.put.Reads as put-reads
+use Rattle.wire.proofs.bytes.wide.Reads as wide-reads
+
+shared-slice-read-wide : tie.Need-shared-slice-read-wide
+shared-slice-read-wide c = search needs
+
+wide-requires : tie.Need-wide-requires
+wide-requires c κs = search needs
+
+mul-a : tie.Need-mul-a
+mul-a c = search needs
+
+add-e : tie.Need-add-e
+add-e c = search needs
+
+sub-put : tie.Need-sub-put
+sub-put c = search needs
+
+part-put-start : tie.Need-part-put-start
+part-put-start c = search needs
+
+part-put-end : tie.Need-part-put-end
+part-put-end c = search needs
+
+sub-put-2 : tie.Need-sub-put-2
+sub-put-2 c = search needs
+
+part-put-start-2 : tie.Need-part-put-start-2
+part-put-start-2 c = search needs
+
+part-put-end-2 : tie.Need-part-put-end-2
+part-put-end-2 c = search needs
+
+put-requires : tie.Need-put-requires
+put-requires c κs = search needs
+
+plain-requires : tie.Need-plain-requires
+plain-requires c κs = search needs
+
+same-length : tie.Need-same-length
+same-length c = search needs
+
+returns : tie.Need-returns
+unfolding carry carryAs rule verdict capacity says follow sent apply withNotepad
+returns c =
+    let a = c .before .before .before .before .before .before .before .before .before .before .before .args in
+    let p = c .before .before .before .before .before .before .before .wide .result in
+    let w : take (34 - 2) (drop 2 (now (a .content))) ≡ drop 2 (now (a .content)) = take-rest 2 32 (now (a .content)) (c .before .before .before .before .before .before .before .before .before .before .before .pre .0) in
+    let l : length (take (34 - 2) (drop 2 (now (a .content)))) ≡ 32 = simp (length-take, length-drop) (omega (arith, c .before .before .before .before .before .before .before .before .before .before .before .pre .0)) in
+    let h : 32 * p + 32 ≤ length (now (a .notepad)) = omega (arith, c .before .before .before .before .before .before .if1 .taken) in
+    let e = part-put (32 * p) 32 (now (a .notepad)) (take (34 - 2) (drop 2 (now (a .content)))) _ l h (c .before .before .before .put .ensures) in
+    (λ t i b d. rw (c .plain .ensures, e, w, ← c .before .before .before .before .before .before .before .wide .ensures .0, lt-ltb _ _ (c .before .before .before .before .before .before .if1 .taken)), rw (c .plain .ensures) (record { few = omega arith; size = c .before .before .before .before .before .before .before .before .before .before .before .pre .1 }))
+
+plain-requires-2 : tie.Need-plain-requires-2
+plain-requires-2 c κs = search needs
+
+returns-2 : tie.Need-returns-2
+unfolding carry carryAs rule verdict capacity says follow sent
+returns-2 c = (λ t i b d. rw (c .plain2 .ensures, ← c .before .before .wide .ensures .0, le-ltb _ _ (c .before .if1 .left)), rw (c .plain2 .ensures) (record { few = omega arith; size = c .before .before .before .before .before .before .pre .1 }))
+
+pub write-note-spec : {M : Type 1} → statement M
+write-note-spec =
+    tie.close
+    (tie.spec
+    shared-slice-read-wide
+    wide-requires
+    mul-a
+    add-e
+    sub-put
+    part-put-start
+    part-put-end
+    sub-put-2
+    part-put-start-2
+    part-put-end-2
+    put-requires
+    plain-requires
+    same-length
+    returns
+    plain-requires-2
+    returns-2)

@@ -1,0 +1,4 @@
+pub mod Records
+pub mod Answers
+pub mod Commands
+pub mod Calls

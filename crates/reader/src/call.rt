@@ -1,0 +1,261 @@
+// A whole call of the reader, and the line switch.
+ghost use mathlib.Core.Path.{_≡_};
+ghost use mathlib.Core.List.{List};
+ghost use Prim.Native.Nat.{ℕ, _+_, _-_, _/_, _≤_};
+ghost use lib.ListN.{length};
+ghost use Rattle.protocol.specs.declared.Found.the-variants.{Whole};
+ghost use Rattle.protocol.specs.Bytes.{same};
+ghost use Rattle.protocol.specs.Packet.{addressAt, rightAt};
+ghost use Rattle.protocol.specs.Step.{hearAs, hearAt, answer};
+ghost use Rattle.protocol.specs.Call.{core, sound, callOf, switchOf};
+ghost use Rattle.protocol.specs.Records.{readerOf, endedOf, switchedOf};
+ghost use Rattle.reader.specs.Answers.{saidOf, Ready};
+ghost use Rattle.reader.specs.Commands.{Fit};
+ghost use Rattle.reader.specs.Calls.{Moving, called, switched, lengthsOf, silentUsed, carriedOf};
+use crate::answers;
+use crate::answers::Answer;
+use crate::bytes;
+use crate::reply;
+use crate::settings;
+use crate::table;
+use crate::transfer;
+use library::index;
+use library::pages;
+use protocol::Called;
+use protocol::Found;
+use protocol::Settings;
+use protocol::Switched;
+use wire::finder;
+
+const PAGE: usize = 512;
+const HEAD: usize = 9;
+const ROOM: usize = 700;
+
+// What a packet of ours does, by its identifier.
+pub(crate) fn act(
+    settings: Settings,
+    templates: &mut [u8],
+    index: &mut [u8],
+    notepad: &mut [u8],
+    buffer1: &mut [u8],
+    buffer2: &mut [u8],
+    content: &[u8],
+    identifier: u8,
+    right: bool,
+) -> Answer
+    requires { ⌜ Fit settings (now templates) (now index) (now notepad) (now buffer1) (now buffer2) × (Moving settings × ((1 ≤ length (now content)) × (length (now content) ≤ 65535))) ⌝ }
+    ensures { λ r. ⌜ (saidOf r (now (templates .exit)) (now (index .exit)) (now (notepad .exit)) (now (buffer1 .exit)) (now (buffer2 .exit)) ≡ answer (readerOf settings (now (templates .entry)) (now (index .entry)) (now (notepad .entry)) (now (buffer1 .entry)) (now (buffer2 .entry))) (hearAs identifier right (now (content .entry)))) × Ready r ⌝ }
+{
+    if identifier == 1 {
+        let s = transfer::end_transfer(settings, buffer1, buffer2);
+        return table::command(
+            s,
+            templates,
+            index,
+            notepad,
+            buffer1,
+            buffer2,
+            content,
+            right,
+        );
+    }
+    if identifier == 7 {
+        return answers::silent(settings);
+    }
+    let last = identifier == 8;
+    transfer::take_part(settings, buffer1, buffer2, content, right, last)
+}
+
+// Whether a packet's address is ours.
+fn is_ours(settings: Settings, run: &[u8], at: usize) -> bool
+    requires { ⌜ at + 6 ≤ length (now run) ⌝ }
+    ensures { λ r. ⌜ r ≡ same (addressAt (now (run .entry)) at) (settings .address) ⌝ }
+{
+    let a = bytes::four_at(run, at + 2);
+    let b = settings.address;
+    wire::bytes::is_same(a, b)
+}
+
+// Whether a packet's sum is right.
+fn is_right(run: &[u8], at: usize, len: usize) -> bool
+    requires { ⌜ (at + 9 + len ≤ length (now run)) × ((3 ≤ len) × (len ≤ 65535)) ⌝ }
+    ensures { λ r. ⌜ r ≡ rightAt (now (run .entry)) at len ⌝ }
+{
+    let i = wire::bytes::wide(run[at + 6]);
+    let from = at + HEAD;
+    let to = from + (len - 2);
+    let t = wire::bytes::sum(&run[from..to]) as usize;
+    let s = (i + len / 256 % 256 + len % 256 + t) % 65536;
+    let w = bytes::word_at(run, at + 7 + len);
+    w == s
+}
+
+fn called_of(refusal: u8, used: usize, length: usize, settings: Settings) -> Called
+    ensures { λ r. ⌜ r ≡ called refusal used length settings ⌝ }
+{
+    Called {
+        settings,
+        refusal,
+        used,
+        length,
+    }
+}
+
+// A whole packet.
+pub(crate) fn hear_packet(
+    settings: Settings,
+    templates: &mut [u8],
+    index: &mut [u8],
+    notepad: &mut [u8],
+    buffer1: &mut [u8],
+    buffer2: &mut [u8],
+    run: &[u8],
+    at: usize,
+    len: usize,
+    reply: &mut [u8],
+) -> Called
+    requires { ⌜ Fit settings (now templates) (now index) (now notepad) (now buffer1) (now buffer2) × (Moving settings × ((at + 9 + len ≤ length (now run)) × ((3 ≤ len) × ((len ≤ 65535) × (700 ≤ length (now reply)))))) ⌝ }
+    ensures { λ r. ⌜ endedOf r (now (templates .exit)) (now (index .exit)) (now (notepad .exit)) (now (buffer1 .exit)) (now (buffer2 .exit)) (now (reply .exit)) ≡ carriedOf (at + 9 + len) (answer (readerOf settings (now (templates .entry)) (now (index .entry)) (now (notepad .entry)) (now (buffer1 .entry)) (now (buffer2 .entry))) (hearAt (settings .address) (now (run .entry)) (Whole at len))) (now (reply .entry)) ⌝ }
+{
+    let used = at + HEAD + len;
+    let ours = is_ours(settings, run, at);
+    if ours {
+        let identifier = run[at + 6];
+        let right = is_right(run, at, len);
+        let from = at + HEAD;
+        let to = from + (len - 2);
+        let a = act(
+            settings,
+            templates,
+            index,
+            notepad,
+            buffer1,
+            buffer2,
+            &run[from..to],
+            identifier,
+            right,
+        );
+        let n = reply::speak(a, buffer1, buffer2, reply);
+        let s = a.settings;
+        return called_of(0, used, n, s);
+    }
+    called_of(0, used, 0, settings)
+}
+
+// Whether the lent lengths are right, the reply room's apart (refusal 1).
+fn is_fit(t: usize, i: usize, n: usize, b: usize, c: usize) -> bool
+    ensures { λ r. ⌜ r ≡ lengthsOf t i n b c ⌝ }
+{
+    let pages = t / PAGE;
+    if t == PAGE * pages {
+        if 1 <= pages {
+            if pages <= 256 {
+                if i == 32 {
+                    if n == 512 {
+                        if b == PAGE {
+                            return c == PAGE;
+                        }
+                    }
+                }
+            }
+        }
+    }
+    false
+}
+
+// Whether settings, transfer and index bits are legal (refusal 3).
+pub(crate) fn is_sound(settings: Settings, index: &[u8], pages: usize) -> bool
+    ensures { λ r. ⌜ ((t n b c : List ℕ) → length t / 512 ≡ pages → r ≡ sound (readerOf settings t (now (index .entry)) n b c)) ⌝ }
+{
+    let fit = settings::is_plain_fit(settings);
+    if fit {
+        let moving = settings::is_transfer_fit(settings);
+        if moving {
+            return index::is_clear_from(index, pages);
+        }
+        return false;
+    }
+    false
+}
+
+// The bytes used where no whole packet was found.
+fn used_of(f: Found) -> usize
+    requires { ⌜ silentUsed f ≤ 18446744073709551615 ⌝ }
+    ensures { λ r. ⌜ r ≡ silentUsed f ⌝ }
+{
+    match f {
+        Found::Noise { used } => used,
+        Found::Unfinished { at } => at,
+        Found::Unfit { at } => at + 2,
+        Found::Whole { at, len: _ } => at,
+    }
+}
+
+// A call: the settings and lent memory of a reader, a received run, and a reply room.
+pub fn step(
+    settings: Settings,
+    templates: &mut [u8],
+    index: &mut [u8],
+    notepad: &mut [u8],
+    buffer1: &mut [u8],
+    buffer2: &mut [u8],
+    run: &[u8],
+    reply: &mut [u8],
+) -> Called
+    ensures { λ r. ⌜ endedOf r (now (templates .exit)) (now (index .exit)) (now (notepad .exit)) (now (buffer1 .exit)) (now (buffer2 .exit)) (now (reply .exit)) ≡ callOf core (readerOf settings (now (templates .entry)) (now (index .entry)) (now (notepad .entry)) (now (buffer1 .entry)) (now (buffer2 .entry))) (now (run .entry)) (now (reply .entry)) ⌝ }
+{
+    let fit = is_fit(
+        templates.len(),
+        index.len(),
+        notepad.len(),
+        buffer1.len(),
+        buffer2.len(),
+    );
+    if fit {
+        if reply.len() < ROOM {
+            return called_of(2, 0, 0, settings);
+        }
+        let legal = is_sound(settings, index, templates.len() / PAGE);
+        if legal {
+            let f = finder::find(run);
+            let Found::Whole { at, len } = f else {
+                return called_of(0, used_of(f), 0, settings);
+            };
+            return hear_packet(
+                settings,
+                templates,
+                index,
+                notepad,
+                buffer1,
+                buffer2,
+                run,
+                at,
+                len,
+                reply,
+            );
+        }
+        return called_of(3, 0, 0, settings);
+    }
+    called_of(1, 0, 0, settings)
+}
+
+fn switched_of(refusal: u8, settings: Settings) -> Switched
+    ensures { λ r. ⌜ r ≡ switched refusal settings ⌝ }
+{
+    Switched { settings, refusal }
+}
+
+// The line switch: any settings and both buffers; marks cleared, transfer closed, buffers zeroed. It knows only refusal 1.
+pub fn line_switch(settings: Settings, buffer1: &mut [u8], buffer2: &mut [u8]) -> Switched
+    ensures { λ r. ⌜ ((t i n : List ℕ) → switchedOf r t i n (now (buffer1 .exit)) (now (buffer2 .exit)) ≡ switchOf (readerOf settings t i n (now (buffer1 .entry)) (now (buffer2 .entry)))) ⌝ }
+{
+    if buffer1.len() == PAGE {
+        if buffer2.len() == PAGE {
+            pages::zero(buffer1);
+            pages::zero(buffer2);
+            let s = settings::filled(settings::marked(settings, false), false, false);
+            return switched_of(0, settings::moved(s, 0, 0));
+        }
+    }
+    switched_of(1, settings)
+}

@@ -1,0 +1,46 @@
+// The notepad: WriteNotepad and ReadNotepad. Its pages are read off its length.
+ghost use mathlib.Core.Path.{_≡_};
+ghost use mathlib.Core.List.{List};
+ghost use Prim.Native.Nat.{ℕ, _≤_};
+ghost use lib.ListN.{length, drop};
+ghost use Rattle.protocol.specs.Bytes.{byteAt};
+ghost use Rattle.protocol.specs.Commands.{writeNotepad, readNotepad};
+ghost use Rattle.reader.specs.Answers.{saidOf, Ready};
+ghost use Rattle.reader.specs.Commands.{obeyed};
+use crate::answers;
+use crate::answers::Answer;
+use protocol::Settings;
+use wire::bytes;
+
+const NOTE: usize = 32;
+
+// WriteNotepad (page, 32 bytes).
+pub(crate) fn write_note(settings: Settings, notepad: &mut [u8], content: &[u8]) -> Answer
+    requires { ⌜ (length (now content) ≡ 34) × (settings .size ≤ 2) ⌝ }
+    ensures { λ r. ⌜ ((t i b c : List ℕ) → saidOf r t i (now (notepad .exit)) b c ≡ obeyed settings t i (now (notepad .entry)) b c (writeNotepad (byteAt (now (content .entry)) 1) (drop 2 (now (content .entry))))) × Ready r ⌝ }
+{
+    let p = bytes::wide(content[1]);
+    if p < notepad.len() / NOTE {
+        let a = NOTE * p;
+        let e = a + NOTE;
+        bytes::put(&mut notepad[a..e], &content[2..34]);
+        return answers::plain(0x00, settings);
+    }
+    answers::plain(0x1C, settings)
+}
+
+// ReadNotepad (page).
+pub(crate) fn read_note(settings: Settings, notepad: &[u8], page: u8) -> Answer
+    requires { ⌜ settings .size ≤ 2 ⌝ }
+    ensures { λ r. ⌜ ((t i b c : List ℕ) → saidOf r t i (now (notepad .entry)) b c ≡ obeyed settings t i (now (notepad .entry)) b c (readNotepad page)) × Ready r ⌝ }
+{
+    let p = bytes::wide(page);
+    if p < notepad.len() / NOTE {
+        let a = NOTE * p;
+        let e = a + NOTE;
+        let mut bytes = [0u8; 32];
+        bytes::put(&mut bytes, &notepad[a..e]);
+        return answers::listed(bytes, 32, settings);
+    }
+    answers::plain(0x1C, settings)
+}

@@ -1,0 +1,128 @@
+// The system parameters: SetSysPara and ReadSysPara.
+ghost use mathlib.Core.Path.{_≡_};
+ghost use mathlib.Core.Bool.{cond};
+ghost use mathlib.Core.List.{List, [], _∷_};
+ghost use Prim.Native.Nat.{ℕ, _/_, _≤_, _<_};
+ghost use lib.ListN.{length, take};
+ghost use Rattle.protocol.specs.Bytes.{two, joined};
+ghost use Rattle.protocol.specs.Commands.{setSysPara, readSysPara};
+ghost use Rattle.reader.specs.Answers.{saidOf, Ready};
+ghost use Rattle.reader.specs.Commands.{obeyed};
+use crate::answers;
+use crate::answers::Answer;
+use crate::settings;
+use protocol::Settings;
+use wire::bytes;
+
+// SetSysPara (number, value).
+pub(crate) fn set_parameter(settings: Settings, k: u8, v: u8) -> Answer
+    requires { ⌜ settings .size ≤ 2 ⌝ }
+    ensures { λ r. ⌜ ((t i m b c : List ℕ) → saidOf r t i m b c ≡ obeyed settings t i m b c (setSysPara k v)) × Ready r ⌝ }
+{
+    if k < 4 {
+        return answers::plain(0x1A, settings);
+    }
+    if 6 < k {
+        return answers::plain(0x1A, settings);
+    }
+    if k == 4 {
+        if v < 1 {
+            return answers::plain(0x1B, settings);
+        }
+        if 12 < v {
+            return answers::plain(0x1B, settings);
+        }
+        return answers::plain(
+            0x00,
+            settings::tuned(settings, v, settings.level, settings.size),
+        );
+    }
+    if k == 5 {
+        if v < 1 {
+            return answers::plain(0x1B, settings);
+        }
+        if 5 < v {
+            return answers::plain(0x1B, settings);
+        }
+        return answers::plain(
+            0x00,
+            settings::tuned(settings, settings.baud, v, settings.size),
+        );
+    }
+    if 2 < v {
+        return answers::plain(0x1B, settings);
+    }
+    answers::plain(
+        0x00,
+        settings::tuned(settings, settings.baud, settings.level, v),
+    )
+}
+
+fn status(verified: bool) -> usize
+    ensures { λ r. ⌜ (r ≡ cond verified 4 0) × (r ≤ 4) ⌝ }
+{
+    if verified { 4 } else { 0 }
+}
+
+// The sixteen bytes of ReadSysPara, and sixteen zeros.
+fn parameter_bytes(
+    status: usize,
+    sensor: usize,
+    pages: usize,
+    level: usize,
+    address: [u8; 4],
+    size: usize,
+    baud: usize,
+) -> [u8; 32]
+    ensures { λ r. ⌜ take 16 r ≡ joined (two status ∷ two sensor ∷ two pages ∷ two level ∷ address ∷ two size ∷ two baud ∷ []) ⌝ }
+{
+    [
+        (status / 256 % 256) as u8,
+        (status % 256) as u8,
+        (sensor / 256 % 256) as u8,
+        (sensor % 256) as u8,
+        (pages / 256 % 256) as u8,
+        (pages % 256) as u8,
+        (level / 256 % 256) as u8,
+        (level % 256) as u8,
+        address[0],
+        address[1],
+        address[2],
+        address[3],
+        (size / 256 % 256) as u8,
+        (size % 256) as u8,
+        (baud / 256 % 256) as u8,
+        (baud % 256) as u8,
+        0,
+        0,
+        0,
+        0,
+        0,
+        0,
+        0,
+        0,
+        0,
+        0,
+        0,
+        0,
+        0,
+        0,
+        0,
+        0,
+    ]
+}
+
+// ReadSysPara.
+pub(crate) fn read_parameters(settings: Settings, pages: usize) -> Answer
+    requires { ⌜ settings .size ≤ 2 ⌝ }
+    ensures { λ r. ⌜ ((t i m b c : List ℕ) → length t / 512 ≡ pages → saidOf r t i m b c ≡ obeyed settings t i m b c readSysPara) × Ready r ⌝ }
+{
+    let s = status(settings.verified);
+    let k = settings.sensor as usize;
+    let l = bytes::wide(settings.level);
+    let z = bytes::wide(settings.size);
+    let f = bytes::wide(settings.baud);
+    let a = settings.address;
+    let bytes = parameter_bytes(s, k, pages, l, a, z, f);
+    answers::listed(bytes, 16, settings)
+}

@@ -1,0 +1,167 @@
+// The table of commands: the length that each code fixes, what comes before the row, and the row.
+ghost use mathlib.Core.Path.{_≡_};
+ghost use mathlib.Core.Bool.{true, not, _||_};
+ghost use Prim.Native.Nat.{_+_, _≤_};
+ghost use lib.ListN.{length};
+ghost use Rattle.protocol.specs.Reader.{locked};
+ghost use Rattle.protocol.specs.Commands.{commands, rowOf, orderOf};
+ghost use Rattle.protocol.specs.Step.{obey, heed};
+ghost use Rattle.protocol.specs.Records.{plainOf, readerOf};
+ghost use Rattle.reader.specs.Answers.{saidOf, Ready};
+ghost use Rattle.reader.specs.Commands.{Fit, lenOf, readOf, isFree, gateOf};
+use crate::answers;
+use crate::answers::Answer;
+use crate::buffers;
+use crate::bytes;
+use crate::keys;
+use crate::notes;
+use crate::parameters;
+use crate::settings;
+use crate::stored;
+use protocol::Settings;
+
+// The length field that a code fixes; 0 for the ranges of codes that no command has.
+pub(crate) fn required(code: u8) -> usize
+    ensures { λ r. ⌜ (r ≡ lenOf (rowOf commands code)) × (r ≤ 64) ⌝ }
+{
+    match code {
+        0x06 => 6,
+        0x07 => 6,
+        0x08 => 4,
+        0x09 => 4,
+        0x0C => 7,
+        0x0D => 3,
+        0x0E => 5,
+        0x0F => 3,
+        0x12 => 7,
+        0x13 => 7,
+        0x15 => 7,
+        0x18 => 36,
+        0x19 => 4,
+        0x1D => 3,
+        0x1F => 4,
+        0x40 => 3,
+        0x00..=0x05 => 0,
+        0x0A..=0x0B => 0,
+        0x10..=0x11 => 0,
+        0x14 => 0,
+        0x16..=0x17 => 0,
+        0x1A..=0x1C => 0,
+        0x1E => 0,
+        0x20..=0x3F => 0,
+        0x41..=0xFF => 0,
+    }
+}
+
+// Whether a locked reader carries the command out too.
+pub(crate) fn is_free(code: u8) -> bool
+    ensures { λ r. ⌜ r ≡ isFree code ⌝ }
+{
+    match code {
+        0x13 => true,
+        0x40 => true,
+        _ => false,
+    }
+}
+
+// What comes before the row: the code that stops a command with length field n, or 0.
+pub(crate) fn gate(right: bool, code: u8, n: usize, settings: Settings) -> u8
+    ensures { λ r. ⌜ r ≡ gateOf right code n (plainOf settings) ⌝ }
+{
+    if right {
+        let need = required(code);
+        if need == 0 {
+            return 0x19;
+        }
+        if need == n {
+            let free = is_free(code);
+            if free {
+                return 0;
+            }
+            let locked = settings::is_locked(settings);
+            if locked {
+                return 0x21;
+            }
+            return 0;
+        }
+        return 0x01;
+    }
+    0x01
+}
+
+// The row of a known code that the lock lets pass.
+pub(crate) fn row(
+    code: u8,
+    settings: Settings,
+    templates: &mut [u8],
+    index: &mut [u8],
+    notepad: &mut [u8],
+    buffer1: &mut [u8],
+    buffer2: &mut [u8],
+    content: &[u8],
+) -> Answer
+    requires { ⌜ Fit settings (now templates) (now index) (now notepad) (now buffer1) (now buffer2) × ((lenOf (rowOf commands code) ≡ length (now content) + 2) × ((isFree code || not (locked (plainOf settings))) ≡ true)) ⌝ }
+    ensures { λ r. ⌜ (saidOf r (now (templates .exit)) (now (index .exit)) (now (notepad .exit)) (now (buffer1 .exit)) (now (buffer2 .exit)) ≡ obey (readerOf settings (now (templates .entry)) (now (index .entry)) (now (notepad .entry)) (now (buffer1 .entry)) (now (buffer2 .entry))) (readOf (rowOf commands code) (now (content .entry)))) × Ready r ⌝ }
+{
+    match code {
+        0x06 => {
+            let n = content[1];
+            let page = bytes::word_at(content, 2);
+            stored::store_page(settings, templates, index, buffer1, buffer2, n, page)
+        }
+        0x07 => {
+            let n = content[1];
+            let page = bytes::word_at(content, 2);
+            stored::load_page(settings, templates, index, buffer1, buffer2, n, page)
+        }
+        0x08 => buffers::up_char(settings, content[1]),
+        0x09 => buffers::down_char(settings, buffer1, buffer2, content[1]),
+        0x0C => {
+            let page = bytes::word_at(content, 1);
+            let n = bytes::word_at(content, 3);
+            stored::delete_pages(settings, templates, index, page, n)
+        }
+        0x0D => stored::empty_all(settings, templates, index),
+        0x0E => parameters::set_parameter(settings, content[1], content[2]),
+        0x0F => parameters::read_parameters(settings, templates.len() / 512),
+        0x12 => keys::set_password(settings, content),
+        0x13 => keys::verify_password(settings, content),
+        0x15 => keys::set_address(settings, content),
+        0x18 => notes::write_note(settings, notepad, content),
+        0x19 => notes::read_note(settings, notepad, content[1]),
+        0x1D => stored::count_pages(settings, index),
+        0x1F => stored::read_index(settings, index, content[1]),
+        _ => answers::plain(0x00, settings),
+    }
+}
+
+// A packet with identifier 1, once an open transfer has ended: sum, code, length, lock, and then the row.
+pub(crate) fn command(
+    settings: Settings,
+    templates: &mut [u8],
+    index: &mut [u8],
+    notepad: &mut [u8],
+    buffer1: &mut [u8],
+    buffer2: &mut [u8],
+    content: &[u8],
+    right: bool,
+) -> Answer
+    requires { ⌜ Fit settings (now templates) (now index) (now notepad) (now buffer1) (now buffer2) × ((1 ≤ length (now content)) × (length (now content) ≤ 65535)) ⌝ }
+    ensures { λ r. ⌜ (saidOf r (now (templates .exit)) (now (index .exit)) (now (notepad .exit)) (now (buffer1 .exit)) (now (buffer2 .exit)) ≡ heed (readerOf settings (now (templates .entry)) (now (index .entry)) (now (notepad .entry)) (now (buffer1 .entry)) (now (buffer2 .entry))) (orderOf right (now (content .entry)))) × Ready r ⌝ }
+{
+    let code = content[0];
+    let stop = gate(right, code, content.len() + 2, settings);
+    if stop == 0 {
+        return row(
+            code,
+            settings,
+            templates,
+            index,
+            notepad,
+            buffer1,
+            buffer2,
+            content,
+        );
+    }
+    answers::plain(stop, settings)
+}

@@ -1,0 +1,122 @@
+// Steps 6 and 7: an open transfer ended, and its data packets.
+ghost use mathlib.Core.Path.{_≡_};
+ghost use mathlib.Core.Bool.{true};
+ghost use mathlib.Core.List.{List};
+ghost use Prim.Native.Nat.{ℕ, _+_, _≤_};
+ghost use lib.Dec.{eqb};
+ghost use lib.ListN.{length};
+ghost use Rattle.protocol.specs.Bytes.{lay};
+ghost use Rattle.protocol.specs.Reader.{sizeOf};
+ghost use Rattle.protocol.specs.Step.{ended, fits, takeAs, takeIn};
+ghost use Rattle.protocol.specs.Records.{plainOf, transferOf, readerOf};
+ghost use Rattle.reader.specs.Answers.{saidOf, Ready};
+use crate::answers;
+use crate::answers::Answer;
+use crate::settings;
+use library::pages;
+use protocol::Settings;
+use wire::bytes;
+
+const PAGE: usize = 512;
+
+// Ends an open transfer: its buffer is zeroed.
+pub(crate) fn end_transfer(settings: Settings, buffer1: &mut [u8], buffer2: &mut [u8]) -> Settings
+    requires { ⌜ (length (now buffer1) ≡ 512) × ((length (now buffer2) ≡ 512) × (settings .transfer ≤ 2)) ⌝ }
+    ensures { λ r. ⌜ ((t i m : List ℕ) → readerOf r t i m (now (buffer1 .exit)) (now (buffer2 .exit)) ≡ ended (readerOf settings t i m (now (buffer1 .entry)) (now (buffer2 .entry))) (transferOf (settings .transfer) (settings .got))) × (r .size ≡ settings .size) ⌝ }
+{
+    if settings.transfer == 1 {
+        pages::zero(buffer1);
+        return settings::moved(settings::filled(settings, false, settings.filled2), 0, 0);
+    }
+    if settings.transfer == 2 {
+        pages::zero(buffer2);
+        return settings::moved(settings::filled(settings, settings.filled1, false), 0, 0);
+    }
+    settings
+}
+
+// Whether a data packet of n content bytes goes in.
+pub(crate) fn does_fit(settings: Settings, right: bool, last: bool, n: usize) -> bool
+    requires { ⌜ settings .size ≤ 2 ⌝ }
+    ensures { λ r. ⌜ ((c : List ℕ) → length c ≡ n → r ≡ fits (plainOf settings) (settings .got) last right c) ⌝ }
+{
+    if right {
+        let z = settings::size_of(settings.size);
+        if n == z {
+            let k = settings.got as usize + z;
+            if last {
+                return k == PAGE;
+            }
+            return k < PAGE;
+        }
+        return false;
+    }
+    false
+}
+
+// The bytes of a data packet that fits go into a buffer at the place reached.
+fn put_at(buffer: &mut [u8], got: usize, content: &[u8])
+    requires { ⌜ got + length (now content) ≤ length (now buffer) ⌝ }
+    ensures { λ _. ⌜ now (buffer .exit) ≡ lay got (now (content .entry)) (now (buffer .entry)) ⌝ }
+{
+    let e = got + content.len();
+    bytes::put(&mut buffer[got..e], content);
+}
+
+// A data packet that fits: the last sets the filled mark and closes the transfer.
+fn place(
+    settings: Settings,
+    buffer1: &mut [u8],
+    buffer2: &mut [u8],
+    content: &[u8],
+    last: bool,
+) -> Answer
+    requires { ⌜ (length (now buffer1) ≡ 512) × ((length (now buffer2) ≡ 512) × ((settings .size ≤ 2) × ((settings .got + length (now content) ≤ 512) × (length (now content) ≡ sizeOf (settings .size))))) ⌝ }
+    ensures { λ r. ⌜ ((t i m : List ℕ) → saidOf r t i m (now (buffer1 .exit)) (now (buffer2 .exit)) ≡ takeAs (readerOf settings t i m (now (buffer1 .entry)) (now (buffer2 .entry))) (eqb (settings .transfer) 2) (settings .got) (now (content .entry)) true last) × Ready r ⌝ }
+{
+    let got = settings.got as usize;
+    let next = (got + content.len()) as u16;
+    if settings.transfer == 2 {
+        put_at(buffer2, got, content);
+        if last {
+            return answers::silent(settings::moved(
+                settings::filled(settings, settings.filled1, true),
+                0,
+                0,
+            ));
+        }
+        return answers::silent(settings::moved(settings, 2, next));
+    }
+    put_at(buffer1, got, content);
+    if last {
+        return answers::silent(settings::moved(
+            settings::filled(settings, true, settings.filled2),
+            0,
+            0,
+        ));
+    }
+    answers::silent(settings::moved(settings, 1, next))
+}
+
+// A data packet.
+pub(crate) fn take_part(
+    settings: Settings,
+    buffer1: &mut [u8],
+    buffer2: &mut [u8],
+    content: &[u8],
+    right: bool,
+    last: bool,
+) -> Answer
+    requires { ⌜ (length (now buffer1) ≡ 512) × ((length (now buffer2) ≡ 512) × ((settings .transfer ≤ 2) × ((settings .size ≤ 2) × (settings .transfer ≡ 0 → settings .got ≡ 0)))) ⌝ }
+    ensures { λ r. ⌜ ((t i m : List ℕ) → saidOf r t i m (now (buffer1 .exit)) (now (buffer2 .exit)) ≡ takeIn (readerOf settings t i m (now (buffer1 .entry)) (now (buffer2 .entry))) last right (now (content .entry)) (transferOf (settings .transfer) (settings .got))) × Ready r ⌝ }
+{
+    if settings.transfer == 0 {
+        return answers::silent(settings);
+    }
+    let fit = does_fit(settings, right, last, content.len());
+    if fit {
+        return place(settings, buffer1, buffer2, content, last);
+    }
+    let s = end_transfer(settings, buffer1, buffer2);
+    answers::plain(0x0E, s)
+}
