@@ -5,9 +5,8 @@ ghost use lib.ListN.{length};
 ghost use Rattle.protocol.specs.Bytes.{byteAt};
 ghost use Rattle.protocol.specs.Index.{bit, stored, setBit, clearBit, clearBits, setBits, clearFrom};
 ghost use Rattle.library.specs.Lent.{countOf};
+use protocol::numbers;
 use wire::bytes;
-
-const NO_COUNT: u16 = 0xFFFF;
 
 // A page's bit: shifted down and masked.
 fn bit_at(index: &[u8], p: usize) -> usize
@@ -103,5 +102,5 @@ pub fn count(index: &[u8], length: u8) -> u16
     if index.len() == n {
         return count_bits(index) as u16;
     }
-    NO_COUNT
+    numbers::NO_COUNT
 }

@@ -4,9 +4,8 @@ ghost use Prim.Native.Nat.{_+_, _*_, _/_, _≤_, _<_};
 ghost use lib.ListN.{length};
 ghost use Rattle.protocol.specs.Bytes.{zeros};
 ghost use Rattle.library.specs.Lent.{writePage, readPage, zeroPage, zeroPages};
+use protocol::numbers;
 use wire::bytes;
-
-const PAGE: usize = 512;
 
 // Zeroes a slice.
 pub fn zero(s: &mut [u8])
@@ -23,10 +22,10 @@ pub fn zero(s: &mut [u8])
 pub fn write_page(templates: &mut [u8], page: usize, src: &[u8])
     ensures { λ _. ⌜ now (templates .exit) ≡ writePage page (now (src .entry)) (now (templates .entry)) ⌝ }
 {
-    if page < templates.len() / PAGE {
-        if src.len() == PAGE {
-            let a = PAGE * page;
-            let e = a + PAGE;
+    if page < templates.len() / numbers::PAGE {
+        if src.len() == numbers::PAGE {
+            let a = numbers::PAGE * page;
+            let e = a + numbers::PAGE;
             bytes::put(&mut templates[a..e], src);
         }
     }
@@ -36,10 +35,10 @@ pub fn write_page(templates: &mut [u8], page: usize, src: &[u8])
 pub fn read_page(dst: &mut [u8], templates: &[u8], page: usize)
     ensures { λ _. ⌜ now (dst .exit) ≡ readPage page (now (templates .entry)) (now (dst .entry)) ⌝ }
 {
-    if page < templates.len() / PAGE {
-        if dst.len() == PAGE {
-            let a = PAGE * page;
-            let e = a + PAGE;
+    if page < templates.len() / numbers::PAGE {
+        if dst.len() == numbers::PAGE {
+            let a = numbers::PAGE * page;
+            let e = a + numbers::PAGE;
             bytes::put(dst, &templates[a..e]);
         }
     }
@@ -49,9 +48,9 @@ pub fn read_page(dst: &mut [u8], templates: &[u8], page: usize)
 pub fn zero_page(templates: &mut [u8], page: usize)
     ensures { λ _. ⌜ now (templates .exit) ≡ zeroPage page (now (templates .entry)) ⌝ }
 {
-    if page < templates.len() / PAGE {
-        let a = PAGE * page;
-        let e = a + PAGE;
+    if page < templates.len() / numbers::PAGE {
+        let a = numbers::PAGE * page;
+        let e = a + numbers::PAGE;
         zero(&mut templates[a..e]);
     }
 }

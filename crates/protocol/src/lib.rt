@@ -1,4 +1,7 @@
 // The types that the code and its contracts share. The definitions over them are in specs/, the promises in proofs/.
+pub mod codes;
+pub mod numbers;
+pub mod refusals;
 
 // The first place with EF followed by 01 (step 1 of finding).
 pub enum Start {

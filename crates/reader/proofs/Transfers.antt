@@ -1,16 +1,16 @@
 -- The settings' two numbers as a transfer.
 use mathlib.Core.Path.{_≡_, refl, sym, ap, _∙_}
 use mathlib.Core.Bool.{Bool, true, false, true≢false, _&&_, not, cond}
-use mathlib.Core.List.{List, []}
+use mathlib.Core.List.{List}
 use Prim.Native.Nat.{ℕ, zero, suc, _+_, _%_, _≤_, _<_}
 use native.Mathlib.Omega.{arith}
-use lib.Dec.{T, eqb, ltb, eqb·suc-zero}
+use lib.Dec.{eqb, ltb, eqb·suc-zero}
 use lib.ListN.{length}
 use borrow.Author.Tests.{eqb-true, ltb-true}
 use Rattle.protocol.specs.declared.Settings.{Settings}
 use Rattle.protocol.specs.Numbers.{pageBytes, transferFailed}
-use Rattle.protocol.specs.Reader.{Transfer, closed, opened, unfit, Plain, Buffer, Guarded, Reader, sizeOf, locked, bufferOf}
-use Rattle.protocol.specs.Step.{Said, silence, says, ended, fits, takeAs, takeIn}
+use Rattle.protocol.specs.Reader.{Transfer, opened, Plain, Guarded, Reader, sizeOf, locked, bufferOf}
+use Rattle.protocol.specs.Step.{silence, says, ended, fits, takeAs, takeIn}
 use Rattle.protocol.specs.Call.{fitTransfer}
 use Rattle.protocol.specs.Data.{dataPackets}
 use Rattle.protocol.specs.Records.{transferOf}

@@ -2,10 +2,8 @@
 use mathlib.Core.Bool.{Bool, _&&_}
 use mathlib.Core.List.{List}
 use mathlib.Core.Path.{_≡_}
-use Prim.Native.Nat.{ℕ, _+_, _*_, _/_, _≤_}
+use Prim.Native.Nat.{ℕ, _*_, _/_, _≤_}
 use lib.Dec.{eqb}
-use Rattle.protocol.specs.declared.Found.{Found}
-use Rattle.protocol.specs.declared.Found.the-variants.{Noise, Unfinished, Unfit, Whole}
 use Rattle.protocol.specs.Numbers.{pageBytes}
 use Rattle.protocol.specs.Tests.{within}
 use Rattle.protocol.specs.Step.{Said}
@@ -30,13 +28,6 @@ unfoldable pub lengthsOf : ℕ → ℕ → ℕ → ℕ → ℕ → Bool
 lengthsOf t i n b c =
     (eqb t (pageBytes * (t / pageBytes)) && within (core .least) (t / pageBytes) (core .most) && eqb i (core .indexed) && eqb n (core .noted))
     && (eqb b pageBytes && eqb c pageBytes)
-
--- the bytes used where no whole packet was found
-unfoldable pub silentUsed : Found → ℕ
-silentUsed (Noise n) = n
-silentUsed (Unfinished p) = p
-silentUsed (Unfit p) = p + 2
-silentUsed (Whole p n) = p
 
 -- an answer carried into the reply room, with the bytes used
 abbrev pub carriedOf : ℕ → Said → List ℕ → Ended

@@ -4,6 +4,7 @@ ghost use mathlib.Core.Bool.{true, false};
 ghost use Rattle.protocol.specs.Bytes.{zeros};
 ghost use Rattle.reader.specs.Answers.{answerOf, codeAlone, nothingSaid};
 use protocol::Settings;
+use protocol::codes;
 
 // Does it speak, the code, the bytes behind the code, the buffer that is sent behind the acknowledge (0: none), and the settings after it.
 pub struct Answer {
@@ -49,7 +50,7 @@ pub(crate) fn listed(bytes: [u8; 32], count: usize, settings: Settings) -> Answe
 {
     Answer {
         speaks: true,
-        code: 0,
+        code: codes::DONE,
         count,
         bytes,
         upload: 0,
@@ -63,7 +64,7 @@ pub(crate) fn sending(upload: u8, settings: Settings) -> Answer
 {
     Answer {
         speaks: true,
-        code: 0,
+        code: codes::DONE,
         count: 0,
         bytes: [0; 32],
         upload,

@@ -12,6 +12,7 @@ use crate::settings;
 use crate::stored;
 use library::pages;
 use protocol::Settings;
+use protocol::codes;
 
 // UpChar (buffer).
 pub(crate) fn up_char(settings: Settings, n: u8) -> Answer
@@ -27,9 +28,9 @@ pub(crate) fn up_char(settings: Settings, n: u8) -> Answer
             }
             return answers::sending(1, settings);
         }
-        return answers::plain(0x0D, settings);
+        return answers::plain(codes::NOTHING_TO_SEND, settings);
     }
-    answers::plain(0x01, settings)
+    answers::plain(codes::BAD_PACKET, settings)
 }
 
 // DownChar (buffer).
@@ -42,15 +43,15 @@ pub(crate) fn down_char(settings: Settings, buffer1: &mut [u8], buffer2: &mut [u
         if n == 2 {
             pages::zero(buffer2);
             return answers::plain(
-                0x00,
+                codes::DONE,
                 settings::moved(settings::filled(settings, settings.filled1, false), 2, 0),
             );
         }
         pages::zero(buffer1);
         return answers::plain(
-            0x00,
+            codes::DONE,
             settings::moved(settings::filled(settings, false, settings.filled2), 1, 0),
         );
     }
-    answers::plain(0x01, settings)
+    answers::plain(codes::BAD_PACKET, settings)
 }

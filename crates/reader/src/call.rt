@@ -11,7 +11,7 @@ ghost use Rattle.protocol.specs.Call.{core, sound, callOf, switchOf};
 ghost use Rattle.protocol.specs.Records.{readerOf, endedOf, switchedOf};
 ghost use Rattle.reader.specs.Answers.{saidOf, Ready};
 ghost use Rattle.reader.specs.Commands.{Fit};
-ghost use Rattle.reader.specs.Calls.{Moving, called, switched, lengthsOf, silentUsed, carriedOf};
+ghost use Rattle.reader.specs.Calls.{Moving, called, switched, lengthsOf, carriedOf};
 use crate::answers;
 use crate::answers::Answer;
 use crate::bytes;
@@ -25,11 +25,10 @@ use protocol::Called;
 use protocol::Found;
 use protocol::Settings;
 use protocol::Switched;
+use protocol::numbers;
+use protocol::refusals;
+use wire::builder;
 use wire::finder;
-
-const PAGE: usize = 512;
-const HEAD: usize = 9;
-const ROOM: usize = 700;
 
 // What a packet of ours does, by its identifier.
 pub(crate) fn act(
@@ -46,7 +45,7 @@ pub(crate) fn act(
     requires { ⌜ Fit settings (now templates) (now index) (now notepad) (now buffer1) (now buffer2) × (Moving settings × ((1 ≤ length (now content)) × (length (now content) ≤ 65535))) ⌝ }
     ensures { λ r. ⌜ (saidOf r (now (templates .exit)) (now (index .exit)) (now (notepad .exit)) (now (buffer1 .exit)) (now (buffer2 .exit)) ≡ answer (readerOf settings (now (templates .entry)) (now (index .entry)) (now (notepad .entry)) (now (buffer1 .entry)) (now (buffer2 .entry))) (hearAs identifier right (now (content .entry)))) × Ready r ⌝ }
 {
-    if identifier == 1 {
+    if identifier == numbers::COMMAND_PACKET {
         let s = transfer::end_transfer(settings, buffer1, buffer2);
         return table::command(
             s,
@@ -59,10 +58,10 @@ pub(crate) fn act(
             right,
         );
     }
-    if identifier == 7 {
+    if identifier == numbers::ACKNOWLEDGE_PACKET {
         return answers::silent(settings);
     }
-    let last = identifier == 8;
+    let last = identifier == numbers::LAST_PACKET;
     transfer::take_part(settings, buffer1, buffer2, content, right, last)
 }
 
@@ -81,11 +80,9 @@ fn is_right(run: &[u8], at: usize, len: usize) -> bool
     requires { ⌜ (at + 9 + len ≤ length (now run)) × ((3 ≤ len) × (len ≤ 65535)) ⌝ }
     ensures { λ r. ⌜ r ≡ rightAt (now (run .entry)) at len ⌝ }
 {
-    let i = wire::bytes::wide(run[at + 6]);
-    let from = at + HEAD;
+    let from = at + numbers::HEAD;
     let to = from + (len - 2);
-    let t = wire::bytes::sum(&run[from..to]) as usize;
-    let s = (i + len / 256 % 256 + len % 256 + t) % 65536;
+    let s = builder::packet_sum(run[at + 6], &run[from..to]);
     let w = bytes::word_at(run, at + 7 + len);
     w == s
 }
@@ -117,12 +114,12 @@ pub(crate) fn hear_packet(
     requires { ⌜ Fit settings (now templates) (now index) (now notepad) (now buffer1) (now buffer2) × (Moving settings × ((at + 9 + len ≤ length (now run)) × ((3 ≤ len) × ((len ≤ 65535) × (700 ≤ length (now reply)))))) ⌝ }
     ensures { λ r. ⌜ endedOf r (now (templates .exit)) (now (index .exit)) (now (notepad .exit)) (now (buffer1 .exit)) (now (buffer2 .exit)) (now (reply .exit)) ≡ carriedOf (at + 9 + len) (answer (readerOf settings (now (templates .entry)) (now (index .entry)) (now (notepad .entry)) (now (buffer1 .entry)) (now (buffer2 .entry))) (hearAt (settings .address) (now (run .entry)) (Whole at len))) (now (reply .entry)) ⌝ }
 {
-    let used = at + HEAD + len;
+    let used = at + numbers::HEAD + len;
     let ours = is_ours(settings, run, at);
     if ours {
         let identifier = run[at + 6];
         let right = is_right(run, at, len);
-        let from = at + HEAD;
+        let from = at + numbers::HEAD;
         let to = from + (len - 2);
         let a = act(
             settings,
@@ -137,23 +134,23 @@ pub(crate) fn hear_packet(
         );
         let n = reply::speak(a, buffer1, buffer2, reply);
         let s = a.settings;
-        return called_of(0, used, n, s);
+        return called_of(refusals::ACCEPTED, used, n, s);
     }
-    called_of(0, used, 0, settings)
+    called_of(refusals::ACCEPTED, used, 0, settings)
 }
 
 // Whether the lent lengths are right, the reply room's apart (refusal 1).
 fn is_fit(t: usize, i: usize, n: usize, b: usize, c: usize) -> bool
     ensures { λ r. ⌜ r ≡ lengthsOf t i n b c ⌝ }
 {
-    let pages = t / PAGE;
-    if t == PAGE * pages {
+    let pages = t / numbers::PAGE;
+    if t == numbers::PAGE * pages {
         if 1 <= pages {
-            if pages <= 256 {
-                if i == 32 {
-                    if n == 512 {
-                        if b == PAGE {
-                            return c == PAGE;
+            if pages <= numbers::MOST_PAGES {
+                if i == numbers::INDEX {
+                    if n == numbers::NOTEPAD {
+                        if b == numbers::PAGE {
+                            return c == numbers::PAGE;
                         }
                     }
                 }
@@ -178,19 +175,6 @@ pub(crate) fn is_sound(settings: Settings, index: &[u8], pages: usize) -> bool
     false
 }
 
-// The bytes used where no whole packet was found.
-fn used_of(f: Found) -> usize
-    requires { ⌜ silentUsed f ≤ 18446744073709551615 ⌝ }
-    ensures { λ r. ⌜ r ≡ silentUsed f ⌝ }
-{
-    match f {
-        Found::Noise { used } => used,
-        Found::Unfinished { at } => at,
-        Found::Unfit { at } => at + 2,
-        Found::Whole { at, len: _ } => at,
-    }
-}
-
 // A call: the settings and lent memory of a reader, a received run, and a reply room.
 pub fn step(
     settings: Settings,
@@ -212,14 +196,14 @@ pub fn step(
         buffer2.len(),
     );
     if fit {
-        if reply.len() < ROOM {
-            return called_of(2, 0, 0, settings);
+        if reply.len() < numbers::REPLY_ROOM {
+            return called_of(refusals::BAD_ROOM, 0, 0, settings);
         }
-        let legal = is_sound(settings, index, templates.len() / PAGE);
+        let legal = is_sound(settings, index, templates.len() / numbers::PAGE);
         if legal {
             let f = finder::find(run);
             let Found::Whole { at, len } = f else {
-                return called_of(0, used_of(f), 0, settings);
+                return called_of(refusals::ACCEPTED, finder::used_of(f), 0, settings);
             };
             return hear_packet(
                 settings,
@@ -234,9 +218,9 @@ pub fn step(
                 reply,
             );
         }
-        return called_of(3, 0, 0, settings);
+        return called_of(refusals::BAD_SETTING, 0, 0, settings);
     }
-    called_of(1, 0, 0, settings)
+    called_of(refusals::BAD_LENGTH, 0, 0, settings)
 }
 
 fn switched_of(refusal: u8, settings: Settings) -> Switched
@@ -249,13 +233,14 @@ fn switched_of(refusal: u8, settings: Settings) -> Switched
 pub fn line_switch(settings: Settings, buffer1: &mut [u8], buffer2: &mut [u8]) -> Switched
     ensures { λ r. ⌜ ((t i n : List ℕ) → switchedOf r t i n (now (buffer1 .exit)) (now (buffer2 .exit)) ≡ switchOf (readerOf settings t i n (now (buffer1 .entry)) (now (buffer2 .entry)))) ⌝ }
 {
-    if buffer1.len() == PAGE {
-        if buffer2.len() == PAGE {
+    if buffer1.len() == numbers::PAGE {
+        if buffer2.len() == numbers::PAGE {
             pages::zero(buffer1);
             pages::zero(buffer2);
             let s = settings::filled(settings::marked(settings, false), false, false);
-            return switched_of(0, settings::moved(s, 0, 0));
+            return switched_of(refusals::ACCEPTED, settings::moved(s, 0, 0));
         }
+        return switched_of(refusals::BAD_LENGTH, settings);
     }
-    switched_of(1, settings)
+    switched_of(refusals::BAD_LENGTH, settings)
 }

@@ -11,6 +11,7 @@ use crate::answers::Answer;
 use crate::bytes;
 use crate::settings;
 use protocol::Settings;
+use protocol::codes;
 
 // SetPwd.
 pub(crate) fn set_password(settings: Settings, content: &[u8]) -> Answer
@@ -18,7 +19,7 @@ pub(crate) fn set_password(settings: Settings, content: &[u8]) -> Answer
     ensures { λ r. ⌜ ((t i m b c : List ℕ) → saidOf r t i m b c ≡ obeyed settings t i m b c (setPassword (drop 1 (now (content .entry))))) × Ready r ⌝ }
 {
     let p = bytes::four_at(content, 1);
-    answers::plain(0x00, settings::with_password(settings, p))
+    answers::plain(codes::DONE, settings::with_password(settings, p))
 }
 
 // VfyPwd. All four bytes are compared.
@@ -30,9 +31,9 @@ pub(crate) fn verify_password(settings: Settings, content: &[u8]) -> Answer
     let q = settings.password;
     let right = wire::bytes::is_same(p, q);
     if right {
-        return answers::plain(0x00, settings::marked(settings, true));
+        return answers::plain(codes::DONE, settings::marked(settings, true));
     }
-    answers::plain(0x13, settings::marked(settings, false))
+    answers::plain(codes::WRONG_PASSWORD, settings::marked(settings, false))
 }
 
 // SetAdder. The reply carries the new address, since it is written with the settings after the command.
@@ -41,5 +42,5 @@ pub(crate) fn set_address(settings: Settings, content: &[u8]) -> Answer
     ensures { λ r. ⌜ ((t i m b c : List ℕ) → saidOf r t i m b c ≡ obeyed settings t i m b c (setAddress (drop 1 (now (content .entry))))) × Ready r ⌝ }
 {
     let a = bytes::four_at(content, 1);
-    answers::plain(0x00, settings::with_address(settings, a))
+    answers::plain(codes::DONE, settings::with_address(settings, a))
 }

@@ -10,9 +10,9 @@ ghost use Rattle.reader.specs.Commands.{obeyed};
 use crate::answers;
 use crate::answers::Answer;
 use protocol::Settings;
+use protocol::codes;
+use protocol::numbers;
 use wire::bytes;
-
-const NOTE: usize = 32;
 
 // WriteNotepad (page, 32 bytes).
 pub(crate) fn write_note(settings: Settings, notepad: &mut [u8], content: &[u8]) -> Answer
@@ -20,13 +20,13 @@ pub(crate) fn write_note(settings: Settings, notepad: &mut [u8], content: &[u8])
     ensures { λ r. ⌜ ((t i b c : List ℕ) → saidOf r t i (now (notepad .exit)) b c ≡ obeyed settings t i (now (notepad .entry)) b c (writeNotepad (byteAt (now (content .entry)) 1) (drop 2 (now (content .entry))))) × Ready r ⌝ }
 {
     let p = bytes::wide(content[1]);
-    if p < notepad.len() / NOTE {
-        let a = NOTE * p;
-        let e = a + NOTE;
+    if p < notepad.len() / numbers::NOTE {
+        let a = numbers::NOTE * p;
+        let e = a + numbers::NOTE;
         bytes::put(&mut notepad[a..e], &content[2..34]);
-        return answers::plain(0x00, settings);
+        return answers::plain(codes::DONE, settings);
     }
-    answers::plain(0x1C, settings)
+    answers::plain(codes::BAD_NOTE_PAGE, settings)
 }
 
 // ReadNotepad (page).
@@ -35,12 +35,12 @@ pub(crate) fn read_note(settings: Settings, notepad: &[u8], page: u8) -> Answer
     ensures { λ r. ⌜ ((t i b c : List ℕ) → saidOf r t i (now (notepad .entry)) b c ≡ obeyed settings t i (now (notepad .entry)) b c (readNotepad page)) × Ready r ⌝ }
 {
     let p = bytes::wide(page);
-    if p < notepad.len() / NOTE {
-        let a = NOTE * p;
-        let e = a + NOTE;
+    if p < notepad.len() / numbers::NOTE {
+        let a = numbers::NOTE * p;
+        let e = a + numbers::NOTE;
         let mut bytes = [0u8; 32];
         bytes::put(&mut bytes, &notepad[a..e]);
         return answers::listed(bytes, 32, settings);
     }
-    answers::plain(0x1C, settings)
+    answers::plain(codes::BAD_NOTE_PAGE, settings)
 }

@@ -12,6 +12,8 @@ use crate::answers;
 use crate::answers::Answer;
 use crate::settings;
 use protocol::Settings;
+use protocol::codes;
+use protocol::numbers;
 use wire::bytes;
 
 // SetSysPara (number, value).
@@ -19,41 +21,41 @@ pub(crate) fn set_parameter(settings: Settings, k: u8, v: u8) -> Answer
     requires { ⌜ settings .size ≤ 2 ⌝ }
     ensures { λ r. ⌜ ((t i m b c : List ℕ) → saidOf r t i m b c ≡ obeyed settings t i m b c (setSysPara k v)) × Ready r ⌝ }
 {
-    if k < 4 {
-        return answers::plain(0x1A, settings);
+    if k < numbers::BAUD_PARAMETER {
+        return answers::plain(codes::BAD_PARAMETER, settings);
     }
-    if 6 < k {
-        return answers::plain(0x1A, settings);
+    if numbers::SIZE_PARAMETER < k {
+        return answers::plain(codes::BAD_PARAMETER, settings);
     }
-    if k == 4 {
-        if v < 1 {
-            return answers::plain(0x1B, settings);
+    if k == numbers::BAUD_PARAMETER {
+        if v < numbers::LOWEST_BAUD {
+            return answers::plain(codes::BAD_VALUE, settings);
         }
-        if 12 < v {
-            return answers::plain(0x1B, settings);
+        if numbers::HIGHEST_BAUD < v {
+            return answers::plain(codes::BAD_VALUE, settings);
         }
         return answers::plain(
-            0x00,
+            codes::DONE,
             settings::tuned(settings, v, settings.level, settings.size),
         );
     }
-    if k == 5 {
-        if v < 1 {
-            return answers::plain(0x1B, settings);
+    if k == numbers::LEVEL_PARAMETER {
+        if v < numbers::LOWEST_LEVEL {
+            return answers::plain(codes::BAD_VALUE, settings);
         }
-        if 5 < v {
-            return answers::plain(0x1B, settings);
+        if numbers::HIGHEST_LEVEL < v {
+            return answers::plain(codes::BAD_VALUE, settings);
         }
         return answers::plain(
-            0x00,
+            codes::DONE,
             settings::tuned(settings, settings.baud, v, settings.size),
         );
     }
-    if 2 < v {
-        return answers::plain(0x1B, settings);
+    if numbers::HIGHEST_SIZE < v {
+        return answers::plain(codes::BAD_VALUE, settings);
     }
     answers::plain(
-        0x00,
+        codes::DONE,
         settings::tuned(settings, settings.baud, settings.level, v),
     )
 }

@@ -1,25 +1,20 @@
 // What an answer writes into the reply room: the acknowledge, and a buffer's bytes in data packets of one size.
 ghost use mathlib.Core.Path.{_≡_};
-ghost use mathlib.Core.Bool.{cond};
+ghost use mathlib.Core.Bool.{true, cond};
 ghost use mathlib.Core.List.{_∷_};
 ghost use Prim.Native.Nat.{_+_, _-_, _*_, _/_, _≤_, _<_};
 ghost use lib.Dec.{eqb};
 ghost use lib.ListN.{length, take};
 ghost use Rattle.protocol.specs.Bytes.{lay, joined};
-ghost use Rattle.protocol.specs.Packet.{packet};
+ghost use Rattle.protocol.specs.Packet.{packet, isIdentifier};
 ghost use Rattle.protocol.specs.Reader.{sizeOf};
 ghost use Rattle.protocol.specs.Data.{acknowledge, packets, dataPackets};
 ghost use Rattle.reader.specs.Answers.{spokenOf, Ready};
 use crate::answers::Answer;
 use crate::settings;
 use protocol::Settings;
+use protocol::numbers;
 use wire::builder;
-
-const ACKNOWLEDGE: u8 = 7;
-const DATA: u8 = 2;
-const LAST: u8 = 8;
-const FRAME: usize = 11;
-const PAGE: usize = 512;
 
 // A code with 32 bytes behind it.
 fn content_of(code: u8, bytes: [u8; 32]) -> [u8; 33]
@@ -41,7 +36,12 @@ fn put_acknowledge(a: Answer, reply: &mut [u8]) -> usize
     let s = a.settings;
     let address = s.address;
     let content = content_of(a.code, bytes);
-    let made = builder::build(address, ACKNOWLEDGE, &content[..n + 1], reply);
+    let made = builder::build(
+        address,
+        numbers::ACKNOWLEDGE_PACKET,
+        &content[..n + 1],
+        reply,
+    );
     made.length
 }
 
@@ -49,7 +49,11 @@ fn data_identifier(left: usize) -> u8
     requires { ⌜ 0 < left ⌝ }
     ensures { λ r. ⌜ r ≡ cond (eqb (left - 1) 0) 8 2 ⌝ }
 {
-    if left == 1 { LAST } else { DATA }
+    if left == 1 {
+        numbers::LAST_PACKET
+    } else {
+        numbers::DATA_PACKET
+    }
 }
 
 // Writes one packet into the reply room from place at on.
@@ -60,10 +64,10 @@ fn put_packet(
     address: [u8; 4],
     content: &[u8],
 ) -> usize
-    requires { ⌜ (at + length (now content) + 11 ≤ length (now reply)) × ((1 ≤ length (now content)) × ((length (now content) ≤ 254) × (((identifier ≡ 2 → ⊥) → identifier ≡ 8)))) ⌝ }
+    requires { ⌜ (at + length (now content) + 11 ≤ length (now reply)) × ((1 ≤ length (now content)) × ((length (now content) ≤ 254) × (isIdentifier identifier ≡ true))) ⌝ }
     ensures { λ r. ⌜ (r ≡ at + length (now (content .entry)) + 11) × (now (reply .exit) ≡ lay at (packet address identifier (now (content .entry))) (now (reply .entry))) ⌝ }
 {
-    let e = at + content.len() + FRAME;
+    let e = at + content.len() + numbers::FRAME;
     builder::build(address, identifier, content, &mut reply[at..e]);
     e
 }
@@ -99,7 +103,7 @@ fn send(settings: Settings, at: usize, src: &[u8], reply: &mut [u8]) -> usize
     ensures { λ r. ⌜ (r ≡ at + length (dataPackets (settings .address) (sizeOf (settings .size)) (now (src .entry)))) × (now (reply .exit) ≡ lay at (dataPackets (settings .address) (sizeOf (settings .size)) (now (src .entry))) (now (reply .entry))) ⌝ }
 {
     let z = settings::size_of(settings.size);
-    let k = PAGE / z;
+    let k = numbers::PAGE / z;
     let address = settings.address;
     put_data(reply, at, address, z, k, src)
 }

@@ -9,6 +9,7 @@ ghost use Rattle.protocol.specs.Call.{fitPlain, fitTransfer};
 ghost use Rattle.protocol.specs.Records.{plainOf, transferOf, readerOf, freshOf};
 ghost use Rattle.reader.specs.Records.{withMark, withPassword, withAddress, withTuning, withTransfer, withFilled};
 use protocol::Settings;
+use protocol::numbers;
 use wire::bytes;
 
 // Fresh settings: password 0, address FFFFFFFFh, level 3, size code 1, baud factor 6, type 0, marks clear, no transfer.
@@ -121,25 +122,25 @@ pub(crate) fn size_of(code: u8) -> usize
 pub(crate) fn is_plain_fit(s: Settings) -> bool
     ensures { λ r. ⌜ r ≡ fitPlain (plainOf s) ⌝ }
 {
-    if s.level < 1 {
+    if s.level < numbers::LOWEST_LEVEL {
         return false;
     }
-    if 5 < s.level {
+    if numbers::HIGHEST_LEVEL < s.level {
         return false;
     }
-    if 2 < s.size {
+    if numbers::HIGHEST_SIZE < s.size {
         return false;
     }
-    if s.baud < 1 {
+    if s.baud < numbers::LOWEST_BAUD {
         return false;
     }
-    if 12 < s.baud {
+    if numbers::HIGHEST_BAUD < s.baud {
         return false;
     }
     true
 }
 
-// Whether the transfer is legal. Without one, the filled marks are not looked at.
+// Whether the transfer is legal. The filled mark of its buffer is looked at last, and never on a locked reader.
 pub(crate) fn is_transfer_fit(s: Settings) -> bool
     requires { ⌜ s .size ≤ 2 ⌝ }
     ensures { λ r. ⌜ ((t i n b c : List ℕ) → r ≡ fitTransfer (plainOf s) (readerOf s t i n b c .guarded) (transferOf (s .transfer) (s .got))) ⌝ }
@@ -154,13 +155,13 @@ pub(crate) fn is_transfer_fit(s: Settings) -> bool
     }
     let z = size_of(s.size);
     if got % z == 0 {
-        if got < 512 {
-            let full = filled_of(w, s.filled1, s.filled2);
-            if full {
+        if got < numbers::PAGE {
+            let locked = is_locked(s);
+            if locked {
                 return false;
             }
-            let locked = is_locked(s);
-            return !locked;
+            let full = filled_of(w, s.filled1, s.filled2);
+            return !full;
         }
     }
     false

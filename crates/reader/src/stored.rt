@@ -18,10 +18,9 @@ use crate::settings;
 use library::index;
 use library::pages;
 use protocol::Settings;
+use protocol::codes;
+use protocol::numbers;
 use wire::bytes;
-
-const PAGE: usize = 512;
-const INDEX: usize = 32;
 
 pub(crate) fn is_buffer(n: u8) -> bool
     ensures { λ r. ⌜ r ≡ isBuffer n ⌝ }
@@ -71,17 +70,17 @@ pub(crate) fn store_page<'a>(
 {
     let known = is_buffer(n);
     if known {
-        if page < templates.len() / PAGE {
+        if page < templates.len() / numbers::PAGE {
             let full = settings::filled_of(n, settings.filled1, settings.filled2);
             if full {
                 store_now(templates, index, b, c, n, page);
-                return answers::plain(0x00, settings);
+                return answers::plain(codes::DONE, settings);
             }
-            return answers::plain(0x0C, settings);
+            return answers::plain(codes::NOTHING_THERE, settings);
         }
-        return answers::plain(0x0B, settings);
+        return answers::plain(codes::BAD_PAGE, settings);
     }
-    answers::plain(0x01, settings)
+    answers::plain(codes::BAD_PACKET, settings)
 }
 
 // LoadChar (buffer, page).
@@ -99,21 +98,27 @@ pub(crate) fn load_page(
 {
     let known = is_buffer(n);
     if known {
-        if page < templates.len() / PAGE {
+        if page < templates.len() / numbers::PAGE {
             let there = index::has_bit(index, page);
             if there {
                 if n == 2 {
                     pages::read_page(buffer2, templates, page);
-                    return answers::plain(0x00, settings::filled(settings, settings.filled1, true));
+                    return answers::plain(
+                        codes::DONE,
+                        settings::filled(settings, settings.filled1, true),
+                    );
                 }
                 pages::read_page(buffer1, templates, page);
-                return answers::plain(0x00, settings::filled(settings, true, settings.filled2));
+                return answers::plain(
+                    codes::DONE,
+                    settings::filled(settings, true, settings.filled2),
+                );
             }
-            return answers::plain(0x0C, settings);
+            return answers::plain(codes::NOTHING_THERE, settings);
         }
-        return answers::plain(0x0B, settings);
+        return answers::plain(codes::BAD_PAGE, settings);
     }
-    answers::plain(0x01, settings)
+    answers::plain(codes::BAD_PACKET, settings)
 }
 
 // DeletChar (page, n). The sum of two 16-bit numbers is taken in full.
@@ -127,16 +132,16 @@ pub(crate) fn delete_pages(
     requires { ⌜ (settings .size ≤ 2) × ((page < 65536) × (n < 65536)) ⌝ }
     ensures { λ r. ⌜ ((m b c : List ℕ) → saidOf r (now (templates .exit)) (now (index .exit)) m b c ≡ obeyed settings (now (templates .entry)) (now (index .entry)) m b c (deletChar page n)) × Ready r ⌝ }
 {
-    let pages = templates.len() / PAGE;
+    let pages = templates.len() / numbers::PAGE;
     if page < pages {
         if page + n <= pages {
             pages::zero_pages(templates, page as u16, n as u16);
             index::clear_bits(index, page as u16, n as u16);
-            return answers::plain(0x00, settings);
+            return answers::plain(codes::DONE, settings);
         }
-        return answers::plain(0x10, settings);
+        return answers::plain(codes::BAD_RANGE, settings);
     }
-    answers::plain(0x10, settings)
+    answers::plain(codes::BAD_RANGE, settings)
 }
 
 // Empty.
@@ -146,7 +151,7 @@ pub(crate) fn empty_all(settings: Settings, templates: &mut [u8], index: &mut [u
 {
     pages::zero(templates);
     pages::zero(index);
-    answers::plain(0x00, settings)
+    answers::plain(codes::DONE, settings)
 }
 
 // TempleteNum.
@@ -167,12 +172,12 @@ pub(crate) fn read_index(settings: Settings, index: &[u8], page: u8) -> Answer
     ensures { λ r. ⌜ ((t m b c : List ℕ) → saidOf r t (now (index .entry)) m b c ≡ obeyed settings t (now (index .entry)) m b c (readIndexTable page)) × Ready r ⌝ }
 {
     let p = bytes::wide(page);
-    if p < index.len() / INDEX {
-        let a = INDEX * p;
-        let e = a + INDEX;
+    if p < index.len() / numbers::INDEX {
+        let a = numbers::INDEX * p;
+        let e = a + numbers::INDEX;
         let mut bytes = [0u8; 32];
         bytes::put(&mut bytes, &index[a..e]);
         return answers::listed(bytes, 32, settings);
     }
-    answers::plain(0x0B, settings)
+    answers::plain(codes::BAD_PAGE, settings)
 }

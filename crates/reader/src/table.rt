@@ -19,6 +19,8 @@ use crate::parameters;
 use crate::settings;
 use crate::stored;
 use protocol::Settings;
+use protocol::codes;
+use protocol::numbers;
 
 // The length field that a code fixes; 0 for the ranges of codes that no command has.
 pub(crate) fn required(code: u8) -> usize
@@ -64,29 +66,29 @@ pub(crate) fn is_free(code: u8) -> bool
     }
 }
 
-// What comes before the row: the code that stops a command with length field n, or 0.
+// What comes before the row: the code that stops a command with length field n, or 00h.
 pub(crate) fn gate(right: bool, code: u8, n: usize, settings: Settings) -> u8
     ensures { λ r. ⌜ r ≡ gateOf right code n (plainOf settings) ⌝ }
 {
     if right {
         let need = required(code);
         if need == 0 {
-            return 0x19;
+            return codes::UNKNOWN_COMMAND;
         }
         if need == n {
             let free = is_free(code);
             if free {
-                return 0;
+                return codes::DONE;
             }
             let locked = settings::is_locked(settings);
             if locked {
-                return 0x21;
+                return codes::PASSWORD_FIRST;
             }
-            return 0;
+            return codes::DONE;
         }
-        return 0x01;
+        return codes::BAD_PACKET;
     }
-    0x01
+    codes::BAD_PACKET
 }
 
 // The row of a known code that the lock lets pass.
@@ -123,7 +125,7 @@ pub(crate) fn row(
         }
         0x0D => stored::empty_all(settings, templates, index),
         0x0E => parameters::set_parameter(settings, content[1], content[2]),
-        0x0F => parameters::read_parameters(settings, templates.len() / 512),
+        0x0F => parameters::read_parameters(settings, templates.len() / numbers::PAGE),
         0x12 => keys::set_password(settings, content),
         0x13 => keys::verify_password(settings, content),
         0x15 => keys::set_address(settings, content),
@@ -131,7 +133,7 @@ pub(crate) fn row(
         0x19 => notes::read_note(settings, notepad, content[1]),
         0x1D => stored::count_pages(settings, index),
         0x1F => stored::read_index(settings, index, content[1]),
-        _ => answers::plain(0x00, settings),
+        _ => answers::plain(codes::DONE, settings),
     }
 }
 
@@ -151,7 +153,7 @@ pub(crate) fn command(
 {
     let code = content[0];
     let stop = gate(right, code, content.len() + 2, settings);
-    if stop == 0 {
+    if stop == codes::DONE {
         return row(
             code,
             settings,

@@ -15,9 +15,9 @@ use crate::answers::Answer;
 use crate::settings;
 use library::pages;
 use protocol::Settings;
+use protocol::codes;
+use protocol::numbers;
 use wire::bytes;
-
-const PAGE: usize = 512;
 
 // Ends an open transfer: its buffer is zeroed.
 pub(crate) fn end_transfer(settings: Settings, buffer1: &mut [u8], buffer2: &mut [u8]) -> Settings
@@ -45,9 +45,9 @@ pub(crate) fn does_fit(settings: Settings, right: bool, last: bool, n: usize) ->
         if n == z {
             let k = settings.got as usize + z;
             if last {
-                return k == PAGE;
+                return k == numbers::PAGE;
             }
-            return k < PAGE;
+            return k < numbers::PAGE;
         }
         return false;
     }
@@ -118,5 +118,5 @@ pub(crate) fn take_part(
         return place(settings, buffer1, buffer2, content, last);
     }
     let s = end_transfer(settings, buffer1, buffer2);
-    answers::plain(0x0E, s)
+    answers::plain(codes::TRANSFER_FAILED, s)
 }

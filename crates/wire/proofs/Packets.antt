@@ -11,10 +11,10 @@ use Rattle.protocol.specs.Packet.{lengthOf, sumOf, packet}
 use Rattle.protocol.proofs.Laws.Lists.{by-four, lay-lay}
 use Rattle.wire.specs.Laying.{headOf}
 
--- the sum as the code adds it
-pub packet-sum : (i : ℕ) (c : List ℕ) → (i + lengthOf c / 256 % 256 + lengthOf c % 256 + total c % 65536) % 65536 ≡ sumOf i c
-unfolding total sumOf two
-packet-sum i c = add-mod-mod _ _ _ ∙ ap (λ (m : ℕ). m % 65536) (omega arith)
+-- the content's sum may be taken modulo 65536 first
+pub packet-sum : (i : ℕ) (c : List ℕ) → (i + total (two (lengthOf c)) + total c % 65536) % 65536 ≡ sumOf i c
+unfolding sumOf
+packet-sum i c = add-mod-mod _ _ _
 
 -- the head as the code lists it
 pub head-list : (a : List ℕ) (i n : ℕ) → length a ≡ 4

@@ -2,8 +2,8 @@
 use mathlib.Core.Path.{_≡_, refl, sym, ap, _∙_}
 use mathlib.Core.Bool.{Bool, true, false, _&&_}
 use mathlib.Core.List.{List, [], _∷_}
-use Prim.Native.Nat.{ℕ, zero, suc, _+_, _≤_, _<_}
-use native.Mathlib.Nat.{zero-add}
+use Prim.Native.Nat.{ℕ, zero, suc, _+_, _%_, _≤_, _<_}
+use native.Mathlib.Nat.{zero-add, add-zero, add-assoc, mod-add-mod, mod-eq-of-lt}
 use native.Mathlib.Omega.{arith}
 use lib.Dec.{eqb}
 use lib.ListN.{length, getD, drop, drop-of-length-le}
@@ -12,13 +12,27 @@ use borrow.Author.Tests.{eq-eqb, ne-eqb, eqb-true, eqb-false}
 use Rattle.protocol.specs.Bytes.{total, same}
 use Rattle.protocol.proofs.Laws.Lists.{from, by-four}
 
-pub total-step : (s : List ℕ) (i : ℕ) → i < length s → total (drop i s) ≡ getD s i 0 + total (drop (i + 1) s)
+total-step : (s : List ℕ) (i : ℕ) → i < length s → total (drop i s) ≡ getD s i 0 + total (drop (i + 1) s)
 unfolding total
 total-step s i h = rw (from s i h)
 
-pub total-end : (s : List ℕ) (i : ℕ) → length s ≤ i → total (drop i s) ≡ 0
+total-end : (s : List ℕ) (i : ℕ) → length s ≤ i → total (drop i s) ≡ 0
 unfolding total
 total-end s i h = rw (drop-of-length-le s h)
+
+-- ---- a loop that sums, at place i: what is summed so far and what is left are the whole, modulo 65536
+
+abbrev pub Summed : List ℕ → ℕ → ℕ → Type 0
+Summed s acc i = (acc < 65536) × (total s % 65536 ≡ (acc + total (drop i s)) % 65536)
+
+pub sum-none : (s : List ℕ) → Summed s 0 0
+sum-none s = (omega arith, rw zero-add)
+
+pub sum-more : (s : List ℕ) (acc i next : ℕ) → i < length s → Summed s acc i → next ≡ (acc + getD s i 0) % 65536 → Summed s next (i + 1)
+sum-more s acc i next h e n = (omega arith, e .1 ∙ rw (total-step s i h, n, mod-add-mod, add-assoc))
+
+pub sum-all : (s : List ℕ) (acc i : ℕ) → length s ≤ i → Summed s acc i → acc ≡ total s % 65536
+sum-all s acc i h e = sym (e .1 ∙ rw (total-end s i h, add-zero) (mod-eq-of-lt (e .0)))
 
 -- ---- four bytes: the sum of their exclusive ors is 0 where they are the same
 

@@ -1,24 +1,16 @@
 // Building a packet into a lent room.
 ghost use mathlib.Core.Path.{_≡_};
-ghost use Prim.Native.Nat.{_+_, _≤_, _<_};
+ghost use Prim.Native.Nat.{_+_, _%_, _≤_};
 ghost use lib.ListN.{length};
-ghost use Rattle.protocol.specs.Bytes.{two, lay};
+ghost use Rattle.protocol.specs.Bytes.{two, total, lay};
 ghost use Rattle.protocol.specs.Packet.{sumOf, packet, buildOf};
 ghost use Rattle.protocol.specs.Records.{madeOf};
 ghost use Rattle.wire.specs.Laying.{headOf, built};
 use crate::bytes;
 use crate::finder;
 use protocol::Built;
-
-const FIRST_MARK: u8 = 0xEF;
-
-const SECOND_MARK: u8 = 0x01;
-
-const FRAME: usize = 11;
-
-const BAD_ROOM: u8 = 2;
-
-const BAD_CONTENT: u8 = 4;
+use protocol::numbers;
+use protocol::refusals;
 
 // The nine bytes before a packet's content, n its length field.
 fn lay_head(room: &mut [u8], address: [u8; 4], identifier: u8, n: usize) -> usize
@@ -26,8 +18,8 @@ fn lay_head(room: &mut [u8], address: [u8; 4], identifier: u8, n: usize) -> usiz
     ensures { λ r. ⌜ (r ≡ 9) × (now (room .exit) ≡ lay 0 (headOf address identifier n) (now (room .entry))) ⌝ }
 {
     let head = [
-        FIRST_MARK,
-        SECOND_MARK,
+        numbers::FIRST_MARK,
+        numbers::SECOND_MARK,
         address[0],
         address[1],
         address[2],
@@ -48,14 +40,35 @@ fn lay_word(room: &mut [u8], at: usize, n: usize) -> usize
     bytes::lay_at(room, at, &w)
 }
 
-// The sum of a packet.
-fn sum_of(identifier: u8, content: &[u8]) -> usize
-    requires { ⌜ length (now content) ≤ 65535 ⌝ }
-    ensures { λ r. ⌜ (r ≡ sumOf identifier (now (content .entry))) × (r < 65536) ⌝ }
+// Lays the content from place at on and adds it up on the way, so that it is read once.
+fn lay_content(room: &mut [u8], at: usize, content: &[u8]) -> u16
+    requires { ⌜ at + length (now content) ≤ length (now room) ⌝ }
+    ensures { λ r. ⌜ (r ≡ total (now (content .entry)) % 65536) × (now (room .exit) ≡ lay at (now (content .entry)) (now (room .entry))) ⌝ }
 {
-    let n = content.len() + 2;
-    let t = bytes::sum(content) as usize;
-    (bytes::wide(identifier) + n / 256 % 256 + n % 256 + t) % 65536
+    let mut acc: u16 = 0;
+    let mut i = 0;
+    while i < content.len() {
+        room[at + i] = content[i];
+        acc = std::num::wrapping_add_u16(acc, content[i] as u16);
+        i += 1;
+    }
+    acc
+}
+
+// The sum of a packet, n its length field and t the sum of its content.
+fn sum_of(identifier: u8, n: usize, t: u16) -> usize
+    ensures { λ r. ⌜ r ≡ (identifier + total (two n) + t) % 65536 ⌝ }
+{
+    let high = n / 256 % 256;
+    let low = n % 256;
+    (bytes::wide(identifier) + high + low + t as usize) % 65536
+}
+
+// The sum of the packet with this identifier and content.
+pub fn packet_sum(identifier: u8, content: &[u8]) -> usize
+    ensures { λ r. ⌜ r ≡ sumOf identifier (now (content .entry)) ⌝ }
+{
+    sum_of(identifier, content.len() + 2, bytes::sum(content))
 }
 
 // A packet at the front of the room.
@@ -64,10 +77,9 @@ fn lay_packet(room: &mut [u8], address: [u8; 4], identifier: u8, content: &[u8])
     ensures { λ r. ⌜ (r ≡ length (now (content .entry)) + 11) × (now (room .exit) ≡ lay 0 (packet address identifier (now (content .entry))) (now (room .entry))) ⌝ }
 {
     let n = content.len() + 2;
-    let s = sum_of(identifier, content);
     let a = lay_head(room, address, identifier, n);
-    let b = bytes::lay_at(room, a, content);
-    lay_word(room, b, s)
+    let t = lay_content(room, a, content);
+    lay_word(room, a + content.len(), sum_of(identifier, n, t))
 }
 
 fn built_of(refusal: u8, length: usize) -> Built
@@ -82,14 +94,17 @@ pub fn build(address: [u8; 4], identifier: u8, content: &[u8], room: &mut [u8]) 
 {
     let n = content.len();
     if 65535 < n {
-        return built_of(BAD_CONTENT, 0);
+        return built_of(refusals::BAD_CONTENT, 0);
     }
     let fit = finder::is_head(identifier, n + 2);
     if fit {
-        if room.len() < n + FRAME {
-            return built_of(BAD_ROOM, 0);
+        if room.len() < n + numbers::FRAME {
+            return built_of(refusals::BAD_ROOM, 0);
         }
-        return built_of(0, lay_packet(room, address, identifier, content));
+        return built_of(
+            refusals::ACCEPTED,
+            lay_packet(room, address, identifier, content),
+        );
     }
-    built_of(BAD_CONTENT, 0)
+    built_of(refusals::BAD_CONTENT, 0)
 }

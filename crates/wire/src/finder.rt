@@ -1,6 +1,6 @@
 // Finding a packet: steps 1 to 4 of document 01.
 ghost use mathlib.Core.Path.{_≡_};
-ghost use Prim.Native.Nat.{_+_, _*_, _<_};
+ghost use Prim.Native.Nat.{_+_, _*_, _%_, _<_};
 ghost use lib.ListN.{length};
 ghost use Rattle.protocol.specs.Bytes.{wordAt};
 ghost use Rattle.protocol.specs.Packet.{isIdentifier, accepts};
@@ -9,16 +9,7 @@ ghost use Rattle.protocol.specs.Services.{usedService};
 use crate::bytes;
 use protocol::Found;
 use protocol::Start;
-
-const FIRST_MARK: u8 = 0xEF;
-
-const SECOND_MARK: u8 = 0x01;
-
-const HEAD: usize = 9;
-
-const SHORTEST: usize = 3;
-
-const LONGEST: usize = 256;
+use protocol::numbers;
 
 // The first place with EF followed by 01.
 pub fn start(s: &[u8]) -> Start
@@ -30,8 +21,8 @@ pub fn start(s: &[u8]) -> Start
     let last = s.len() - 1;
     let mut i = 0;
     while i < last {
-        if s[i] == FIRST_MARK {
-            if s[i + 1] == SECOND_MARK {
+        if s[i] == numbers::FIRST_MARK {
+            if s[i + 1] == numbers::SECOND_MARK {
                 return Start::At { place: i };
             }
         }
@@ -48,7 +39,7 @@ pub fn all_but(s: &[u8]) -> usize
         return 0;
     }
     let last = s.len() - 1;
-    if s[last] == FIRST_MARK {
+    if s[last] == numbers::FIRST_MARK {
         return last;
     }
     s.len()
@@ -72,10 +63,10 @@ pub fn is_head(i: u8, n: usize) -> bool
 {
     let known = is_identifier(i);
     if known {
-        if n < SHORTEST {
+        if n < numbers::SHORTEST {
             return false;
         }
-        return n <= LONGEST;
+        return n <= numbers::LONGEST;
     }
     false
 }
@@ -97,14 +88,14 @@ pub fn find(s: &[u8]) -> Found
         return Found::Noise { used: all_but(s) };
     };
     let left = s.len() - place;
-    if left < HEAD {
+    if left < numbers::HEAD {
         return Found::Unfinished { at: place };
     }
     let i = s[place + 6];
     let n = word_at(s, place + 7);
     let fit = is_head(i, n);
     if fit {
-        if left < HEAD + n {
+        if left < numbers::HEAD + n {
             return Found::Unfinished { at: place };
         }
         return Found::Whole { at: place, len: n };
@@ -112,15 +103,23 @@ pub fn find(s: &[u8]) -> Found
     Found::Unfit { at: place }
 }
 
+// The bytes used, by what was found. What was found in a run lies in it, so that nothing wraps there.
+pub fn used_of(f: Found) -> usize
+    ensures { λ r. ⌜ r ≡ usedOf f % 18446744073709551616 ⌝ }
+{
+    match f {
+        Found::Noise { used } => used,
+        Found::Unfinished { at } => at,
+        Found::Unfit { at } => std::num::wrapping_add_usize(at, 2),
+        Found::Whole { at, len } => {
+            std::num::wrapping_add_usize(std::num::wrapping_add_usize(at, numbers::HEAD), len)
+        }
+    }
+}
+
 // The bytes used of a run.
 pub fn used(s: &[u8]) -> usize
     ensures { λ r. ⌜ r ≡ usedService (now (s .entry)) ⌝ }
 {
-    let f = find(s);
-    match f {
-        Found::Noise { used } => used,
-        Found::Unfinished { at } => at,
-        Found::Unfit { at } => at + 2,
-        Found::Whole { at, len } => at + HEAD + len,
-    }
+    used_of(find(s))
 }

@@ -16,7 +16,7 @@ use Rattle.protocol.specs.declared.Found.the-variants.{Noise, Unfinished
 use Rattle.protocol.specs.Numbers.{firstMark, secondMark, headBytes, frameBytes, fourBytes, shortest, longest}
 use Rattle.protocol.specs.Bytes.{two, byteAt}
 use Rattle.protocol.specs.Packet.{packet, isIdentifier, limit, accepts, addressAt, identifierAt, lengthAt, contentAt, endAt, rightAt}
-use Rattle.protocol.specs.Finder.{marksAt, later, startOf, allBut, findFrom, findOf}
+use Rattle.protocol.specs.Finder.{marksAt, later, startOf, allBut, findFrom, findOf, usedOf}
 use Rattle.protocol.specs.Step.{hearAs, hearAt}
 use Rattle.protocol.proofs.Laws.Logic.{T→true, and-l, and-r, and-i, and-false}
 use Rattle.protocol.proofs.Laws.Lists.{same-refl}
@@ -112,6 +112,16 @@ found-in s = go (startOf s) (start-first s)
     go Nowhere h = none (eqb (byteAt s (length s - 1)) firstMark)
     go (At p) h =
         at p (marks-in s p (h .0)) (ltb (length s) (p + headBytes)) (accepts (identifierAt s p) (lengthAt s p)) (ltb (length s) (endAt p (lengthAt s p))) refl refl refl
+
+pub used-in : (s : List ℕ) → usedOf (findOf s) ≤ length s
+unfolding usedOf
+used-in s = go (findOf s) (found-in s)
+  where
+    go : (f : Found) → Within s f → usedOf f ≤ length s
+    go (Noise n) h = h
+    go (Unfinished p) h = h
+    go (Unfit p) h = omega arith
+    go (Whole p n) h = h .0
 
 -- ---- a whole packet at p, by the facts that the code's tests give
 

@@ -35,6 +35,10 @@ pub and-false : (a b : Bool) → b ≡ false → (a && b) ≡ false
 and-false true b q = q
 and-false false b q = refl
 
+pub and-true : (a b : Bool) → b ≡ true → (a && b) ≡ a
+and-true true b q = q
+and-true false b q = refl
+
 pub or-false : (a b : Bool) → a ≡ false → b ≡ false → (a || b) ≡ false
 or-false a b p q = rw (p, q) refl
 

@@ -1,29 +1,15 @@
--- Each return is the definition's value, by the tests that led there.
-use Rattle.wire.proofs.Picks.{picks}
-use lib.Dec.{T, eqb, ltb, leb}
-use lib.ListN.{length, getD, take, drop, set, replicate, length-take, length-drop, length-set, length-replicate}
-use denote.Ref.{now}
-use borrow.Author.Tests.{lt-ltb, le-ltb, le-leb, lt-leb, eq-eqb, ne-eqb, ltb-true, ltb-false, leb-true, leb-false, eqb-true, eqb-false}
+-- By the transfer: none, one that is no transfer, or an open one.
+use lib.Dec.{eqb}
+use borrow.Author.Tests.{lt-ltb, le-ltb, ne-eqb}
 use native.Mathlib.Omega.{arith}
-use Prim.Native.Nat.{ℕ, zero, suc, _+_, _-_, _*_, _/_, _%_, _^_, _≤_, _<_}
-use mathlib.Core.List.{List, [], _∷_, _++_}
-use mathlib.Core.Logic.{_⊎_, inl, inr, ⊎-elim}
-use mathlib.Core.Bool.{Bool, true, false, _&&_, _||_, not, cond}
-use mathlib.Core.Path.{_≡_, refl, sym, ap, ap₂, _∙_, subst}
+use Prim.Native.Nat.{_-_}
+use mathlib.Core.Bool.{not, cond}
+use mathlib.Core.Path.{refl, sym}
 use borrow.Author.Needs.{needs}
-use Rattle.protocol.specs.Tests.{verdict, within}
-use Rattle.protocol.specs.Bytes.{two, follow, four, same, wordAt, part, zeros}
-use Rattle.protocol.specs.Reader.{capacity, bufferOf, emptied, filledWith, withMark, withTransfer, withPassword, withAddress, withTuning, withLibrary, withNotepad, withBuffer, sizeOf, locked, keyed, fresh, closed}
-use Rattle.protocol.specs.Table.{apply, isBuffer, inRange, withParameter, statusOf, rule, freeRule, publicOf}
-use Rattle.protocol.specs.Step.{silence, says, carry, carryAs, carryFree}
-use Rattle.protocol.specs.Records.{transferOf, plainOf}
-use Rattle.reader.specs.Answers.{sent}
-use Rattle.reader.proofs.Laws.{four-from, take-rest, chosen-filled, chosen-bytes, chosen-long, writes, reads, counts, high-byte, parameter-list}
+use Rattle.protocol.specs.Reader.{locked}
+use Rattle.protocol.specs.Records.{plainOf}
 use Rattle.reader.proofs.Transfers.{fit-none, fit-far, fit-at}
-use Rattle.library.proofs.Parts.{zeroed, part-put, part-read}
-use lib.Seq.{take-all}
-use Rattle.protocol.specs.Call.{fitPlain}
-use Rattle.protocol.specs.Numbers.{highestSize}
+use Rattle.protocol.proofs.Laws.Logic.{and-true, and-false}
 use Rattle.reader.proofs.settings.is_transfer_fit.Statement.{statement}
 use Rattle.reader.proofs.settings.is_transfer_fit.Tie as tie
 use Rattle.reader.proofs.settings.is_transfer_fit.Reads as reads
@@ -47,17 +33,17 @@ size-of-requires c κs = search needs
 rem-if3 : tie.Need-rem-if3
 rem-if3 c = search needs
 
-filled-of-requires : tie.Need-filled-of-requires
-filled-of-requires c κs = search needs
-
-returns-3 : tie.Need-returns-3
-returns-3 c = λ t i n b d. rw (fit-at _ _ _ _ (c .before .before .before .before .before .before .if1 .left) (omega arith), ← c .before .before .before .before .size-of .ensures .0, c .before .before .before .if3 .taken, lt-ltb _ _ (c .before .before .if4 .taken), ← c .before .filled-of .ensures, c .if5 .taken) refl
-
 is-locked-requires : tie.Need-is-locked-requires
 is-locked-requires c κs = search needs
 
+returns-3 : tie.Need-returns-3
+returns-3 c = λ t i n b d. rw (fit-at _ _ _ _ (c .before .before .before .before .before .before .if1 .left) (omega arith), ← c .before .before .before .before .size-of .ensures .0, c .before .before .before .if3 .taken, lt-ltb _ _ (c .before .before .if4 .taken)) (let p = plainOf (c .before .before .before .before .before .before .before .before .args .s) in sym (and-false (not (cond (eqb (c .before .before .before .before .before .before .before .before .args .s .transfer) 2) (c .before .before .before .before .before .before .before .before .args .s .filled2) (c .before .before .before .before .before .before .before .before .args .s .filled1))) (not (locked p)) (rw (← c .before .is-locked .ensures, c .if5 .taken) refl)))
+
+filled-of-requires : tie.Need-filled-of-requires
+filled-of-requires c κs = search needs
+
 returns-4 : tie.Need-returns-4
-returns-4 c = λ t i n b d. rw (fit-at _ _ _ _ (c .before .before .before .before .before .before .before .if1 .left) (omega arith), ← c .before .before .before .before .before .size-of .ensures .0, c .before .before .before .before .if3 .taken, lt-ltb _ _ (c .before .before .before .if4 .taken), ← c .before .before .filled-of .ensures, c .before .if5 .left, ← c .is-locked .ensures) refl
+returns-4 c = λ t i n b d. rw (fit-at _ _ _ _ (c .before .before .before .before .before .before .before .if1 .left) (omega arith), ← c .before .before .before .before .before .size-of .ensures .0, c .before .before .before .before .if3 .taken, lt-ltb _ _ (c .before .before .before .if4 .taken), ← c .filled-of .ensures) (sym (and-true (not (c .filled-of .result)) (not (locked (plainOf (c .before .before .before .before .before .before .before .before .before .args .s)))) (rw (← c .before .before .is-locked .ensures, c .before .if5 .left) refl)))
 
 returns-5 : tie.Need-returns-5
 returns-5 c = λ t i n b d. rw (fit-at _ _ _ _ (c .before .before .before .before .if1 .left) (omega arith), ← c .before .before .size-of .ensures .0, c .before .if3 .taken, le-ltb _ _ (c .if4 .left)) refl
@@ -74,9 +60,9 @@ is-transfer-fit-spec =
     returns-2
     size-of-requires
     rem-if3
-    filled-of-requires
-    returns-3
     is-locked-requires
+    returns-3
+    filled-of-requires
     returns-4
     returns-5
     returns-6)

@@ -5,27 +5,30 @@ use native.Mathlib.Omega.{arith}
 use Prim.Native.Nat.{_-_}
 use mathlib.Core.Path.{_≡_}
 use borrow.Author.Needs.{needs}
-use Rattle.wire.proofs.Packets.{packet-laid}
+use Rattle.wire.proofs.Packets.{packet-sum, packet-laid}
 use Rattle.wire.proofs.builder.lay_packet.Statement.{statement}
 use Rattle.wire.proofs.builder.lay_packet.Tie as tie
 use Rattle.wire.proofs.builder.lay_packet.Reads as reads
 use Rattle.wire.proofs.builder.lay_packet.Lts as lts
+use Rattle.wire.proofs.builder.lay_content.Reads as lay-content-reads
 use Rattle.wire.proofs.builder.lay_head.Reads as lay-head-reads
 use Rattle.wire.proofs.builder.lay_word.Reads as lay-word-reads
 use Rattle.wire.proofs.builder.sum_of.Reads as sum-of-reads
-use Rattle.wire.proofs.bytes.lay_at.Reads as lay-at-reads
 
 add-n : tie.Need-add-n
 add-n c = search needs
 
-sum-of-requires : tie.Need-sum-of-requires
-sum-of-requires c κs = search needs
-
 lay-head-requires : tie.Need-lay-head-requires
 lay-head-requires c κs = search needs
 
-lay-at-requires : tie.Need-lay-at-requires
-lay-at-requires c κs = search needs
+lay-content-requires : tie.Need-lay-content-requires
+lay-content-requires c κs = search needs
+
+add-lay-word : tie.Need-add-lay-word
+add-lay-word c = search needs
+
+sum-of-requires : tie.Need-sum-of-requires
+sum-of-requires c κs = search needs
 
 lay-word-requires : tie.Need-lay-word-requires
 lay-word-requires c κs = search needs
@@ -37,16 +40,17 @@ returns : tie.Need-returns
 returns c =
     let a = c .before .before .before .before .before .before .before .before .before .before .before .before .before .before .before .args in
     let e : length (a .address) ≡ 4 = search needs in
-    (search needs, cc (packet-laid (a .address) (a .identifier) (now (a .content)) (now (a .room)) e (omega arith)))
+    (search needs, cc (packet-sum (a .identifier) (now (a .content)), packet-laid (a .address) (a .identifier) (now (a .content)) (now (a .room)) e (omega arith)))
 
 pub lay-packet-spec : {M : Type 1} → statement M
 lay-packet-spec =
     tie.close
     (tie.spec
     add-n
-    sum-of-requires
     lay-head-requires
-    lay-at-requires
+    lay-content-requires
+    add-lay-word
+    sum-of-requires
     lay-word-requires
     same-length
     returns)

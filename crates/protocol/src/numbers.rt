@@ -1,0 +1,71 @@
+// The numbers of document 01 that the code needs, each named once. specs/Numbers.antt names them for the definitions, and the
+// proofs join the two: a number changed here alone is refused.
+
+// ---- lent memory
+
+// A page of templates, and a character buffer.
+pub const PAGE: usize = 512;
+
+// The most pages that a library has.
+pub const MOST_PAGES: usize = 256;
+
+// The bytes of an index.
+pub const INDEX: usize = 32;
+
+// The bytes of a notepad, and of one of its pages.
+pub const NOTEPAD: usize = 512;
+
+pub const NOTE: usize = 32;
+
+// The reply room at least.
+pub const REPLY_ROOM: usize = 700;
+
+// ---- settings
+
+pub const LOWEST_LEVEL: u8 = 1;
+
+pub const HIGHEST_LEVEL: u8 = 5;
+
+pub const LOWEST_BAUD: u8 = 1;
+
+pub const HIGHEST_BAUD: u8 = 12;
+
+pub const HIGHEST_SIZE: u8 = 2;
+
+// The parameter numbers of SetSysPara.
+pub const BAUD_PARAMETER: u8 = 4;
+
+pub const LEVEL_PARAMETER: u8 = 5;
+
+pub const SIZE_PARAMETER: u8 = 6;
+
+// ---- packets
+
+// The two bytes that start a packet.
+pub const FIRST_MARK: u8 = 0xEF;
+
+pub const SECOND_MARK: u8 = 0x01;
+
+// The marks, the address, the identifier and the length field; and with the sum.
+pub const HEAD: usize = 9;
+
+pub const FRAME: usize = 11;
+
+// The least and the greatest length field.
+pub const SHORTEST: usize = 3;
+
+pub const LONGEST: usize = 256;
+
+// Identifiers.
+pub const COMMAND_PACKET: u8 = 1;
+
+pub const DATA_PACKET: u8 = 2;
+
+pub const ACKNOWLEDGE_PACKET: u8 = 7;
+
+pub const LAST_PACKET: u8 = 8;
+
+// ---- the index count
+
+// Its answer to an index of another length.
+pub const NO_COUNT: u16 = 0xFFFF;

@@ -1,0 +1,168 @@
+-- A call's definitions at each way out, and what passed refusals say.
+use mathlib.Core.Path.{_≡_, refl, sym, ap, _∙_, subst}
+use mathlib.Core.Bool.{Bool, true, false, true≢false}
+use mathlib.Core.Logic.{_⊎_, inl, inr}
+use mathlib.Core.List.{List, [], _∷_}
+use Prim.Native.Nat.{ℕ, _+_, _-_, _*_, _/_, _%_, _≤_, _<_}
+use native.Mathlib.Omega.{arith}
+use native.Mathlib.Decide.{decLt}
+use lib.Dec.{T, eqb→eq, leb→le}
+use lib.ListN.{length, take, drop}
+use borrow.Author.Tests.{eqb-true, le-leb, lt-leb}
+use Rattle.protocol.specs.declared.Settings.{Settings}
+use Rattle.protocol.specs.declared.Found.{Found}
+use Rattle.protocol.specs.declared.Found.the-variants.{Noise, Unfinished, Unfit, Whole}
+use Rattle.protocol.proofs.Found.{the-type}
+use denote.Enum.Declared.{tagOf}
+use types.Run.{OneOf}
+use Rattle.protocol.specs.Numbers.{highestSize}
+use Rattle.protocol.specs.Bytes.{same}
+use Rattle.protocol.specs.Tests.{within, verdict}
+use Rattle.protocol.specs.Packet.{addressAt, identifierAt, rightAt}
+use Rattle.protocol.specs.Finder.{findOf, usedOf}
+use Rattle.protocol.specs.Reader.{Plain, Guarded, Reader, capacity}
+use Rattle.protocol.specs.Step.{nothing, hearAs, hearAt, hear, Said, silence, answer, stepOf}
+use Rattle.protocol.specs.Call.{core, fitLibrary, fitBuffers, fitLengths, fitRoom, fitPlain, fitTransfer, sound, refusalOf, refused, carried, callAs, callOf}
+use Rattle.protocol.specs.Records.{readerOf, transferOf}
+use Rattle.protocol.proofs.Laws.Logic.{T→true, and-l, and-r}
+use Rattle.protocol.proofs.Laws.Lists.{lay-nothing}
+use Rattle.protocol.proofs.Laws.Finder.{Within, found-in, used-in, accepts-least, accepts-most, longest-word}
+use Rattle.reader.specs.Commands.{Fit}
+use Rattle.reader.specs.Calls.{Moving, lengthsOf, carriedOf}
+use Rattle.reader.proofs.Transfers.{fit-none, fit-far}
+
+-- ---- a whole packet
+
+pub hear-ours : (a s : List ℕ) (p n : ℕ) (right : Bool) → same (addressAt s p) a ≡ true → right ≡ rightAt s p n
+    → hearAs (identifierAt s p) right (take (p + 9 + (n - 2) - (p + 9)) (drop (p + 9) s)) ≡ hearAt a s (Whole p n)
+unfolding hearAt
+hear-ours a s p n right e f = let k : p + 9 + (n - 2) - (p + 9) ≡ n - 2 = omega arith in rw (k, e, f) refl
+
+-- another's
+pub hear-other : (a s : List ℕ) (p n : ℕ) → same (addressAt s p) a ≡ false → hearAt a s (Whole p n) ≡ nothing
+unfolding hearAt
+hear-other a s p n e = rw e refl
+
+pub carried-silence : (u : ℕ) (r : Reader) (y : List ℕ) → carriedOf u (answer r nothing) y ≡ record { told = record { refusal = 0; used = u; length = 0; room = y }; after = r }
+unfolding carried answer silence
+carried-silence u r y = ap (λ (x : List ℕ). record { told = record { refusal = 0; used = u; length = 0; room = x }; after = r }) (lay-nothing 0 y)
+
+-- no whole packet: the enum's case is one of the first three
+pub unheard : (a s : List ℕ) (f : Found) → OneOf (0 ∷ 1 ∷ 2 ∷ []) (tagOf the-type f) → hearAt a s f ≡ nothing
+unfolding hearAt
+unheard a s (Noise n) k = refl
+unheard a s (Unfinished p) k = refl
+unheard a s (Unfit p) k = refl
+unheard a s (Whole p n) k = absurd (none 3 refl k)
+  where
+    none : (t : ℕ) → t ≡ 3 → (t ≡ 0) ⊎ ((t ≡ 1) ⊎ (t ≡ 2)) → ⊥
+    none t h (inl e) = omega arith
+    none t h (inr (inl e)) = omega arith
+    none t h (inr (inr e)) = omega arith
+
+pub step-silent : (r : Reader) (s y : List ℕ) (f : Found) → f ≡ findOf s → length s < 18446744073709551616 → hearAt (r .plain .address) s f ≡ nothing
+    → record { told = record { refusal = 0; used = usedOf f % 18446744073709551616; length = 0; room = y }; after = r } ≡ carried (stepOf r s) y
+unfolding stepOf hear
+step-silent r s y f e h n =
+    let i : usedOf f ≤ length s = rw e (used-in s) in
+    let u : usedOf f % 18446744073709551616 ≡ usedOf f = omega arith in
+    ap (λ (k : ℕ). record { told = record { refusal = 0; used = k; length = 0; room = y }; after = r }) u
+    ∙ sym (carried-silence (usedOf f) r y)
+    ∙ ap (λ (x : Said). carriedOf (usedOf f) x y) (ap (answer r) (sym n))
+    ∙ ap (λ (g : Found). carriedOf (usedOf g) (answer r (hearAt (r .plain .address) s g)) y) e
+
+pub step-whole : (r : Reader) (s y : List ℕ) (p n : ℕ) → findOf s ≡ Whole p n → carriedOf (p + 9 + n) (answer r (hearAt (r .plain .address) s (Whole p n))) y ≡ carried (stepOf r s) y
+unfolding stepOf hear usedOf
+step-whole r s y p n e = sym (ap (λ (f : Found). carriedOf (usedOf f) (answer r (hearAt (r .plain .address) s f)) y) e)
+
+-- it lies within its run
+pub record Lies (s : List ℕ) (p n : ℕ) : Type 0 where
+  pub inside : p + 9 + n ≤ length s
+  pub low : 3 ≤ n
+  pub high : n ≤ 65535
+
+pub whole-lies : (s : List ℕ) (p n : ℕ) → findOf s ≡ Whole p n → Lies s p n
+whole-lies s p n e =
+    let w : Within s (Whole p n) = subst (Within s) e (found-in s) in
+    record { inside = w .0; low = accepts-least (identifierAt s p) n (w .1); high = omega (arith, accepts-most (identifierAt s p) n (w .1), longest-word) }
+
+-- ---- what passed refusals say
+
+pub lengths-are : (g : Guarded) → fitLengths core g ≡ lengthsOf (length (g .templates)) (length (g .index)) (length (g .notepad)) (length (g .buffer1 .bytes)) (length (g .buffer2 .bytes))
+unfolding fitLengths fitLibrary fitBuffers capacity lengthsOf
+lengths-are g = refl
+
+pub record Lengths (t i n b c : List ℕ) : Type 0 where
+  pub pages : length t ≡ 512 * (length t / 512)
+  pub within : length t / 512 ≤ 256
+  pub index : length i ≡ 32
+  pub notepad : length n ≡ 512
+  pub buffer1 : length b ≡ 512
+  pub buffer2 : length c ≡ 512
+
+pub lengths-say : (t i n b c : List ℕ) → lengthsOf (length t) (length i) (length n) (length b) (length c) ≡ true → Lengths t i n b c
+unfolding lengthsOf within core
+lengths-say t i n b c e =
+    let h : T (lengthsOf (length t) (length i) (length n) (length b) (length c)) = rw e tt in
+    record {
+      pages = eqb→eq (length t) (512 * (length t / 512)) (search (and-l, and-r) depth 9);
+      within = leb→le (length t / 512) 256 (search (and-l, and-r) depth 9);
+      index = eqb→eq (length i) 32 (search (and-l, and-r) depth 9);
+      notepad = eqb→eq (length n) 512 (search (and-l, and-r) depth 9);
+      buffer1 = eqb→eq (length b) 512 (search (and-l, and-r) depth 9);
+      buffer2 = eqb→eq (length c) 512 (search (and-l, and-r) depth 9);
+    }
+
+pub plain-size : (p : Plain) → fitPlain p ≡ true → p .size ≤ 2
+unfolding fitPlain highestSize
+plain-size p e = let h : T (fitPlain p) = rw e tt in leb→le (p .size) 2 (search (and-l, and-r) depth 9)
+
+moving : (p : Plain) (g : Guarded) (s : Settings) → fitTransfer p g (transferOf (s .transfer) (s .got)) ≡ true → Moving s
+moving p g s e = record { which = go (decLt 2 (s .transfer)); none = λ z. eqb-true (s .got) 0 (sym (fit-none p g (s .transfer) (s .got) z) ∙ e) }
+  where
+    go : Dec (2 < s .transfer) → s .transfer ≤ 2
+    go (yes h) = absurd (true≢false (sym e ∙ fit-far p g (s .transfer) (s .got) h))
+    go (no h) = omega arith
+
+pub record Held (s : Settings) (t i n b c : List ℕ) : Type 0 where
+  pub fit : Fit s t i n b c
+  pub moves : Moving s
+
+pub sound-says : (s : Settings) (t i n b c : List ℕ) → Lengths t i n b c → sound (readerOf s t i n b c) ≡ true → Held s t i n b c
+unfolding sound
+sound-says s t i n b c l e =
+    let r : Reader = readerOf s t i n b c in
+    let h : T (sound r) = rw e tt in
+    let p : T (fitPlain (r .plain)) = search (and-l, and-r) in
+    let m : T (fitTransfer (r .plain) (r .guarded) (r .plain .transfer)) = search (and-l, and-r) in
+    record {
+      fit =
+          record {
+            pages = l .pages;
+            within = l .within;
+            index = l .index;
+            notepad = l .notepad;
+            buffer1 = l .buffer1;
+            buffer2 = l .buffer2;
+            size = plain-size (r .plain) (T→true (fitPlain (r .plain)) p);
+          };
+      moves = moving (r .plain) (r .guarded) s (T→true (fitTransfer (r .plain) (r .guarded) (r .plain .transfer)) m);
+    }
+
+-- ---- a call at each way out
+
+pub call-bad-length : (r : Reader) (s y : List ℕ) → fitLengths core (r .guarded) ≡ false → refused 1 r y ≡ callOf core r s y
+unfolding callOf callAs refusalOf verdict
+call-bad-length r s y l = rw l refl
+
+pub call-bad-room : (r : Reader) (s y : List ℕ) → fitLengths core (r .guarded) ≡ true → length y < 700 → refused 2 r y ≡ callOf core r s y
+unfolding callOf callAs refusalOf verdict fitRoom
+call-bad-room r s y l h = rw (l, lt-leb 700 (length y) h) refl
+
+pub call-bad-setting : (r : Reader) (s y : List ℕ) → fitLengths core (r .guarded) ≡ true → 700 ≤ length y → sound r ≡ false → refused 3 r y ≡ callOf core r s y
+unfolding callOf callAs refusalOf verdict fitRoom
+call-bad-setting r s y l h k = rw (l, le-leb 700 (length y) h, k) refl
+
+pub call-goes : (r : Reader) (s y : List ℕ) → fitLengths core (r .guarded) ≡ true → 700 ≤ length y → sound r ≡ true → carried (stepOf r s) y ≡ callOf core r s y
+unfolding callOf callAs refusalOf verdict fitRoom
+call-goes r s y l h k = rw (l, le-leb 700 (length y) h, k) refl

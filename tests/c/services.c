@@ -1,0 +1,190 @@
+/*
+ * Calls the four services from C, and holds each answer to one that is written here. tests/c/run builds and runs it.
+ * It writes one line, 'services: N checks passed', and ends with 0; or names each failed check and ends with 1.
+ */
+#include "bystrodol.h"
+
+/* The C library's; the kit's clang brings no <stdio.h>. */
+int dprintf(int file, const char *format, ...);
+
+enum { OUTPUT = 1, ERRORS = 2, LONGEST = BYSTRODOL_CONTENT_MOST + BYSTRODOL_FRAME_BYTES, ROOM = LONGEST + 64, GUARD = 64, MANY = 65537 };
+
+static unsigned passed, failed;
+
+/* One check: its name, which of several it is, and what of it is looked at. */
+static void check_of(const char *name, size_t which, const char *what, size_t got, size_t wanted) {
+    if (got == wanted) {
+        passed++;
+        return;
+    }
+    failed++;
+    dprintf(ERRORS, "services: FAILED: %s (%zu), %s: got %zu, wanted %zu\n", name, which, what, got, wanted);
+}
+
+static void check(const char *name, size_t got, size_t wanted) { check_of(name, 0, "the answer", got, wanted); }
+
+/* The first place where two runs of n bytes differ, or n. */
+static size_t differ(const uint8_t *a, const uint8_t *b, size_t n) {
+    size_t i = 0;
+    while (i < n && a[i] == b[i]) i++;
+    return i;
+}
+
+/* ---- the sum */
+
+static void sums(void) {
+    static const uint8_t three[] = {0x01, 0xFF, 0x10};
+    static uint8_t full[258];
+    for (size_t i = 0; i < sizeof full; i++) full[i] = 0xFF;
+    check("sum of the empty run", bystrodol_sum(three, 0), 0);
+    check("sum of the empty run at NULL", bystrodol_sum(NULL, 0), 0);
+    check("sum of one byte", bystrodol_sum(three, 1), 0x01);
+    check("sum of three bytes", bystrodol_sum(three, 3), 0x110);
+    check("sum of three bytes from an odd place", bystrodol_sum(three + 1, 2), 0x10F);
+    check("the largest sum", bystrodol_sum(full, 257), 0xFFFF);
+    check("a sum past 65535", bystrodol_sum(full, 258), 0x00FE);
+}
+
+/* ---- the bytes used: document 01's examples */
+
+#define A 0xFF, 0xFF, 0xFF, 0xFF
+
+static const uint8_t p1[] = {0xEF, 0x01, A, 0x01, 0x00, 0x03, 0x40, 0x00, 0x44};
+static const uint8_t p3[] = {0x41, 0xEF};
+static const uint8_t p4[] = {0xEF, 0x01, A, 0x01, 0x00, 0x03, 0x40, 0x00, 0x45};
+static const uint8_t p5[] = {0xEF, 0x01, 0, 0, 0, 0, 0x01, 0x00, 0x03, 0x40, 0x00, 0x44};
+static const uint8_t p6[] = {0xEF, 0x01, A, 0x01, 0x00, 0x02, 0x40};
+static const uint8_t p7_long[] = {0xEF, 0x01, A, 0x01, 0x01, 0x01, 0x40};
+static const uint8_t p7_longest[] = {0xEF, 0x01, A, 0x01, 0x01, 0x00, 0x40};
+static const uint8_t p8[] = {0xEF, 0x01, A, 0x01, 0x00, 0x03, 0x1D, 0x00, 0x21};
+
+static void used(void) {
+    static const uint8_t noise[] = {0x41, 0xEF, 0x02, 0xEF, 0xEF, 0x01, 0x55};
+    static const uint8_t unknown[] = {0x41, 0xEF, 0x01, A, 0x03, 0x00, 0x03, 0x40, 0x00, 0x46};
+    static const uint8_t late[] = {0x41, 0xEF, 0xEF, 0x01, A, 0x01, 0x00, 0x03, 0x40, 0x00, 0x44, 0xEF};
+    check("P1: a whole packet", bystrodol_used(p1, sizeof p1), 12);
+    check("P2: the empty run", bystrodol_used(p1, 0), 0);
+    check("P2: the empty run at NULL", bystrodol_used(NULL, 0), 0);
+    check("P3: noise that ends in EF", bystrodol_used(p3, sizeof p3), 1);
+    check("P4: a wrong sum", bystrodol_used(p4, sizeof p4), 12);
+    check("P5: another address", bystrodol_used(p5, sizeof p5), 12);
+    check("P6: a length below 3", bystrodol_used(p6, sizeof p6), 2);
+    check("P6 before its length is all there", bystrodol_used(p6, 8), 0);
+    check("P7: a length above 256", bystrodol_used(p7_long, sizeof p7_long), 2);
+    check("P7: the length 256, unfinished", bystrodol_used(p7_longest, sizeof p7_longest), 0);
+    check("P8: a whole packet", bystrodol_used(p8, sizeof p8), 12);
+    check("a lone EF", bystrodol_used(p1, 1), 0);
+    check("noise before an unfinished packet", bystrodol_used(noise, sizeof noise), 4);
+    check("noise without marks", bystrodol_used(noise, 3), 3);
+    check("an identifier that no packet has", bystrodol_used(unknown, sizeof unknown), 3);
+    check("a packet between noise", bystrodol_used(late, sizeof late), 14);
+    for (size_t n = 2; n < sizeof p1; n++) check_of("P1, unfinished", n, "bytes used", bystrodol_used(p1, n), 0);
+}
+
+/* ---- building a packet: the room lies between two guards, and every byte of all three is looked at */
+
+static uint8_t area[GUARD + ROOM + GUARD], before[sizeof area], content[MANY];
+static uint8_t *const room = area + GUARD;
+
+/* Builds into the first length bytes of the room; a room of no bytes is NULL. */
+static size_t build(uint32_t address, uint8_t identifier, const uint8_t *bytes, size_t n, size_t length) {
+    for (size_t i = 0; i < sizeof area; i++) area[i] = before[i] = (uint8_t)(0xA5 + 7 * i);
+    return bystrodol_build(address, identifier, bytes, n, length ? room : NULL, length);
+}
+
+/* The packet stands in the room, and nothing else is changed. */
+static void built(const char *name, size_t got, const uint8_t *packet, size_t n) {
+    size_t past = sizeof area - GUARD - n;
+    check_of(name, n, "length", got, n);
+    check_of(name, n, "bytes", differ(room, packet, n), n);
+    check_of(name, n, "guard before the room", differ(area, before, GUARD), GUARD);
+    check_of(name, n, "room past the packet, and the guard", differ(room + n, before + GUARD + n, past), past);
+}
+
+static void refused(const char *name, size_t which, size_t got) {
+    check_of(name, which, "length", got, 0);
+    check_of(name, which, "room and guards", differ(area, before, sizeof area), sizeof area);
+}
+
+static void builds(void) {
+    static const uint8_t handshake[] = {0x40}, count[] = {0x1D}, none[] = {0x00, 0x00, 0x00};
+    static const uint8_t done[] = {0xEF, 0x01, A, 0x07, 0x00, 0x03, 0x00, 0x00, 0x0A};
+    static const uint8_t zero[] = {0xEF, 0x01, A, 0x07, 0x00, 0x05, 0x00, 0x00, 0x00, 0x00, 0x0C};
+    static const uint8_t other[] = {0xEF, 0x01, 0x12, 0x34, 0x56, 0x78, 0x08, 0x00, 0x03, 0x40, 0x00, 0x4B};
+    built("P1's packet", build(0xFFFFFFFF, 1, handshake, 1, ROOM), p1, sizeof p1);
+    built("P1's reply", build(0xFFFFFFFF, 7, none, 1, ROOM), done, sizeof done);
+    built("P8's packet", build(0xFFFFFFFF, 1, count, 1, ROOM), p8, sizeof p8);
+    built("P8's reply", build(0xFFFFFFFF, 7, none, 3, ROOM), zero, sizeof zero);
+    built("an address, high byte first", build(0x12345678, 8, handshake, 1, ROOM), other, sizeof other);
+    built("a room with no byte to spare", build(0xFFFFFFFF, 1, handshake, 1, sizeof p1), p1, sizeof p1);
+    refused("a room one byte short", 0, build(0xFFFFFFFF, 1, handshake, 1, sizeof p1 - 1));
+    refused("no room, at NULL", 0, build(0xFFFFFFFF, 1, handshake, 1, 0));
+    refused("no content", 0, build(0xFFFFFFFF, 1, handshake, 0, ROOM));
+    refused("no content, at NULL", 0, build(0xFFFFFFFF, 1, NULL, 0, ROOM));
+    refused("content of 255 bytes", 0, build(0xFFFFFFFF, 1, content, 255, ROOM));
+    refused("content of 65537 bytes", 0, build(0xFFFFFFFF, 1, content, MANY, ROOM));
+    refused("identifier 3", 0, build(0xFFFFFFFF, 3, handshake, 1, ROOM));
+    for (unsigned i = 0; i < 256; i++)
+        if (i != 1 && i != 2 && i != 7 && i != 8) refused("an identifier that no packet has", i, build(0xFFFFFFFF, (uint8_t)i, handshake, 1, ROOM));
+}
+
+/* 254 bytes of content FF: the sum is 02 + 01 + 00 + 254 * FF = FD05h. */
+static void longest(void) {
+    static uint8_t packet[LONGEST] = {0xEF, 0x01, A, 0x02, 0x01, 0x00};
+    for (size_t i = 0; i < BYSTRODOL_CONTENT_MOST; i++) content[i] = packet[9 + i] = 0xFF;
+    packet[LONGEST - 2] = 0xFD, packet[LONGEST - 1] = 0x05;
+    built("the longest packet", build(0xFFFFFFFF, 2, content, BYSTRODOL_CONTENT_MOST, LONGEST), packet, LONGEST);
+    check("the longest packet's bytes used", bystrodol_used(room, LONGEST), LONGEST);
+    check("the longest packet, unfinished", bystrodol_used(room, LONGEST - 1), 0);
+    refused("the longest packet, its room one byte short", 0, build(0xFFFFFFFF, 2, content, BYSTRODOL_CONTENT_MOST, LONGEST - 1));
+}
+
+/* A packet of every length is found again whole, and its last two bytes are the sum of what they sum. */
+static void read_back(void) {
+    for (size_t i = 0; i < BYSTRODOL_CONTENT_MOST; i++) content[i] = (uint8_t)(i * i);
+    for (size_t n = 1; n <= BYSTRODOL_CONTENT_MOST; n++) {
+        size_t length = build(0x01020304, 8, content, n, ROOM);
+        check_of("a packet read back", n, "length", length, n + BYSTRODOL_FRAME_BYTES);
+        check_of("a packet read back", n, "content", differ(room + 9, content, n), n);
+        check_of("a packet read back", n, "bytes used", bystrodol_used(room, length), length);
+        check_of("a packet read back", n, "sum", (size_t)room[9 + n] << 8 | room[10 + n], bystrodol_sum(room + 6, n + 3));
+    }
+}
+
+/* ---- the set bits of an index */
+
+static void counts(void) {
+    static uint8_t index[BYSTRODOL_INDEX_BYTES + 1];
+    check("the count of an empty index", bystrodol_count(index, 32), 0);
+    index[0] = 0x01, index[1] = 0x02;
+    check("P11: pages 0 and 9", bystrodol_count(index, 32), 2);
+    check("an index of 31 bytes", bystrodol_count(index, 31), BYSTRODOL_NO_COUNT);
+    check("an index of 33 bytes", bystrodol_count(index, 33), BYSTRODOL_NO_COUNT);
+    check("an index of no bytes, at NULL", bystrodol_count(NULL, 0), BYSTRODOL_NO_COUNT);
+    index[0] = index[1] = 0, index[32] = 0xFF;
+    check("a byte past the index", bystrodol_count(index, 32), 0);
+    for (size_t p = 0; p < 256; p++) {
+        index[p / 8] = (uint8_t)(1u << p % 8);
+        check_of("one page", p, "count", bystrodol_count(index, 32), 1);
+        index[p / 8] = 0;
+    }
+    for (size_t p = 0; p < 256; p++) {
+        index[p / 8] = (uint8_t)(index[p / 8] | 1u << p % 8);
+        check_of("all pages up to one", p, "count", bystrodol_count(index, 32), p + 1);
+    }
+}
+
+int main(void) {
+    sums();
+    used();
+    builds();
+    longest();
+    read_back();
+    counts();
+    if (failed) {
+        dprintf(ERRORS, "services: %u checks failed, %u passed\n", failed, passed);
+        return 1;
+    }
+    dprintf(OUTPUT, "services: %u checks passed\n", passed);
+    return 0;
+}
