@@ -20,17 +20,17 @@ pub(crate) fn up_char(settings: Settings, n: u8) -> Answer
     ensures { λ r. ⌜ ((t i m b c : List ℕ) → saidOf r t i m b c ≡ obeyed settings t i m b c (upChar n)) × Ready r ⌝ }
 {
     let known = stored::is_buffer(n);
-    if known {
-        let full = settings::filled_of(n, settings.filled1, settings.filled2);
-        if full {
-            if n == 2 {
-                return answers::sending(2, settings);
-            }
-            return answers::sending(1, settings);
-        }
+    if !known {
+        return answers::plain(codes::BAD_PACKET, settings);
+    }
+    let full = settings::filled_of(n, settings.filled1, settings.filled2);
+    if !full {
         return answers::plain(codes::NOTHING_TO_SEND, settings);
     }
-    answers::plain(codes::BAD_PACKET, settings)
+    if n == 2 {
+        return answers::sending(2, settings);
+    }
+    answers::sending(1, settings)
 }
 
 // DownChar (buffer).
@@ -39,19 +39,15 @@ pub(crate) fn down_char(settings: Settings, buffer1: &mut [u8], buffer2: &mut [u
     ensures { λ r. ⌜ ((t i m : List ℕ) → saidOf r t i m (now (buffer1 .exit)) (now (buffer2 .exit)) ≡ obeyed settings t i m (now (buffer1 .entry)) (now (buffer2 .entry)) (downChar n)) × Ready r ⌝ }
 {
     let known = stored::is_buffer(n);
-    if known {
-        if n == 2 {
-            pages::zero(buffer2);
-            return answers::plain(
-                codes::DONE,
-                settings::moved(settings::filled(settings, settings.filled1, false), 2, 0),
-            );
-        }
-        pages::zero(buffer1);
-        return answers::plain(
-            codes::DONE,
-            settings::moved(settings::filled(settings, false, settings.filled2), 1, 0),
-        );
+    if !known {
+        return answers::plain(codes::BAD_PACKET, settings);
     }
-    answers::plain(codes::BAD_PACKET, settings)
+    if n == 2 {
+        pages::zero(buffer2);
+        let s = settings::filled(settings, settings.filled1, false);
+        return answers::plain(codes::DONE, settings::moved(s, 2, 0));
+    }
+    pages::zero(buffer1);
+    let s = settings::filled(settings, false, settings.filled2);
+    answers::plain(codes::DONE, settings::moved(s, 1, 0))
 }

@@ -116,27 +116,27 @@ pub(crate) fn hear_packet(
 {
     let used = at + numbers::HEAD + len;
     let ours = is_ours(settings, run, at);
-    if ours {
-        let identifier = run[at + 6];
-        let right = is_right(run, at, len);
-        let from = at + numbers::HEAD;
-        let to = from + (len - 2);
-        let a = act(
-            settings,
-            templates,
-            index,
-            notepad,
-            buffer1,
-            buffer2,
-            &run[from..to],
-            identifier,
-            right,
-        );
-        let n = reply::speak(a, buffer1, buffer2, reply);
-        let s = a.settings;
-        return called_of(refusals::ACCEPTED, used, n, s);
+    if !ours {
+        return called_of(refusals::ACCEPTED, used, 0, settings);
     }
-    called_of(refusals::ACCEPTED, used, 0, settings)
+    let identifier = run[at + 6];
+    let right = is_right(run, at, len);
+    let from = at + numbers::HEAD;
+    let to = from + (len - 2);
+    let a = act(
+        settings,
+        templates,
+        index,
+        notepad,
+        buffer1,
+        buffer2,
+        &run[from..to],
+        identifier,
+        right,
+    );
+    let n = reply::speak(a, buffer1, buffer2, reply);
+    let s = a.settings;
+    called_of(refusals::ACCEPTED, used, n, s)
 }
 
 // Whether the lent lengths are right, the reply room's apart (refusal 1).
@@ -144,20 +144,25 @@ fn is_fit(t: usize, i: usize, n: usize, b: usize, c: usize) -> bool
     ensures { λ r. ⌜ r ≡ lengthsOf t i n b c ⌝ }
 {
     let pages = t / numbers::PAGE;
-    if t == numbers::PAGE * pages {
-        if 1 <= pages {
-            if pages <= numbers::MOST_PAGES {
-                if i == numbers::INDEX {
-                    if n == numbers::NOTEPAD {
-                        if b == numbers::PAGE {
-                            return c == numbers::PAGE;
-                        }
-                    }
-                }
-            }
-        }
+    if t != numbers::PAGE * pages {
+        return false;
     }
-    false
+    if pages < 1 {
+        return false;
+    }
+    if numbers::MOST_PAGES < pages {
+        return false;
+    }
+    if i != numbers::INDEX {
+        return false;
+    }
+    if n != numbers::NOTEPAD {
+        return false;
+    }
+    if b != numbers::PAGE {
+        return false;
+    }
+    c == numbers::PAGE
 }
 
 // Whether settings, transfer and index bits are legal (refusal 3).
@@ -165,14 +170,14 @@ pub(crate) fn is_sound(settings: Settings, index: &[u8], pages: usize) -> bool
     ensures { λ r. ⌜ ((t n b c : List ℕ) → length t / 512 ≡ pages → r ≡ sound (readerOf settings t (now (index .entry)) n b c)) ⌝ }
 {
     let fit = settings::is_plain_fit(settings);
-    if fit {
-        let moving = settings::is_transfer_fit(settings);
-        if moving {
-            return index::is_clear_from(index, pages);
-        }
+    if !fit {
         return false;
     }
-    false
+    let moving = settings::is_transfer_fit(settings);
+    if !moving {
+        return false;
+    }
+    index::is_clear_from(index, pages)
 }
 
 // A call: the settings and lent memory of a reader, a received run, and a reply room.
@@ -195,32 +200,32 @@ pub fn step(
         buffer1.len(),
         buffer2.len(),
     );
-    if fit {
-        if reply.len() < numbers::REPLY_ROOM {
-            return called_of(refusals::BAD_ROOM, 0, 0, settings);
-        }
-        let legal = is_sound(settings, index, templates.len() / numbers::PAGE);
-        if legal {
-            let f = finder::find(run);
-            let Found::Whole { at, len } = f else {
-                return called_of(refusals::ACCEPTED, finder::used_of(f), 0, settings);
-            };
-            return hear_packet(
-                settings,
-                templates,
-                index,
-                notepad,
-                buffer1,
-                buffer2,
-                run,
-                at,
-                len,
-                reply,
-            );
-        }
+    if !fit {
+        return called_of(refusals::BAD_LENGTH, 0, 0, settings);
+    }
+    if reply.len() < numbers::REPLY_ROOM {
+        return called_of(refusals::BAD_ROOM, 0, 0, settings);
+    }
+    let legal = is_sound(settings, index, templates.len() / numbers::PAGE);
+    if !legal {
         return called_of(refusals::BAD_SETTING, 0, 0, settings);
     }
-    called_of(refusals::BAD_LENGTH, 0, 0, settings)
+    let f = finder::find(run);
+    let Found::Whole { at, len } = f else {
+        return called_of(refusals::ACCEPTED, finder::used_of(f), 0, settings);
+    };
+    hear_packet(
+        settings,
+        templates,
+        index,
+        notepad,
+        buffer1,
+        buffer2,
+        run,
+        at,
+        len,
+        reply,
+    )
 }
 
 fn switched_of(refusal: u8, settings: Settings) -> Switched
@@ -233,14 +238,14 @@ fn switched_of(refusal: u8, settings: Settings) -> Switched
 pub fn line_switch(settings: Settings, buffer1: &mut [u8], buffer2: &mut [u8]) -> Switched
     ensures { λ r. ⌜ ((t i n : List ℕ) → switchedOf r t i n (now (buffer1 .exit)) (now (buffer2 .exit)) ≡ switchOf (readerOf settings t i n (now (buffer1 .entry)) (now (buffer2 .entry)))) ⌝ }
 {
-    if buffer1.len() == numbers::PAGE {
-        if buffer2.len() == numbers::PAGE {
-            pages::zero(buffer1);
-            pages::zero(buffer2);
-            let s = settings::filled(settings::marked(settings, false), false, false);
-            return switched_of(refusals::ACCEPTED, settings::moved(s, 0, 0));
-        }
+    if buffer1.len() != numbers::PAGE {
         return switched_of(refusals::BAD_LENGTH, settings);
     }
-    switched_of(refusals::BAD_LENGTH, settings)
+    if buffer2.len() != numbers::PAGE {
+        return switched_of(refusals::BAD_LENGTH, settings);
+    }
+    pages::zero(buffer1);
+    pages::zero(buffer2);
+    let s = settings::filled(settings::marked(settings, false), false, false);
+    switched_of(refusals::ACCEPTED, settings::moved(s, 0, 0))
 }

@@ -20,13 +20,13 @@ pub(crate) fn write_note(settings: Settings, notepad: &mut [u8], content: &[u8])
     ensures { λ r. ⌜ ((t i b c : List ℕ) → saidOf r t i (now (notepad .exit)) b c ≡ obeyed settings t i (now (notepad .entry)) b c (writeNotepad (byteAt (now (content .entry)) 1) (drop 2 (now (content .entry))))) × Ready r ⌝ }
 {
     let p = bytes::wide(content[1]);
-    if p < notepad.len() / numbers::NOTE {
-        let a = numbers::NOTE * p;
-        let e = a + numbers::NOTE;
-        bytes::put(&mut notepad[a..e], &content[2..34]);
-        return answers::plain(codes::DONE, settings);
+    if notepad.len() / numbers::NOTE <= p {
+        return answers::plain(codes::BAD_NOTE_PAGE, settings);
     }
-    answers::plain(codes::BAD_NOTE_PAGE, settings)
+    let a = numbers::NOTE * p;
+    let e = a + numbers::NOTE;
+    bytes::put(&mut notepad[a..e], &content[2..34]);
+    answers::plain(codes::DONE, settings)
 }
 
 // ReadNotepad (page).
@@ -35,12 +35,12 @@ pub(crate) fn read_note(settings: Settings, notepad: &[u8], page: u8) -> Answer
     ensures { λ r. ⌜ ((t i b c : List ℕ) → saidOf r t i (now (notepad .entry)) b c ≡ obeyed settings t i (now (notepad .entry)) b c (readNotepad page)) × Ready r ⌝ }
 {
     let p = bytes::wide(page);
-    if p < notepad.len() / numbers::NOTE {
-        let a = numbers::NOTE * p;
-        let e = a + numbers::NOTE;
-        let mut bytes = [0u8; 32];
-        bytes::put(&mut bytes, &notepad[a..e]);
-        return answers::listed(bytes, 32, settings);
+    if notepad.len() / numbers::NOTE <= p {
+        return answers::plain(codes::BAD_NOTE_PAGE, settings);
     }
-    answers::plain(codes::BAD_NOTE_PAGE, settings)
+    let a = numbers::NOTE * p;
+    let e = a + numbers::NOTE;
+    let mut bytes = [0u8; 32];
+    bytes::put(&mut bytes, &notepad[a..e]);
+    answers::listed(bytes, 32, settings)
 }

@@ -153,16 +153,16 @@ pub(crate) fn is_transfer_fit(s: Settings) -> bool
     if 2 < w {
         return false;
     }
-    let z = size_of(s.size);
-    if got % z == 0 {
-        if got < numbers::PAGE {
-            let locked = is_locked(s);
-            if locked {
-                return false;
-            }
-            let full = filled_of(w, s.filled1, s.filled2);
-            return !full;
-        }
+    if got % size_of(s.size) != 0 {
+        return false;
     }
-    false
+    if numbers::PAGE <= got {
+        return false;
+    }
+    let locked = is_locked(s);
+    if locked {
+        return false;
+    }
+    let full = filled_of(w, s.filled1, s.filled2);
+    !full
 }

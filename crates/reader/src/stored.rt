@@ -69,18 +69,18 @@ pub(crate) fn store_page<'a>(
     ensures { λ r. ⌜ ((m : List ℕ) → saidOf r (now (templates .exit)) (now (index .exit)) m (now (b .entry)) (now (c .entry)) ≡ obeyed settings (now (templates .entry)) (now (index .entry)) m (now (b .entry)) (now (c .entry)) (store n page)) × Ready r ⌝ }
 {
     let known = is_buffer(n);
-    if known {
-        if page < templates.len() / numbers::PAGE {
-            let full = settings::filled_of(n, settings.filled1, settings.filled2);
-            if full {
-                store_now(templates, index, b, c, n, page);
-                return answers::plain(codes::DONE, settings);
-            }
-            return answers::plain(codes::NOTHING_THERE, settings);
-        }
+    if !known {
+        return answers::plain(codes::BAD_PACKET, settings);
+    }
+    if templates.len() / numbers::PAGE <= page {
         return answers::plain(codes::BAD_PAGE, settings);
     }
-    answers::plain(codes::BAD_PACKET, settings)
+    let full = settings::filled_of(n, settings.filled1, settings.filled2);
+    if !full {
+        return answers::plain(codes::NOTHING_THERE, settings);
+    }
+    store_now(templates, index, b, c, n, page);
+    answers::plain(codes::DONE, settings)
 }
 
 // LoadChar (buffer, page).
@@ -97,28 +97,28 @@ pub(crate) fn load_page(
     ensures { λ r. ⌜ ((m : List ℕ) → saidOf r (now (templates .entry)) (now (index .entry)) m (now (buffer1 .exit)) (now (buffer2 .exit)) ≡ obeyed settings (now (templates .entry)) (now (index .entry)) m (now (buffer1 .entry)) (now (buffer2 .entry)) (loadChar n page)) × Ready r ⌝ }
 {
     let known = is_buffer(n);
-    if known {
-        if page < templates.len() / numbers::PAGE {
-            let there = index::has_bit(index, page);
-            if there {
-                if n == 2 {
-                    pages::read_page(buffer2, templates, page);
-                    return answers::plain(
-                        codes::DONE,
-                        settings::filled(settings, settings.filled1, true),
-                    );
-                }
-                pages::read_page(buffer1, templates, page);
-                return answers::plain(
-                    codes::DONE,
-                    settings::filled(settings, true, settings.filled2),
-                );
-            }
-            return answers::plain(codes::NOTHING_THERE, settings);
-        }
+    if !known {
+        return answers::plain(codes::BAD_PACKET, settings);
+    }
+    if templates.len() / numbers::PAGE <= page {
         return answers::plain(codes::BAD_PAGE, settings);
     }
-    answers::plain(codes::BAD_PACKET, settings)
+    let there = index::has_bit(index, page);
+    if !there {
+        return answers::plain(codes::NOTHING_THERE, settings);
+    }
+    if n == 2 {
+        pages::read_page(buffer2, templates, page);
+        return answers::plain(
+            codes::DONE,
+            settings::filled(settings, settings.filled1, true),
+        );
+    }
+    pages::read_page(buffer1, templates, page);
+    answers::plain(
+        codes::DONE,
+        settings::filled(settings, true, settings.filled2),
+    )
 }
 
 // DeletChar (page, n). The sum of two 16-bit numbers is taken in full.
@@ -133,15 +133,15 @@ pub(crate) fn delete_pages(
     ensures { λ r. ⌜ ((m b c : List ℕ) → saidOf r (now (templates .exit)) (now (index .exit)) m b c ≡ obeyed settings (now (templates .entry)) (now (index .entry)) m b c (deletChar page n)) × Ready r ⌝ }
 {
     let pages = templates.len() / numbers::PAGE;
-    if page < pages {
-        if page + n <= pages {
-            pages::zero_pages(templates, page as u16, n as u16);
-            index::clear_bits(index, page as u16, n as u16);
-            return answers::plain(codes::DONE, settings);
-        }
+    if pages <= page {
         return answers::plain(codes::BAD_RANGE, settings);
     }
-    answers::plain(codes::BAD_RANGE, settings)
+    if pages < page + n {
+        return answers::plain(codes::BAD_RANGE, settings);
+    }
+    pages::zero_pages(templates, page as u16, n as u16);
+    index::clear_bits(index, page as u16, n as u16);
+    answers::plain(codes::DONE, settings)
 }
 
 // Empty.
@@ -172,12 +172,12 @@ pub(crate) fn read_index(settings: Settings, index: &[u8], page: u8) -> Answer
     ensures { λ r. ⌜ ((t m b c : List ℕ) → saidOf r t (now (index .entry)) m b c ≡ obeyed settings t (now (index .entry)) m b c (readIndexTable page)) × Ready r ⌝ }
 {
     let p = bytes::wide(page);
-    if p < index.len() / numbers::INDEX {
-        let a = numbers::INDEX * p;
-        let e = a + numbers::INDEX;
-        let mut bytes = [0u8; 32];
-        bytes::put(&mut bytes, &index[a..e]);
-        return answers::listed(bytes, 32, settings);
+    if index.len() / numbers::INDEX <= p {
+        return answers::plain(codes::BAD_PAGE, settings);
     }
-    answers::plain(codes::BAD_PAGE, settings)
+    let a = numbers::INDEX * p;
+    let e = a + numbers::INDEX;
+    let mut bytes = [0u8; 32];
+    bytes::put(&mut bytes, &index[a..e]);
+    answers::listed(bytes, 32, settings)
 }

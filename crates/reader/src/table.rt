@@ -70,25 +70,25 @@ pub(crate) fn is_free(code: u8) -> bool
 pub(crate) fn gate(right: bool, code: u8, n: usize, settings: Settings) -> u8
     ensures { λ r. ⌜ r ≡ gateOf right code n (plainOf settings) ⌝ }
 {
-    if right {
-        let need = required(code);
-        if need == 0 {
-            return codes::UNKNOWN_COMMAND;
-        }
-        if need == n {
-            let free = is_free(code);
-            if free {
-                return codes::DONE;
-            }
-            let locked = settings::is_locked(settings);
-            if locked {
-                return codes::PASSWORD_FIRST;
-            }
-            return codes::DONE;
-        }
+    if !right {
         return codes::BAD_PACKET;
     }
-    codes::BAD_PACKET
+    let need = required(code);
+    if need == 0 {
+        return codes::UNKNOWN_COMMAND;
+    }
+    if need != n {
+        return codes::BAD_PACKET;
+    }
+    let free = is_free(code);
+    if free {
+        return codes::DONE;
+    }
+    let locked = settings::is_locked(settings);
+    if locked {
+        return codes::PASSWORD_FIRST;
+    }
+    codes::DONE
 }
 
 // The row of a known code that the lock lets pass.
@@ -153,17 +153,17 @@ pub(crate) fn command(
 {
     let code = content[0];
     let stop = gate(right, code, content.len() + 2, settings);
-    if stop == codes::DONE {
-        return row(
-            code,
-            settings,
-            templates,
-            index,
-            notepad,
-            buffer1,
-            buffer2,
-            content,
-        );
+    if stop != codes::DONE {
+        return answers::plain(stop, settings);
     }
-    answers::plain(stop, settings)
+    row(
+        code,
+        settings,
+        templates,
+        index,
+        notepad,
+        buffer1,
+        buffer2,
+        content,
+    )
 }

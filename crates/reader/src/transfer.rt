@@ -40,18 +40,18 @@ pub(crate) fn does_fit(settings: Settings, right: bool, last: bool, n: usize) ->
     requires { ⌜ settings .size ≤ 2 ⌝ }
     ensures { λ r. ⌜ ((c : List ℕ) → length c ≡ n → r ≡ fits (plainOf settings) (settings .got) last right c) ⌝ }
 {
-    if right {
-        let z = settings::size_of(settings.size);
-        if n == z {
-            let k = settings.got as usize + z;
-            if last {
-                return k == numbers::PAGE;
-            }
-            return k < numbers::PAGE;
-        }
+    if !right {
         return false;
     }
-    false
+    let z = settings::size_of(settings.size);
+    if n != z {
+        return false;
+    }
+    let k = settings.got as usize + z;
+    if last {
+        return k == numbers::PAGE;
+    }
+    k < numbers::PAGE
 }
 
 // The bytes of a data packet that fits go into a buffer at the place reached.

@@ -1,7 +1,7 @@
 -- The one principle of a call: refused, or an answer of five kinds. What holds of each kind holds of every answer.
 use mathlib.Core.Bool.{Bool, true, false, cond}
 use mathlib.Core.Path.{_≡_, refl, ap, _∙_, subst}
-use mathlib.Core.List.{List, [], _∷_}
+use mathlib.Core.List.{List}
 use Prim.Native.Nat.{ℕ, zero, suc, _-_}
 use lib.Dec.{T}
 use Rattle.protocol.specs.Numbers.{badRoom, badPacket, transferFailed, unknownCommand, passwordFirst}

@@ -1,6 +1,6 @@
 -- Booleans, tests of numbers, and lists of tests.
-use mathlib.Core.Bool.{Bool, true, false, _&&_, _||_, not}
-use mathlib.Core.Path.{_≡_, refl}
+use mathlib.Core.Bool.{Bool, true, false, true≢false, _&&_, _||_, not}
+use mathlib.Core.Path.{_≡_, refl, sym}
 use mathlib.Core.Logic.{_⊎_, inl, inr}
 use mathlib.Core.List.{List, [], _∷_}
 use Prim.Native.Nat.{ℕ, zero, suc, _<_}
@@ -30,6 +30,14 @@ and-r false b t = absurd t
 pub and-i : (a b : Bool) → T a → T b → T (a && b)
 and-i true b s t = t
 and-i false b s t = absurd s
+
+pub not-true : (b : Bool) → not b ≡ true → b ≡ false
+not-true true e = absurd (true≢false (sym e))
+not-true false e = refl
+
+pub not-false : (b : Bool) → not b ≡ false → b ≡ true
+not-false true e = refl
+not-false false e = absurd (true≢false e)
 
 pub and-false : (a b : Bool) → b ≡ false → (a && b) ≡ false
 and-false true b q = q

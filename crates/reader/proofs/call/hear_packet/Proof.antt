@@ -10,6 +10,7 @@ use Rattle.protocol.specs.Call.{carried}
 use Rattle.protocol.specs.Records.{readerOf}
 use Rattle.reader.specs.Calls.{carriedOf}
 use Rattle.reader.proofs.Calls.{hear-ours, hear-other, carried-silence}
+use Rattle.protocol.proofs.Laws.Logic.{not-true, not-false}
 use Rattle.reader.proofs.call.hear_packet.Statement.{statement}
 use Rattle.reader.proofs.call.hear_packet.Tie as tie
 use Rattle.reader.proofs.call.hear_packet.Reads as reads
@@ -28,6 +29,16 @@ add-used-2 c = search needs
 
 is-ours-requires : tie.Need-is-ours-requires
 is-ours-requires c κs = search needs
+
+called-of-requires : tie.Need-called-of-requires
+called-of-requires c κs = search needs
+
+returns : tie.Need-returns
+returns c =
+    let a = c .before .before .before .before .before .before .before .before .before .before .args in
+    let r = readerOf (a .settings) (now (a .templates)) (now (a .index)) (now (a .notepad)) (now (a .buffer1)) (now (a .buffer2)) in
+    let other = hear-other (a .settings .address) (now (a .run)) (a .at) (a .len) (sym (c .before .before .is-ours .ensures) ∙ not-true (c .before .before .is-ours .result) (c .before .if1 .taken)) in
+    rw (c .called-of .ensures, other) (sym (carried-silence (a .at + 9 + a .len) r (now (a .reply))))
 
 add-identifier : tie.Need-add-identifier
 add-identifier c = search needs
@@ -62,8 +73,8 @@ act-requires c κs = (c .before .before .before .before .before .before .before 
 speak-requires : tie.Need-speak-requires
 speak-requires c κs = (c .before .before .before .before .before .before .before .before .before .before .before .before .before .act .ensures .1, (omega (arith, c .before .before .before .before .before .before .before .before .before .before .before .before .before .act, c .before .before .before .before .before .before .before .before .before .before .before .before .before .before .before .before .before .before .before .before .before .before .before .before .before .before .before .before .before .before .before .pre .0 .buffer1), (omega (arith, c .before .before .before .before .before .before .before .before .before .before .before .before .before .act, c .before .before .before .before .before .before .before .before .before .before .before .before .before .before .before .before .before .before .before .before .before .before .before .before .before .before .before .before .before .before .before .pre .0 .buffer2), c .before .before .before .before .before .before .before .before .before .before .before .before .before .before .before .before .before .before .before .before .before .before .before .before .before .before .before .before .before .before .before .pre .1 .1 .1 .1 .1)))
 
-called-of-requires : tie.Need-called-of-requires
-called-of-requires c κs = search needs
+called-of-requires-2 : tie.Need-called-of-requires-2
+called-of-requires-2 c κs = search needs
 
 same-length : tie.Need-same-length
 same-length c = search needs
@@ -83,24 +94,14 @@ same-length-5 c = search needs
 same-length-6 : tie.Need-same-length-6
 same-length-6 c = search needs
 
-returns : tie.Need-returns
+returns-2 : tie.Need-returns-2
 unfolding carried
-returns c =
+returns-2 c =
     let a = c .before .before .before .before .before .before .before .before .before .before .before .before .before .before .before .before .before .before .before .before .before .before .before .before .before .before .before .before .before .before .before .before .before .before .before .before .args in
     let w = c .before .before .before .before .speak .ensures in
-    let ours = sym (c .before .before .before .before .before .before .before .before .before .before .before .before .before .before .before .before .before .before .before .before .before .before .before .before .before .before .before .before .is-ours .ensures) ∙ c .before .before .before .before .before .before .before .before .before .before .before .before .before .before .before .before .before .before .before .before .before .before .before .before .before .before .before .if1 .taken in
+    let ours = sym (c .before .before .before .before .before .before .before .before .before .before .before .before .before .before .before .before .before .before .before .before .before .before .before .before .before .before .before .before .is-ours .ensures) ∙ not-false (c .before .before .before .before .before .before .before .before .before .before .before .before .before .before .before .before .before .before .before .before .before .before .before .before .before .before .before .before .is-ours .result) (c .before .before .before .before .before .before .before .before .before .before .before .before .before .before .before .before .before .before .before .before .before .before .before .before .before .before .before .if1 .left) in
     let heard = ap (answer (readerOf (a .settings) (now (a .templates)) (now (a .index)) (now (a .notepad)) (now (a .buffer1)) (now (a .buffer2)))) (hear-ours (a .settings .address) (now (a .run)) (a .at) (a .len) _ ours (c .before .before .before .before .before .before .before .before .before .before .before .before .before .before .before .before .before .before .before .before .before .before .before .before .before .is-right .ensures)) in
-    rw (c .called-of .ensures, w .0, w .1) (ap (λ (x : Said). carriedOf (a .at + 9 + a .len) x (now (a .reply))) (c .before .before .before .before .before .before .before .before .before .before .before .before .before .before .before .before .before .before .act .ensures .0 ∙ heard))
-
-called-of-requires-2 : tie.Need-called-of-requires-2
-called-of-requires-2 c κs = search needs
-
-returns-2 : tie.Need-returns-2
-returns-2 c =
-    let a = c .before .before .before .before .before .before .before .before .before .before .args in
-    let r = readerOf (a .settings) (now (a .templates)) (now (a .index)) (now (a .notepad)) (now (a .buffer1)) (now (a .buffer2)) in
-    let other = hear-other (a .settings .address) (now (a .run)) (a .at) (a .len) (sym (c .before .before .is-ours .ensures) ∙ c .before .if1 .left) in
-    rw (c .called-of2 .ensures, other) (sym (carried-silence (a .at + 9 + a .len) r (now (a .reply))))
+    rw (c .called-of2 .ensures, w .0, w .1) (ap (λ (x : Said). carriedOf (a .at + 9 + a .len) x (now (a .reply))) (c .before .before .before .before .before .before .before .before .before .before .before .before .before .before .before .before .before .before .act .ensures .0 ∙ heard))
 
 pub hear-packet-spec : {M : Type 1} → statement M
 hear-packet-spec =
@@ -109,6 +110,8 @@ hear-packet-spec =
     add-used
     add-used-2
     is-ours-requires
+    called-of-requires
+    returns
     add-identifier
     shared-slice-read-identifier
     is-right-requires
@@ -120,13 +123,11 @@ hear-packet-spec =
     part-act-end
     act-requires
     speak-requires
-    called-of-requires
+    called-of-requires-2
     same-length
     same-length-2
     same-length-3
     same-length-4
     same-length-5
     same-length-6
-    returns
-    called-of-requires-2
     returns-2)

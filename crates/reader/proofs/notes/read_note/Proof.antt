@@ -26,6 +26,13 @@ use Rattle.wire.proofs.bytes.wide.Reads as wide-reads
 wide-requires : tie.Need-wide-requires
 wide-requires c κs = search needs
 
+plain-requires : tie.Need-plain-requires
+plain-requires c κs = search needs
+
+returns : tie.Need-returns
+unfolding carry carryAs rule verdict capacity says follow sent
+returns c = (λ t i b d. rw (c .plain .ensures, ← c .before .before .wide .ensures .0, le-ltb _ _ (c .before .if1 .taken)), rw (c .plain .ensures) (record { few = omega arith; size = c .before .before .before .before .pre }))
+
 mul-a : tie.Need-mul-a
 mul-a c = search needs
 
@@ -50,29 +57,24 @@ put-requires c κs = search needs
 listed-requires : tie.Need-listed-requires
 listed-requires c κs = search needs
 
-returns : tie.Need-returns
+returns-2 : tie.Need-returns-2
 unfolding carry carryAs rule verdict capacity says follow sent apply
-returns c =
+returns-2 c =
     let a = c .before .before .before .before .before .before .before .before .args in
     let p = c .before .before .before .before .before .before .wide .result in
-    let h : 32 * p + 32 ≤ length (now (a .notepad)) = omega (arith, c .before .before .before .before .before .if1 .taken) in
+    let h : 32 * p + 32 ≤ length (now (a .notepad)) = omega (arith, c .before .before .before .before .before .if1 .left) in
     let w = part-read (32 * p) 32 (now (a .notepad)) (replicate 32 0) refl h in
     let l : length (take 32 (drop (32 * p) (now (a .notepad)))) ≤ 32 = simp (length-take, length-drop) (omega arith) in
     let g = take-all 32 (take 32 (drop (32 * p) (now (a .notepad)))) l in
-    (λ t i b d. rw (c .listed .ensures, c .before .before .put .ensures, w, g, ← c .before .before .before .before .before .before .wide .ensures .0, lt-ltb _ _ (c .before .before .before .before .before .if1 .taken)), rw (c .listed .ensures) (record { few = omega arith; size = c .before .before .before .before .before .before .before .before .pre }))
-
-plain-requires : tie.Need-plain-requires
-plain-requires c κs = search needs
-
-returns-2 : tie.Need-returns-2
-unfolding carry carryAs rule verdict capacity says follow sent
-returns-2 c = (λ t i b d. rw (c .plain .ensures, ← c .before .before .wide .ensures .0, le-ltb _ _ (c .before .if1 .left)), rw (c .plain .ensures) (record { few = omega arith; size = c .before .before .before .before .pre }))
+    (λ t i b d. rw (c .listed .ensures, c .before .before .put .ensures, w, g, ← c .before .before .before .before .before .before .wide .ensures .0, lt-ltb _ _ (c .before .before .before .before .before .if1 .left)), rw (c .listed .ensures) (record { few = omega arith; size = c .before .before .before .before .before .before .before .before .pre }))
 
 pub read-note-spec : {M : Type 1} → statement M
 read-note-spec =
     tie.close
     (tie.spec
     wide-requires
+    plain-requires
+    returns
     mul-a
     add-e
     slice-aggregate-put
@@ -81,6 +83,4 @@ read-note-spec =
     part-put-end
     put-requires
     listed-requires
-    returns
-    plain-requires
     returns-2)

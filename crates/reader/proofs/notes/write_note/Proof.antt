@@ -28,6 +28,13 @@ shared-slice-read-wide c = search needs
 wide-requires : tie.Need-wide-requires
 wide-requires c κs = search needs
 
+plain-requires : tie.Need-plain-requires
+plain-requires c κs = search needs
+
+returns : tie.Need-returns
+unfolding carry carryAs rule verdict capacity says follow sent
+returns c = (λ t i b d. rw (c .plain .ensures, ← c .before .before .wide .ensures .0, le-ltb _ _ (c .before .if1 .taken)), rw (c .plain .ensures) (record { few = omega arith; size = c .before .before .before .before .before .before .pre .1 }))
+
 mul-a : tie.Need-mul-a
 mul-a c = search needs
 
@@ -55,29 +62,22 @@ part-put-end-2 c = search needs
 put-requires : tie.Need-put-requires
 put-requires c κs = search needs
 
-plain-requires : tie.Need-plain-requires
-plain-requires c κs = search needs
+plain-requires-2 : tie.Need-plain-requires-2
+plain-requires-2 c κs = search needs
 
 same-length : tie.Need-same-length
 same-length c = search needs
 
-returns : tie.Need-returns
+returns-2 : tie.Need-returns-2
 unfolding carry carryAs rule verdict capacity says follow sent apply withNotepad
-returns c =
+returns-2 c =
     let a = c .before .before .before .before .before .before .before .before .before .before .before .args in
     let p = c .before .before .before .before .before .before .before .wide .result in
     let w : take (34 - 2) (drop 2 (now (a .content))) ≡ drop 2 (now (a .content)) = take-rest 2 32 (now (a .content)) (c .before .before .before .before .before .before .before .before .before .before .before .pre .0) in
     let l : length (take (34 - 2) (drop 2 (now (a .content)))) ≡ 32 = simp (length-take, length-drop) (omega (arith, c .before .before .before .before .before .before .before .before .before .before .before .pre .0)) in
-    let h : 32 * p + 32 ≤ length (now (a .notepad)) = omega (arith, c .before .before .before .before .before .before .if1 .taken) in
+    let h : 32 * p + 32 ≤ length (now (a .notepad)) = omega (arith, c .before .before .before .before .before .before .if1 .left) in
     let e = part-put (32 * p) 32 (now (a .notepad)) (take (34 - 2) (drop 2 (now (a .content)))) _ l h (c .before .before .before .put .ensures) in
-    (λ t i b d. rw (c .plain .ensures, e, w, ← c .before .before .before .before .before .before .before .wide .ensures .0, lt-ltb _ _ (c .before .before .before .before .before .before .if1 .taken)), rw (c .plain .ensures) (record { few = omega arith; size = c .before .before .before .before .before .before .before .before .before .before .before .pre .1 }))
-
-plain-requires-2 : tie.Need-plain-requires-2
-plain-requires-2 c κs = search needs
-
-returns-2 : tie.Need-returns-2
-unfolding carry carryAs rule verdict capacity says follow sent
-returns-2 c = (λ t i b d. rw (c .plain2 .ensures, ← c .before .before .wide .ensures .0, le-ltb _ _ (c .before .if1 .left)), rw (c .plain2 .ensures) (record { few = omega arith; size = c .before .before .before .before .before .before .pre .1 }))
+    (λ t i b d. rw (c .plain2 .ensures, e, w, ← c .before .before .before .before .before .before .before .wide .ensures .0, lt-ltb _ _ (c .before .before .before .before .before .before .if1 .left)), rw (c .plain2 .ensures) (record { few = omega arith; size = c .before .before .before .before .before .before .before .before .before .before .before .pre .1 }))
 
 pub write-note-spec : {M : Type 1} → statement M
 write-note-spec =
@@ -85,6 +85,8 @@ write-note-spec =
     (tie.spec
     shared-slice-read-wide
     wide-requires
+    plain-requires
+    returns
     mul-a
     add-e
     sub-put
@@ -94,8 +96,6 @@ write-note-spec =
     part-put-start-2
     part-put-end-2
     put-requires
-    plain-requires
-    same-length
-    returns
     plain-requires-2
+    same-length
     returns-2)

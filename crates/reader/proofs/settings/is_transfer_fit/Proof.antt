@@ -1,6 +1,6 @@
 -- By the transfer: none, one that is no transfer, or an open one.
 use lib.Dec.{eqb}
-use borrow.Author.Tests.{lt-ltb, le-ltb, ne-eqb}
+use borrow.Author.Tests.{lt-ltb, le-ltb, eq-eqb, ne-eqb}
 use native.Mathlib.Omega.{arith}
 use Prim.Native.Nat.{_-_}
 use mathlib.Core.Bool.{not, cond}
@@ -33,23 +33,23 @@ size-of-requires c κs = search needs
 rem-if3 : tie.Need-rem-if3
 rem-if3 c = search needs
 
+returns-3 : tie.Need-returns-3
+returns-3 c = λ t i n b d. rw (fit-at _ _ _ _ (c .before .before .before .if1 .left) (omega arith), ← c .before .size-of .ensures .0, ne-eqb _ _ (c .if3 .taken)) refl
+
+returns-4 : tie.Need-returns-4
+returns-4 c = λ t i n b d. rw (fit-at _ _ _ _ (c .before .before .before .before .if1 .left) (omega arith), ← c .before .before .size-of .ensures .0, eq-eqb _ _ (c .before .if3 .left), le-ltb _ _ (c .if4 .taken)) refl
+
 is-locked-requires : tie.Need-is-locked-requires
 is-locked-requires c κs = search needs
 
-returns-3 : tie.Need-returns-3
-returns-3 c = λ t i n b d. rw (fit-at _ _ _ _ (c .before .before .before .before .before .before .if1 .left) (omega arith), ← c .before .before .before .before .size-of .ensures .0, c .before .before .before .if3 .taken, lt-ltb _ _ (c .before .before .if4 .taken)) (let p = plainOf (c .before .before .before .before .before .before .before .before .args .s) in sym (and-false (not (cond (eqb (c .before .before .before .before .before .before .before .before .args .s .transfer) 2) (c .before .before .before .before .before .before .before .before .args .s .filled2) (c .before .before .before .before .before .before .before .before .args .s .filled1))) (not (locked p)) (rw (← c .before .is-locked .ensures, c .if5 .taken) refl)))
+returns-5 : tie.Need-returns-5
+returns-5 c = λ t i n b d. rw (fit-at _ _ _ _ (c .before .before .before .before .before .before .if1 .left) (omega arith), ← c .before .before .before .before .size-of .ensures .0, eq-eqb _ _ (c .before .before .before .if3 .left), lt-ltb _ _ (c .before .before .if4 .left)) (let p = plainOf (c .before .before .before .before .before .before .before .before .args .s) in sym (and-false (not (cond (eqb (c .before .before .before .before .before .before .before .before .args .s .transfer) 2) (c .before .before .before .before .before .before .before .before .args .s .filled2) (c .before .before .before .before .before .before .before .before .args .s .filled1))) (not (locked p)) (rw (← c .before .is-locked .ensures, c .if5 .taken) refl)))
 
 filled-of-requires : tie.Need-filled-of-requires
 filled-of-requires c κs = search needs
 
-returns-4 : tie.Need-returns-4
-returns-4 c = λ t i n b d. rw (fit-at _ _ _ _ (c .before .before .before .before .before .before .before .if1 .left) (omega arith), ← c .before .before .before .before .before .size-of .ensures .0, c .before .before .before .before .if3 .taken, lt-ltb _ _ (c .before .before .before .if4 .taken), ← c .filled-of .ensures) (sym (and-true (not (c .filled-of .result)) (not (locked (plainOf (c .before .before .before .before .before .before .before .before .before .args .s)))) (rw (← c .before .before .is-locked .ensures, c .before .if5 .left) refl)))
-
-returns-5 : tie.Need-returns-5
-returns-5 c = λ t i n b d. rw (fit-at _ _ _ _ (c .before .before .before .before .if1 .left) (omega arith), ← c .before .before .size-of .ensures .0, c .before .if3 .taken, le-ltb _ _ (c .if4 .left)) refl
-
 returns-6 : tie.Need-returns-6
-returns-6 c = λ t i n b d. rw (fit-at _ _ _ _ (c .before .before .before .if1 .left) (omega arith), ← c .before .size-of .ensures .0, ne-eqb _ _ (c .if3 .left)) refl
+returns-6 c = λ t i n b d. rw (fit-at _ _ _ _ (c .before .before .before .before .before .before .before .if1 .left) (omega arith), ← c .before .before .before .before .before .size-of .ensures .0, eq-eqb _ _ (c .before .before .before .before .if3 .left), lt-ltb _ _ (c .before .before .before .if4 .left), ← c .filled-of .ensures) (sym (and-true (not (c .filled-of .result)) (not (locked (plainOf (c .before .before .before .before .before .before .before .before .before .args .s)))) (rw (← c .before .before .is-locked .ensures, c .before .if5 .left) refl)))
 
 pub is-transfer-fit-spec : {M : Type 1} → statement M
 is-transfer-fit-spec =
@@ -60,9 +60,9 @@ is-transfer-fit-spec =
     returns-2
     size-of-requires
     rem-if3
-    is-locked-requires
     returns-3
-    filled-of-requires
     returns-4
+    is-locked-requires
     returns-5
+    filled-of-requires
     returns-6)

@@ -26,9 +26,19 @@ add-gate c = search needs
 gate-requires : tie.Need-gate-requires
 gate-requires c κs = search needs
 
+plain-requires : tie.Need-plain-requires
+plain-requires c κs = search needs
+
+returns : tie.Need-returns
+unfolding says follow sent
+returns c =
+    let a = c .before .before .before .before .before .before .before .before .before .before .args in
+    let e = gate-stops (readerOf (a .settings) (now (a .templates)) (now (a .index)) (now (a .notepad)) (now (a .buffer1)) (now (a .buffer2))) (now (a .content)) (a .right) (λ z. c .before .if1 .taken (c .before .before .gate .ensures ∙ z)) in
+    (rw (c .plain .ensures, c .before .before .gate .ensures) (sym e), rw (c .plain .ensures) (record { few = omega arith; size = c .before .before .before .before .before .before .before .before .before .before .pre .0 .size }))
+
 row-requires : tie.Need-row-requires
 row-requires c κs =
-    let p = gate-passes (c .before .before .before .before .before .before .before .before .before .before .before .before .before .before .args .right) _ _ (plainOf (c .before .before .before .before .before .before .before .before .before .before .before .before .before .before .args .settings)) (sym (c .before .before .before .before .before .before .gate .ensures) ∙ c .before .before .before .before .before .if1 .taken) in
+    let p = gate-passes (c .before .before .before .before .before .before .before .before .before .before .before .before .before .before .args .right) _ _ (plainOf (c .before .before .before .before .before .before .before .before .before .before .before .before .before .before .args .settings)) (sym (c .before .before .before .before .before .before .gate .ensures) ∙ c .before .before .before .before .before .if1 .left) in
     (c .before .before .before .before .before .before .before .before .before .before .before .before .before .before .pre .0, (p .long, p .open′))
 
 same-length : tie.Need-same-length
@@ -46,21 +56,11 @@ same-length-4 c = search needs
 same-length-5 : tie.Need-same-length-5
 same-length-5 c = search needs
 
-returns : tie.Need-returns
-returns c =
-    let a = c .before .before .before .before .before .before .before .before .before .before .before .before .before .before .before .before .before .before .before .before .before .before .before .before .before .args in
-    let p = gate-passes (a .right) _ _ (plainOf (a .settings)) (sym (c .before .before .before .before .before .before .before .before .before .before .before .before .before .before .before .before .before .gate .ensures) ∙ c .before .before .before .before .before .before .before .before .before .before .before .before .before .before .before .before .if1 .taken) in
-    (c .before .before .before .before .before .before .before .before .before .before .row .ensures .0 ∙ sym (gate-goes _ (now (a .content)) (a .right) (p .sum) (p .long)), c .before .before .before .before .before .before .before .before .before .before .row .ensures .1)
-
-plain-requires : tie.Need-plain-requires
-plain-requires c κs = search needs
-
 returns-2 : tie.Need-returns-2
-unfolding says follow sent
 returns-2 c =
-    let a = c .before .before .before .before .before .before .before .before .before .before .args in
-    let e = gate-stops (readerOf (a .settings) (now (a .templates)) (now (a .index)) (now (a .notepad)) (now (a .buffer1)) (now (a .buffer2))) (now (a .content)) (a .right) (λ z. c .before .if1 .left (c .before .before .gate .ensures ∙ z)) in
-    (rw (c .plain .ensures, c .before .before .gate .ensures) (sym e), rw (c .plain .ensures) (record { few = omega arith; size = c .before .before .before .before .before .before .before .before .before .before .pre .0 .size }))
+    let a = c .before .before .before .before .before .before .before .before .before .before .before .before .before .before .before .before .before .before .before .before .before .before .before .before .before .args in
+    let p = gate-passes (a .right) _ _ (plainOf (a .settings)) (sym (c .before .before .before .before .before .before .before .before .before .before .before .before .before .before .before .before .before .gate .ensures) ∙ c .before .before .before .before .before .before .before .before .before .before .before .before .before .before .before .before .if1 .left) in
+    (c .before .before .before .before .before .before .before .before .before .before .row .ensures .0 ∙ sym (gate-goes _ (now (a .content)) (a .right) (p .sum) (p .long)), c .before .before .before .before .before .before .before .before .before .before .row .ensures .1)
 
 pub command-spec : {M : Type 1} → statement M
 command-spec =
@@ -69,12 +69,12 @@ command-spec =
     shared-slice-read-code
     add-gate
     gate-requires
+    plain-requires
+    returns
     row-requires
     same-length
     same-length-2
     same-length-3
     same-length-4
     same-length-5
-    returns
-    plain-requires
     returns-2)
