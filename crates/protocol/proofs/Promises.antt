@@ -15,6 +15,7 @@ pub mod Moves
 pub mod Switch
 pub mod Order
 pub mod OneResult
+pub mod Silent
 pub mod Broken
 pub mod Settings
 pub mod Parameters

@@ -42,6 +42,17 @@ module _ (σ : Shape) (r : Reader) (s room : List ℕ) (f : T (legal σ r)) (u :
   pub wrong-password : same w (rested r .plain .password) ≡ false → Verifies r wrongPassword false (callOf σ r s room)
   wrong-password e = verified false e
 
+-- HandShake, locked or not: 00h; nothing changes but that an open transfer is ended
+pub record Greets (r : Reader) (e : Ended) : Type 0 where
+  pub reply : replyOf (e .told) ≡ acknowledge (r .plain .address) done []
+  pub after : e .after ≡ rested r
+
+pub shakes-hands : (σ : Shape) (r : Reader) (s room : List ℕ) → T (legal σ r) → T (fitRoom room) → hear (r .plain .address) s ≡ order (command (free handShake)) → Greets r (callOf σ r s room)
+unfolding carried replyOf stepOf answer heed obey carryFree freeRule publicOf
+shakes-hands σ r s room f u h =
+    rw (call-legal σ r s room f u, h)
+    record { reply = take-lay (acknowledge (rested r .plain .address) done []) room ∙ ap (λ (a : List ℕ). acknowledge a done []) (spared r .address); after = refl }
+
 -- ---- nothing else opens a locked reader
 
 -- the run asked for VfyPwd with the reader's password, and was answered 00h

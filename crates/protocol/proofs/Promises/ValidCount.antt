@@ -206,7 +206,7 @@ module _ (σ : Shape) (ok : σ .most ≤ 8 * σ .indexed) where
       ap (λ (n : ℕ). countBelow (stored x) (8 * n)) (k .fine .long) ∙ count-ext (stored x) (live (history (exchanges σ r es) [])) (8 * σ .indexed) (λ q l. k .pages q)
 
   -- TempleteNum answers the set bits
-  number-told : (r : Reader) (s room : List ℕ) → T (legal σ r) → T (fitRoom room) → locked (r .plain) ≡ false → hear (r .plain .address) s ≡ order (command (barred templeteNum))
+  pub number-told : (r : Reader) (s room : List ℕ) → T (legal σ r) → T (fitRoom room) → locked (r .plain) ≡ false → hear (r .plain .address) s ≡ order (command (barred templeteNum))
       → replyOf (callOf σ r s room .told) ≡ acknowledge (r .plain .address) done (two (setBits (r .guarded .index)))
   unfolding carried replyOf carryAs rule apply follow
   number-told r s room t u l h = rw (obeyed σ r s room t u l templeteNum h tt, take-lay, spared r .address, spared r .index) refl
