@@ -1,4 +1,4 @@
--- Document 01: "Show that the statement admits only one result." A contract pins the code's records and lent memory by an equation to the
+-- Document 01: "Show that the statement admits only one result" A contract pins the code's records and lent memory by an equation to the
 -- definitions; two results of one such equation are the same.
 use mathlib.Core.Bool.{true, false}
 use mathlib.Core.Path.{_≡_, refl, sym, ap, _∙_}

@@ -1,6 +1,6 @@
 -- Document 01: "Order: unknown code 19h; wrong length 01h; locked and not 13h or 40h gives 21h; then the row's tests, left to right. A code
--- other than 00h changes nothing more." A wrong sum comes before all of them, whether the reader is locked or not. Stated over the bytes of
--- a whole packet for this reader with identifier 1.
+-- other than 00h changes nothing more, save that a wrong password clears the mark." A wrong sum comes before all of them, whether the reader is
+-- locked or not. The wrong password is in Opens. Stated over the bytes of a whole packet for this reader with identifier 1.
 use mathlib.Core.Bool.{Bool, true, false, cond}
 use mathlib.Core.Path.{_≡_, refl, ap, _∙_}
 use mathlib.Core.Logic.{_≢_}

@@ -1,4 +1,4 @@
--- Step 5: "Address not ours: silent, p + 9 + len bytes used, nothing changes. Identifier 7: the same."
+-- Step 5: "Address not ours: silent, nothing changes. Identifier 7: the same." Step 4 has the bytes used, p + 9 + length.
 use mathlib.Core.Bool.{Bool, true, false, cond}
 use mathlib.Core.Path.{_≡_, refl, ap}
 use mathlib.Core.List.{List}
