@@ -1,7 +1,14 @@
 // The four plain services that the board's C firmware calls; include/bystrodol.h is their C face.
 ghost use mathlib.Core.Path.{_≡_};
+ghost use mathlib.Core.List.{List};
+ghost use Prim.Native.Nat.{ℕ};
+ghost use Rattle.protocol.specs.Call.{core, callOf, switchOf};
+ghost use Rattle.protocol.specs.Records.{readerOf, freshOf, endedOf, switchedOf, calledAt, switchedAt};
 ghost use Rattle.protocol.specs.Services.{sumService, usedService, buildService, countService};
 use library::index;
+use protocol::Answered;
+use protocol::Settings;
+use reader::settings;
 use wire::builder;
 use wire::bytes;
 use wire::finder;
@@ -51,4 +58,50 @@ pub extern "C" fn bystrodol_count(index: &[u8]) -> u16
     ensures { λ r. ⌜ r ≡ countService (now (index .entry)) ⌝ }
 {
     index::count(index, INDEX_BYTES)
+}
+
+// A call of the reader on lent settings.
+#[no_mangle]
+pub extern "C" fn bystrodol_step(
+    settings: &mut Settings,
+    templates: &mut [u8],
+    index: &mut [u8],
+    notepad: &mut [u8],
+    buffer1: &mut [u8],
+    buffer2: &mut [u8],
+    run: &[u8],
+    reply: &mut [u8],
+) -> Answered
+    ensures { λ r. ⌜ endedOf (calledAt (now (settings .exit)) r) (now (templates .exit)) (now (index .exit)) (now (notepad .exit)) (now (buffer1 .exit)) (now (buffer2 .exit)) (now (reply .exit)) ≡ callOf core (readerOf (now (settings .entry)) (now (templates .entry)) (now (index .entry)) (now (notepad .entry)) (now (buffer1 .entry)) (now (buffer2 .entry))) (now (run .entry)) (now (reply .entry)) ⌝ }
+{
+    place::step_in_place(
+        settings,
+        templates,
+        index,
+        notepad,
+        buffer1,
+        buffer2,
+        run,
+        reply,
+    )
+}
+
+// A line switch on lent settings.
+#[no_mangle]
+pub extern "C" fn bystrodol_line_switch(
+    settings: &mut Settings,
+    buffer1: &mut [u8],
+    buffer2: &mut [u8],
+) -> u8
+    ensures { λ r. ⌜ ((t i n : List ℕ) → switchedOf (switchedAt (now (settings .exit)) r) t i n (now (buffer1 .exit)) (now (buffer2 .exit)) ≡ switchOf (readerOf (now (settings .entry)) t i n (now (buffer1 .entry)) (now (buffer2 .entry)))) ⌝ }
+{
+    place::line_switch_in_place(settings, buffer1, buffer2)
+}
+
+// Fresh settings.
+#[no_mangle]
+pub extern "C" fn bystrodol_fresh() -> Settings
+    ensures { λ r. ⌜ ((t i n b c : List ℕ) → readerOf r t i n b c ≡ freshOf t i n b c) ⌝ }
+{
+    settings::fresh()
 }
