@@ -1,25 +1,63 @@
 /*
- * bystrodol.h: the four plain services of the EF01 reader core, for C99 and C++.
+ * bystrodol.h: the EF01 reader core for C99 and C++: the whole reader, and four plain services.
  *
  * Link with the archive that `rt staticlib board` writes, target/staticlib/libboard.a (x86-64 Linux).
- * The archive needs no other library. Nothing is kept between calls: each answer depends on the arguments alone, and
- * calls on different memory may run at the same time.
+ * The archive needs no other library. Nothing is kept between calls: each answer depends on the arguments and the
+ * memory that they lead to, and calls on different memory may run at the same time.
  *
- * Slices. A run, a content, a room or an index is two arguments, a pointer and a length in bytes:
- *   - The pointer leads to that many bytes, all of which the caller may read; of a room, also write.
+ * Slices. A run, a content, a room or a lent memory is two arguments, a pointer and a length in bytes:
+ *   - The pointer leads to that many bytes, all of which the caller may read; where it is not const, also write.
  *   - Where the length is 0 nothing is read or written, and the pointer may be NULL. No other pointer may be NULL.
  *   - Bytes need no alignment.
- *   - A room shares no byte with the content.
- *   - No other thread changes the bytes during the call, nor reads those of the room.
+ *   - No two arguments of a call share a byte, but two that are both const.
+ *   - No other thread changes the bytes during the call, nor reads those that are not const.
  *
- * Each service has an answer for every number and every length, bad ones included, and that answer is proved
- * (crates/board/src/lib.rt). No proof covers a C caller that breaks the rules above: what then happens is undefined.
+ * Settings. The pointer leads to a whole, aligned struct bystrodol_settings; its three marks are 0 or 1, nothing else.
+ *
+ * Each function has an answer for every number, every length and every setting, bad ones included, and that answer is
+ * proved (crates/board/src/lib.rt). No proof covers a C caller that breaks the rules above: what then happens is
+ * undefined.
  */
 #ifndef BYSTRODOL_H
 #define BYSTRODOL_H
 
 #include <stddef.h>
 #include <stdint.h>
+
+/* The bytes of a template page, of each character buffer and of the notepad; and the most pages. */
+#define BYSTRODOL_PAGE_BYTES 512u
+#define BYSTRODOL_PAGES_MOST 256u
+
+/* The least bytes of a reply room. No reply is longer. */
+#define BYSTRODOL_REPLY_BYTES 700u
+
+/* Why a call was refused; 0 is carried out. Refused, it uses and replies nothing, and changes nothing. */
+#define BYSTRODOL_ACCEPTED 0u
+#define BYSTRODOL_BAD_LENGTH 1u  /* a lent length, the reply room's apart, is not as it must be */
+#define BYSTRODOL_BAD_ROOM 2u    /* the reply room is too small */
+#define BYSTRODOL_BAD_SETTING 3u /* a setting or the transfer is not legal, or an index bit at or above the capacity is set */
+
+/* A reader's settings, 20 bytes. They hold no pointer: they may be copied, stored and moved. */
+struct bystrodol_settings {
+    uint8_t password[4]; /* high byte first; 0 is no password */
+    uint8_t address[4];  /* high byte first; FFFFFFFFh is a fresh reader's */
+    uint8_t level;       /* security level, 1 to 5 */
+    uint8_t size;        /* size code of data packets: 0, 1, 2 mean 32, 64, 128 bytes */
+    uint8_t baud;        /* baud factor, 1 to 12 */
+    uint8_t transfer;    /* 0: no transfer; 1 or 2: bytes are being received into that buffer */
+    uint16_t sensor;     /* sensor type, any number */
+    uint16_t got;        /* bytes of the transfer received so far; 0 where there is none */
+    uint8_t verified;    /* 1 once the right password was given */
+    uint8_t filled1;     /* 1 if character buffer 1 holds a template */
+    uint8_t filled2;     /* 1 if character buffer 2 holds a template */
+};
+
+/* What a call answers, 24 bytes. */
+struct bystrodol_answer {
+    uint8_t refusal; /* 0, or why the call was refused */
+    size_t used;     /* bytes of the run that are dealt with; drop them */
+    size_t length;   /* bytes of the reply, at the front of the reply room; 0 is silence */
+};
 
 /* What bystrodol_count answers to an index that is not 32 bytes long. */
 #define BYSTRODOL_NO_COUNT 0xFFFFu
@@ -34,6 +72,42 @@
 #ifdef __cplusplus
 extern "C" {
 #endif
+
+/* ---- the whole reader */
+
+/*
+ * Fresh settings: password 0, address FFFFFFFFh, level 3, size code 1, baud factor 6, sensor type 0, marks clear, no
+ * transfer. With zeroed memory they are a fresh reader.
+ */
+struct bystrodol_settings bystrodol_fresh(void);
+
+/*
+ * A call of the reader: finds the first packet in a run of received bytes, carries it out, and writes the reply. It deals
+ * with at most one packet. Call again with what is left until 0 bytes are used; then receive more.
+ *
+ *   settings                      the reader's; changed where they lie
+ *   templates, templates_length   512 bytes for each page, 1 to 256 pages; the length says how many
+ *   index, index_length           32 bytes; page p is the bit of weight 2^(p mod 8) in byte p / 8
+ *   notepad, notepad_length       512 bytes
+ *   buffer1, buffer1_length       512 bytes
+ *   buffer2, buffer2_length       512 bytes
+ *   run, run_length               the bytes received and not yet dropped
+ *   reply, reply_length           at least 700 bytes; past the reply they keep what they have
+ */
+struct bystrodol_answer bystrodol_step(struct bystrodol_settings *settings, uint8_t *templates, size_t templates_length,
+                                       uint8_t *index, size_t index_length, uint8_t *notepad, size_t notepad_length,
+                                       uint8_t *buffer1, size_t buffer1_length, uint8_t *buffer2,
+                                       size_t buffer2_length, const uint8_t *run, size_t run_length, uint8_t *reply,
+                                       size_t reply_length);
+
+/*
+ * The line switch: verified mark and filled marks cleared, transfer closed, both buffers zeroed. It takes any settings.
+ * Returns 0, or BYSTRODOL_BAD_LENGTH if a buffer is not 512 bytes long; then nothing changes.
+ */
+uint8_t bystrodol_line_switch(struct bystrodol_settings *settings, uint8_t *buffer1, size_t buffer1_length,
+                              uint8_t *buffer2, size_t buffer2_length);
+
+/* ---- four plain services */
 
 /*
  * The sum of all bytes of a run, modulo 65536. The sum of an empty run is 0.

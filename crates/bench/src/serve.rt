@@ -5,9 +5,9 @@ ghost use lib.ListN.{length, take, drop};
 ghost use Rattle.protocol.specs.Call.{core, callOf};
 ghost use Rattle.protocol.specs.Records.{readerOf, endedOf};
 ghost use Rattle.bench.specs.Serve.{served, serviceOf, serveOf};
+use place::step_through;
 use protocol::Called;
 use protocol::Settings;
-use reader::call;
 
 // The settings afterwards, the bytes used of the run, and the bytes written to the room.
 pub struct Served {
@@ -30,7 +30,7 @@ fn call_once(
     ensures call { λ r. ⌜ endedOf r (now (templates .exit)) (now (index .exit)) (now (notepad .exit)) (now (buffer1 .exit)) (now (buffer2 .exit)) (now (out .exit)) ≡ callOf core (readerOf settings (now (templates .entry)) (now (index .entry)) (now (notepad .entry)) (now (buffer1 .entry)) (now (buffer2 .entry))) (now (run .entry)) (now (out .entry)) ⌝ }
     ensures within { λ r. ⌜ (r .used ≤ length (now (run .entry))) × (r .length ≤ length (now (out .entry))) ⌝ }
 {
-    call::step(
+    step_through(
         settings,
         templates,
         index,

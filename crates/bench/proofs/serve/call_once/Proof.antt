@@ -12,10 +12,10 @@ use Rattle.bench.proofs.serve.call_once.Statement.{statement}
 use Rattle.bench.proofs.serve.call_once.Tie as tie
 use Rattle.bench.proofs.serve.call_once.Reads as reads
 use Rattle.bench.proofs.serve.call_once.Lts as lts
-use Rattle.reader.proofs.call.step.Reads as step-reads
+use Rattle.place.proofs.step_through.Reads as step-through-reads
 
-step-requires : tie.Need-step-requires
-step-requires c κs = search needs
+step-through-requires : tie.Need-step-through-requires
+step-through-requires c κs = search needs
 
 same-length : tie.Need-same-length
 same-length c = search needs
@@ -40,7 +40,7 @@ unfolding Bytes
 returns c =
     let a = c .before .before .before .before .before .before .before .before .before .before .before .before .before .before .before .before .before .before .before .before .before .before .before .before .before .before .args in
     let r = readerOf (a .settings) (now (a .templates)) (now (a .index)) (now (a .notepad)) (now (a .buffer1)) (now (a .buffer2)) in
-    let o = c .before .before .before .before .before .before .before .before .before .before .before .before .step in
+    let o = c .before .before .before .before .before .before .before .before .before .before .before .before .step-through in
     let e = endedOf (o .result) (o .last .1 .0) (o .last .1 .1 .0) (o .last .1 .1 .1 .0) (o .last .1 .1 .1 .1 .0) (o .last .1 .1 .1 .1 .1 .0) (o .last .1 .1 .1 .1 .1 .1 .1 .0) in
     let p : length (a .settings .password) ≡ 4 = search (needs, c .before .before .before .before .before .before .before .before .before .before .before .before .before .before .before .before .before .before .before .before .before .before .before .before .before .before .good) in
     let q : length (a .settings .address) ≡ 4 = search (needs, c .before .before .before .before .before .before .before .before .before .before .before .before .before .before .before .before .before .before .before .before .before .before .before .before .before .before .good) in
@@ -51,7 +51,7 @@ pub call-once-spec : {M : Type 1} → statement M
 call-once-spec =
     tie.close
     (tie.spec
-    step-requires
+    step-through-requires
     same-length
     same-length-2
     same-length-3
