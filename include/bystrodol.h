@@ -2,8 +2,8 @@
  * bystrodol.h: the EF01 reader core for C99 and C++: the whole reader, and four plain services.
  *
  * Link with the archive that `rt staticlib board` writes, target/staticlib/libboard.a (x86-64 Linux).
- * The archive needs no other library. Nothing is kept between calls: each answer depends on the arguments and the
- * memory that they lead to, and calls on different memory may run at the same time.
+ * The archive needs memcpy and memset, and nothing else of the C library. Nothing is kept between calls: each answer
+ * depends on the arguments and the memory that they lead to, and calls on different memory may run at the same time.
  *
  * Slices. A run, a content, a room or a lent memory is two arguments, a pointer and a length in bytes:
  *   - The pointer leads to that many bytes, all of which the caller may read; where it is not const, also write.

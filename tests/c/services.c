@@ -3,32 +3,9 @@
  * It writes one line, 'services: N checks passed', and ends with 0; or names each failed check and ends with 1.
  */
 #include "bystrodol.h"
+#include "check.h"
 
-/* The C library's; the kit's clang brings no <stdio.h>. */
-int dprintf(int file, const char *format, ...);
-
-enum { OUTPUT = 1, ERRORS = 2, LONGEST = BYSTRODOL_CONTENT_MOST + BYSTRODOL_FRAME_BYTES, ROOM = LONGEST + 64, GUARD = 64, MANY = 65537 };
-
-static unsigned passed, failed;
-
-/* One check: its name, which of several it is, and what of it is looked at. */
-static void check_of(const char *name, size_t which, const char *what, size_t got, size_t wanted) {
-    if (got == wanted) {
-        passed++;
-        return;
-    }
-    failed++;
-    dprintf(ERRORS, "services: FAILED: %s (%zu), %s: got %zu, wanted %zu\n", name, which, what, got, wanted);
-}
-
-static void check(const char *name, size_t got, size_t wanted) { check_of(name, 0, "the answer", got, wanted); }
-
-/* The first place where two runs of n bytes differ, or n. */
-static size_t differ(const uint8_t *a, const uint8_t *b, size_t n) {
-    size_t i = 0;
-    while (i < n && a[i] == b[i]) i++;
-    return i;
-}
+enum { LONGEST = BYSTRODOL_CONTENT_MOST + BYSTRODOL_FRAME_BYTES, ROOM = LONGEST + 64, GUARD = 64, MANY = 65537 };
 
 /* ---- the sum */
 
@@ -181,10 +158,5 @@ int main(void) {
     longest();
     read_back();
     counts();
-    if (failed) {
-        dprintf(ERRORS, "services: %u checks failed, %u passed\n", failed, passed);
-        return 1;
-    }
-    dprintf(OUTPUT, "services: %u checks passed\n", passed);
-    return 0;
+    return report("services");
 }

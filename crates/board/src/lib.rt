@@ -1,12 +1,13 @@
-// The four plain services that the board's C firmware calls; include/bystrodol.h is their C face.
+// What the board's C firmware calls: four plain services, and the whole reader with its settings lent. include/bystrodol.h is the C face.
 ghost use mathlib.Core.Path.{_≡_};
 ghost use mathlib.Core.List.{List};
 ghost use Prim.Native.Nat.{ℕ};
 ghost use Rattle.protocol.specs.Call.{core, callOf, switchOf};
-ghost use Rattle.protocol.specs.Records.{readerOf, freshOf, endedOf, switchedOf, calledAt, switchedAt};
+ghost use Rattle.protocol.specs.Records.{readerOf, freshOf, endedOf, switchedOf};
+ghost use Rattle.place.specs.Lent.{calledAt, switchedAt};
 ghost use Rattle.protocol.specs.Services.{sumService, usedService, buildService, countService};
 use library::index;
-use protocol::Answered;
+use place::Answered;
 use protocol::Settings;
 use reader::settings;
 use wire::builder;

@@ -4,13 +4,21 @@ ghost use mathlib.Core.Path.{_≡_};
 ghost use mathlib.Core.List.{List};
 ghost use Prim.Native.Nat.{ℕ};
 ghost use Rattle.protocol.specs.Call.{core, callOf, switchOf};
-ghost use Rattle.protocol.specs.Records.{readerOf, endedOf, switchedOf, calledAt, switchedAt};
-use protocol::Answered;
+ghost use Rattle.protocol.specs.Records.{readerOf, endedOf, switchedOf};
+ghost use Rattle.place.specs.Lent.{calledAt, switchedAt};
 use protocol::Called;
 use protocol::Settings;
 use protocol::Switched;
 use reader::call::line_switch;
 use reader::call::step;
+
+// What a call in place returns: the refusal or 0, the bytes used, and the reply's length. The settings lie changed where they were lent.
+#[repr(C)]
+pub struct Answered {
+    pub refusal: u8,
+    pub used: usize,
+    pub length: usize,
+}
 
 // A call on lent settings.
 pub fn step_in_place(

@@ -4,7 +4,6 @@ use mathlib.Core.List.{List, []}
 use Prim.Native.Nat.{ℕ, zero, suc}
 use Rattle.protocol.specs.declared.Settings.{Settings}
 use Rattle.protocol.specs.declared.Called.{Called}
-use Rattle.protocol.specs.declared.Answered.{Answered}
 use Rattle.protocol.specs.declared.Switched.{Switched}
 use Rattle.protocol.specs.declared.Built.{Built}
 use Rattle.protocol.specs.Packet.{Made}
@@ -42,13 +41,6 @@ endedOf c t i n b d room =
 abbrev pub switchedOf : Switched → List ℕ → List ℕ → List ℕ → List ℕ → List ℕ → Ended
 switchedOf s t i n b d =
     record { told = record { refusal = s .refusal; used = 0; length = 0; room = [] }; after = readerOf (s .settings) t i n b d }
-
--- lent settings as they lie after a call or a line switch, and what it returned: by value they are one record
-abbrev pub calledAt : Settings → Answered → Called
-calledAt s a = record { settings = s; refusal = a .refusal; used = a .used; length = a .length }
-
-abbrev pub switchedAt : Settings → ℕ → Switched
-switchedAt s refusal = record { settings = s; refusal = refusal }
 
 -- fresh settings have their filled marks clear too
 abbrev pub freshOf : List ℕ → List ℕ → List ℕ → List ℕ → List ℕ → Reader

@@ -42,14 +42,6 @@ pub struct Called {
     pub length: usize,
 }
 
-// What a call returns beside the settings, where they are lent and lie changed in their place.
-#[repr(C)]
-pub struct Answered {
-    pub refusal: u8,
-    pub used: usize,
-    pub length: usize,
-}
-
 // What a line switch returns: the settings after it, and the refusal or 0.
 pub struct Switched {
     pub settings: Settings,

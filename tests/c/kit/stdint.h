@@ -1,4 +1,7 @@
 /* What bystrodol.h uses of <stdint.h>. The kit's clang brings no headers. */
+#ifndef KIT_STDINT_H
+#define KIT_STDINT_H
 typedef __UINT8_TYPE__ uint8_t;
 typedef __UINT16_TYPE__ uint16_t;
 typedef __UINT32_TYPE__ uint32_t;
+#endif

@@ -36,9 +36,9 @@ use denote.Triple.Table.{entered, cited}
 use denote.Triple.Walked.{Stays, walkOf, Walks, ends-at, walked, walk-meets}
 use Rattle.protocol.specs.declared.Settings.{Settings}
 use Rattle.protocol.proofs.Settings as T
-use Rattle.protocol.specs.declared.Answered.{Answered}
-use Rattle.protocol.proofs.Answered as K
-use Rattle.protocol.proofs.Answered.Laws as K′
+use Rattle.place.specs.declared.Answered.{Answered}
+use Rattle.place.proofs.Answered as K
+use Rattle.place.proofs.Answered.Laws as K′
 use Rattle.place.proofs.Told.{tolds, tolds-fit, tolds-go}
 use Rattle.place.proofs.step_in_place as g
 use Rattle.place.proofs.step_in_place.Symbol as g-def

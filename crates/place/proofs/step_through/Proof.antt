@@ -49,9 +49,9 @@ use Rattle.protocol.proofs.Settings.Laws as T′
 use Rattle.protocol.specs.declared.Called.{Called}
 use Rattle.protocol.proofs.Called as D
 use Rattle.protocol.proofs.Called.Laws as D′
-use Rattle.protocol.specs.declared.Answered.{Answered}
-use Rattle.protocol.proofs.Answered as K
-use Rattle.protocol.proofs.Answered.Laws as K′
+use Rattle.place.specs.declared.Answered.{Answered}
+use Rattle.place.proofs.Answered as K
+use Rattle.place.proofs.Answered.Laws as K′
 use Rattle.place.proofs.Told.{rest, tolds, tolds-fit, tolds-go}
 use Rattle.place.proofs.step_in_place as g
 use Rattle.place.proofs.step_in_place.Symbol as g-def

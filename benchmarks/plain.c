@@ -1,0 +1,477 @@
+/*
+ * The reader of document 01 in plain C: what the counts of the proved reader are held against.
+ * It is written as C is usually written: each rule once, memory moved by memcpy and memset, nothing done for a count.
+ */
+#include "plain.h"
+
+/* The C library's; the kit's clang brings no <string.h>. */
+int memcmp(const void *a, const void *b, size_t n);
+void *memcpy(void *to, const void *from, size_t n);
+void *memset(void *to, int byte, size_t n);
+
+enum identifier { COMMAND = 1, DATA = 2, ACKNOWLEDGE = 7, LAST_DATA = 8 };
+
+enum command {
+    STORE = 0x06,
+    LOAD_CHAR = 0x07,
+    UP_CHAR = 0x08,
+    DOWN_CHAR = 0x09,
+    DELET_CHAR = 0x0C,
+    EMPTY = 0x0D,
+    SET_SYS_PARA = 0x0E,
+    READ_SYS_PARA = 0x0F,
+    SET_PWD = 0x12,
+    VFY_PWD = 0x13,
+    SET_ADDER = 0x15,
+    WRITE_NOTEPAD = 0x18,
+    READ_NOTEPAD = 0x19,
+    TEMPLETE_NUM = 0x1D,
+    READ_INDEX_TABLE = 0x1F,
+    HAND_SHAKE = 0x40
+};
+
+enum code {
+    DONE = 0x00,
+    BAD_PACKET = 0x01,
+    BAD_PAGE = 0x0B,
+    NOT_THERE = 0x0C,
+    NOT_FILLED = 0x0D,
+    BAD_DATA = 0x0E,
+    NOT_DELETED = 0x10,
+    WRONG_PASSWORD = 0x13,
+    UNKNOWN_COMMAND = 0x19,
+    BAD_PARAMETER = 0x1A,
+    BAD_VALUE = 0x1B,
+    BAD_NOTEPAD_PAGE = 0x1C,
+    PASSWORD_FIRST = 0x21
+};
+
+/* Where the parts of a packet are, and its least and most length field. */
+enum {
+    ADDRESS = 2,
+    IDENTIFIER = 6,
+    LENGTH = 7,
+    CONTENT = 9,
+    SUM_BYTES = 2,
+    LENGTH_LEAST = 3,
+    LENGTH_MOST = 256
+};
+
+enum { NOTEPAD_PAGES = 16, NOTEPAD_PAGE_BYTES = 32, DATA_MOST = 32 };
+
+struct reader {
+    struct bystrodol_settings *settings;
+    uint8_t *templates;
+    size_t pages;
+    uint8_t *index;
+    uint8_t *notepad;
+    uint8_t *buffer1;
+    uint8_t *buffer2;
+    uint8_t *reply;
+};
+
+/* ---- numbers, sums, packets */
+
+static unsigned get16(const uint8_t *at) { return (unsigned)at[0] << 8 | at[1]; }
+
+static void put16(uint8_t *at, size_t number) {
+    at[0] = (uint8_t)(number >> 8);
+    at[1] = (uint8_t)number;
+}
+
+uint16_t plain_sum(const uint8_t *run, size_t run_length) {
+    uint16_t sum = 0;
+    for (size_t i = 0; i < run_length; i++) sum += run[i];
+    return sum;
+}
+
+static int is_identifier(uint8_t identifier) {
+    return identifier == COMMAND || identifier == DATA || identifier == ACKNOWLEDGE || identifier == LAST_DATA;
+}
+
+/* The bytes used of a run; *packet is the whole packet that stands at their end, or NULL. */
+static size_t find(const uint8_t *run, size_t run_length, const uint8_t **packet) {
+    size_t p = 0;
+    *packet = NULL;
+    while (p + 1 < run_length && !(run[p] == 0xEF && run[p + 1] == 0x01)) p++;
+    if (p + 1 >= run_length) return run_length > 0 && run[run_length - 1] == 0xEF ? run_length - 1 : run_length;
+    if (run_length - p < CONTENT) return p;
+    size_t length = get16(run + p + LENGTH);
+    if (!is_identifier(run[p + IDENTIFIER]) || length < LENGTH_LEAST || length > LENGTH_MOST) return p + 2;
+    if (run_length - p < CONTENT + length) return p;
+    *packet = run + p;
+    return p + CONTENT + length;
+}
+
+size_t plain_used(const uint8_t *run, size_t run_length) {
+    const uint8_t *packet;
+    return find(run, run_length, &packet);
+}
+
+static size_t put_packet(uint8_t *room, const uint8_t address[4], uint8_t identifier, const uint8_t *content, size_t n) {
+    room[0] = 0xEF;
+    room[1] = 0x01;
+    memcpy(room + ADDRESS, address, 4);
+    room[IDENTIFIER] = identifier;
+    put16(room + LENGTH, n + SUM_BYTES);
+    memcpy(room + CONTENT, content, n);
+    put16(room + CONTENT + n, plain_sum(room + IDENTIFIER, CONTENT - IDENTIFIER + n));
+    return n + BYSTRODOL_FRAME_BYTES;
+}
+
+size_t plain_build(uint32_t address, uint8_t identifier, const uint8_t *content, size_t content_length, uint8_t *room,
+                   size_t room_length) {
+    if (!is_identifier(identifier) || content_length < 1 || content_length > BYSTRODOL_CONTENT_MOST) return 0;
+    if (room_length < content_length + BYSTRODOL_FRAME_BYTES) return 0;
+    uint8_t bytes[4] = {(uint8_t)(address >> 24), (uint8_t)(address >> 16), (uint8_t)(address >> 8), (uint8_t)address};
+    return put_packet(room, bytes, identifier, content, content_length);
+}
+
+/* ---- the index */
+
+static int is_stored(const uint8_t *index, size_t page) { return index[page / 8] >> page % 8 & 1; }
+
+static void set_stored(uint8_t *index, size_t page) { index[page / 8] |= (uint8_t)(1u << page % 8); }
+
+static void clear_stored(uint8_t *index, size_t page) { index[page / 8] &= (uint8_t)~(1u << page % 8); }
+
+static unsigned count_stored(const uint8_t *index) {
+    unsigned count = 0;
+    for (size_t i = 0; i < BYSTRODOL_INDEX_BYTES; i++) count += (unsigned)__builtin_popcount(index[i]);
+    return count;
+}
+
+uint16_t plain_count(const uint8_t *index, size_t index_length) {
+    return (uint16_t)(index_length == BYSTRODOL_INDEX_BYTES ? count_stored(index) : BYSTRODOL_NO_COUNT);
+}
+
+/* No bit at or above the capacity is set. */
+static int fits(const uint8_t *index, size_t pages) {
+    size_t i = pages / 8;
+    if (pages % 8 != 0 && index[i++] >> pages % 8 != 0) return 0;
+    for (; i < BYSTRODOL_INDEX_BYTES; i++)
+        if (index[i] != 0) return 0;
+    return 1;
+}
+
+/* ---- the settings */
+
+static int is_locked(const struct bystrodol_settings *settings) {
+    static const uint8_t none[4];
+    return memcmp(settings->password, none, sizeof none) != 0 && !settings->verified;
+}
+
+static size_t data_size(const struct bystrodol_settings *settings) { return (size_t)32 << settings->size; }
+
+static int is_filled(const struct bystrodol_settings *settings, uint8_t buffer) {
+    return buffer == 1 ? settings->filled1 : settings->filled2;
+}
+
+static void set_filled(struct bystrodol_settings *settings, uint8_t buffer, uint8_t mark) {
+    if (buffer == 1)
+        settings->filled1 = mark;
+    else
+        settings->filled2 = mark;
+}
+
+static int is_level(uint8_t level) { return level >= 1 && level <= 5; }
+
+static int is_size(uint8_t size) { return size <= 2; }
+
+static int is_baud(uint8_t baud) { return baud >= 1 && baud <= 12; }
+
+static int is_legal(const struct bystrodol_settings *settings) {
+    if (!is_level(settings->level) || !is_size(settings->size) || !is_baud(settings->baud)) return 0;
+    if (settings->transfer == 0) return settings->got == 0;
+    return settings->transfer <= 2 && settings->got < BYSTRODOL_PAGE_BYTES && settings->got % data_size(settings) == 0 &&
+           !is_filled(settings, settings->transfer) && !is_locked(settings);
+}
+
+/* ---- the commands: parameters in, acknowledge code out */
+
+static uint8_t *buffer_of(struct reader *reader, uint8_t buffer) {
+    return buffer == 1 ? reader->buffer1 : reader->buffer2;
+}
+
+static uint8_t *page_of(struct reader *reader, size_t page) { return reader->templates + BYSTRODOL_PAGE_BYTES * page; }
+
+static int is_buffer(uint8_t buffer) { return buffer == 1 || buffer == 2; }
+
+static enum code store(struct reader *reader, uint8_t buffer, size_t page) {
+    if (!is_buffer(buffer)) return BAD_PACKET;
+    if (page >= reader->pages) return BAD_PAGE;
+    if (!is_filled(reader->settings, buffer)) return NOT_THERE;
+    memcpy(page_of(reader, page), buffer_of(reader, buffer), BYSTRODOL_PAGE_BYTES);
+    set_stored(reader->index, page);
+    return DONE;
+}
+
+static enum code load(struct reader *reader, uint8_t buffer, size_t page) {
+    if (!is_buffer(buffer)) return BAD_PACKET;
+    if (page >= reader->pages) return BAD_PAGE;
+    if (!is_stored(reader->index, page)) return NOT_THERE;
+    memcpy(buffer_of(reader, buffer), page_of(reader, page), BYSTRODOL_PAGE_BYTES);
+    set_filled(reader->settings, buffer, 1);
+    return DONE;
+}
+
+static enum code open_transfer(struct reader *reader, uint8_t buffer) {
+    if (!is_buffer(buffer)) return BAD_PACKET;
+    memset(buffer_of(reader, buffer), 0, BYSTRODOL_PAGE_BYTES);
+    set_filled(reader->settings, buffer, 0);
+    reader->settings->transfer = buffer;
+    reader->settings->got = 0;
+    return DONE;
+}
+
+static enum code delete_pages(struct reader *reader, size_t page, size_t n) {
+    if (page >= reader->pages || page + n > reader->pages) return NOT_DELETED;
+    for (size_t i = page; i < page + n; i++) clear_stored(reader->index, i);
+    memset(page_of(reader, page), 0, BYSTRODOL_PAGE_BYTES * n);
+    return DONE;
+}
+
+static enum code empty(struct reader *reader) {
+    memset(reader->index, 0, BYSTRODOL_INDEX_BYTES);
+    memset(reader->templates, 0, BYSTRODOL_PAGE_BYTES * reader->pages);
+    return DONE;
+}
+
+static enum code set_parameter(struct bystrodol_settings *settings, uint8_t number, uint8_t value) {
+    switch (number) {
+    case 4:
+        if (!is_baud(value)) return BAD_VALUE;
+        settings->baud = value;
+        return DONE;
+    case 5:
+        if (!is_level(value)) return BAD_VALUE;
+        settings->level = value;
+        return DONE;
+    case 6:
+        if (!is_size(value)) return BAD_VALUE;
+        settings->size = value;
+        return DONE;
+    default:
+        return BAD_PARAMETER;
+    }
+}
+
+static void read_parameters(const struct reader *reader, uint8_t data[16]) {
+    const struct bystrodol_settings *settings = reader->settings;
+    put16(data, settings->verified ? 4 : 0);
+    put16(data + 2, settings->sensor);
+    put16(data + 4, reader->pages);
+    put16(data + 6, settings->level);
+    memcpy(data + 8, settings->address, 4);
+    put16(data + 12, settings->size);
+    put16(data + 14, settings->baud);
+}
+
+static enum code set_password(struct bystrodol_settings *settings, const uint8_t password[4]) {
+    memcpy(settings->password, password, 4);
+    settings->verified = 0;
+    return DONE;
+}
+
+static enum code verify_password(struct bystrodol_settings *settings, const uint8_t password[4]) {
+    settings->verified = memcmp(settings->password, password, 4) == 0;
+    return settings->verified ? DONE : WRONG_PASSWORD;
+}
+
+static enum code write_notepad(struct reader *reader, uint8_t page, const uint8_t *bytes) {
+    if (page >= NOTEPAD_PAGES) return BAD_NOTEPAD_PAGE;
+    memcpy(reader->notepad + NOTEPAD_PAGE_BYTES * page, bytes, NOTEPAD_PAGE_BYTES);
+    return DONE;
+}
+
+/* ---- replies: each gives its length */
+
+static size_t reply_data(struct reader *reader, const uint8_t *data, size_t n) {
+    uint8_t content[1 + DATA_MOST] = {DONE};
+    memcpy(content + 1, data, n);
+    return put_packet(reader->reply, reader->settings->address, ACKNOWLEDGE, content, 1 + n);
+}
+
+static size_t reply_code(struct reader *reader, enum code code) {
+    uint8_t content = (uint8_t)code;
+    return put_packet(reader->reply, reader->settings->address, ACKNOWLEDGE, &content, 1);
+}
+
+static size_t upload(struct reader *reader, uint8_t buffer) {
+    if (!is_buffer(buffer)) return reply_code(reader, BAD_PACKET);
+    if (!is_filled(reader->settings, buffer)) return reply_code(reader, NOT_FILLED);
+    const uint8_t *bytes = buffer_of(reader, buffer);
+    size_t size = data_size(reader->settings), length = reply_code(reader, DONE);
+    for (size_t sent = 0; sent < BYSTRODOL_PAGE_BYTES; sent += size) {
+        uint8_t identifier = sent + size < BYSTRODOL_PAGE_BYTES ? DATA : LAST_DATA;
+        length += put_packet(reader->reply + length, reader->settings->address, identifier, bytes + sent, size);
+    }
+    return length;
+}
+
+/* ---- the call */
+
+/* The length field that a command must have, or 0 if there is no such command. */
+static size_t length_of(uint8_t command) {
+    switch (command) {
+    case EMPTY:
+    case READ_SYS_PARA:
+    case TEMPLETE_NUM:
+    case HAND_SHAKE:
+        return 3;
+    case UP_CHAR:
+    case DOWN_CHAR:
+    case READ_NOTEPAD:
+    case READ_INDEX_TABLE:
+        return 4;
+    case SET_SYS_PARA:
+        return 5;
+    case STORE:
+    case LOAD_CHAR:
+        return 6;
+    case DELET_CHAR:
+    case SET_PWD:
+    case VFY_PWD:
+    case SET_ADDER:
+        return 7;
+    case WRITE_NOTEPAD:
+        return 36;
+    default:
+        return 0;
+    }
+}
+
+static size_t carry_out(struct reader *reader, uint8_t command, const uint8_t *parameters) {
+    uint8_t data[16];
+    switch (command) {
+    case STORE:
+        return reply_code(reader, store(reader, parameters[0], get16(parameters + 1)));
+    case LOAD_CHAR:
+        return reply_code(reader, load(reader, parameters[0], get16(parameters + 1)));
+    case UP_CHAR:
+        return upload(reader, parameters[0]);
+    case DOWN_CHAR:
+        return reply_code(reader, open_transfer(reader, parameters[0]));
+    case DELET_CHAR:
+        return reply_code(reader, delete_pages(reader, get16(parameters), get16(parameters + 2)));
+    case EMPTY:
+        return reply_code(reader, empty(reader));
+    case SET_SYS_PARA:
+        return reply_code(reader, set_parameter(reader->settings, parameters[0], parameters[1]));
+    case READ_SYS_PARA:
+        read_parameters(reader, data);
+        return reply_data(reader, data, 16);
+    case SET_PWD:
+        return reply_code(reader, set_password(reader->settings, parameters));
+    case VFY_PWD:
+        return reply_code(reader, verify_password(reader->settings, parameters));
+    case SET_ADDER:
+        memcpy(reader->settings->address, parameters, 4);
+        return reply_code(reader, DONE);
+    case WRITE_NOTEPAD:
+        return reply_code(reader, write_notepad(reader, parameters[0], parameters + 1));
+    case READ_NOTEPAD:
+        if (parameters[0] >= NOTEPAD_PAGES) return reply_code(reader, BAD_NOTEPAD_PAGE);
+        return reply_data(reader, reader->notepad + NOTEPAD_PAGE_BYTES * parameters[0], NOTEPAD_PAGE_BYTES);
+    case TEMPLETE_NUM:
+        put16(data, count_stored(reader->index));
+        return reply_data(reader, data, 2);
+    case READ_INDEX_TABLE:
+        if (parameters[0] != 0) return reply_code(reader, BAD_PAGE);
+        return reply_data(reader, reader->index, BYSTRODOL_INDEX_BYTES);
+    default: /* HAND_SHAKE */
+        return reply_code(reader, DONE);
+    }
+}
+
+static int sum_is_right(const uint8_t *packet, size_t n) {
+    return plain_sum(packet + IDENTIFIER, CONTENT - IDENTIFIER + n) == get16(packet + CONTENT + n);
+}
+
+static void close_transfer(struct bystrodol_settings *settings) {
+    settings->transfer = 0;
+    settings->got = 0;
+}
+
+static void break_transfer(struct reader *reader) {
+    memset(buffer_of(reader, reader->settings->transfer), 0, BYSTRODOL_PAGE_BYTES);
+    close_transfer(reader->settings);
+}
+
+static size_t take_command(struct reader *reader, const uint8_t *packet, size_t n) {
+    if (reader->settings->transfer != 0) break_transfer(reader);
+    if (!sum_is_right(packet, n)) return reply_code(reader, BAD_PACKET);
+    uint8_t command = packet[CONTENT];
+    size_t length = length_of(command);
+    if (length == 0) return reply_code(reader, UNKNOWN_COMMAND);
+    if (length != n + SUM_BYTES) return reply_code(reader, BAD_PACKET);
+    if (is_locked(reader->settings) && command != VFY_PWD && command != HAND_SHAKE)
+        return reply_code(reader, PASSWORD_FIRST);
+    return carry_out(reader, command, packet + CONTENT + 1);
+}
+
+static size_t take_data(struct reader *reader, const uint8_t *packet, size_t n) {
+    struct bystrodol_settings *settings = reader->settings;
+    if (settings->transfer == 0) return 0;
+    int is_last = packet[IDENTIFIER] == LAST_DATA, ends = settings->got + n == BYSTRODOL_PAGE_BYTES;
+    if (!sum_is_right(packet, n) || n != data_size(settings) || is_last != ends) {
+        break_transfer(reader);
+        return reply_code(reader, BAD_DATA);
+    }
+    memcpy(buffer_of(reader, settings->transfer) + settings->got, packet + CONTENT, n);
+    settings->got = (uint16_t)(settings->got + n);
+    if (is_last) {
+        set_filled(settings, settings->transfer, 1);
+        close_transfer(settings);
+    }
+    return 0;
+}
+
+static size_t take(struct reader *reader, const uint8_t *packet) {
+    size_t n = get16(packet + LENGTH) - SUM_BYTES;
+    if (memcmp(packet + ADDRESS, reader->settings->address, 4) != 0) return 0;
+    switch (packet[IDENTIFIER]) {
+    case COMMAND:
+        return take_command(reader, packet, n);
+    case DATA:
+    case LAST_DATA:
+        return take_data(reader, packet, n);
+    default:
+        return 0;
+    }
+}
+
+struct bystrodol_answer plain_step(struct bystrodol_settings *settings, uint8_t *templates, size_t templates_length,
+                                   uint8_t *index, size_t index_length, uint8_t *notepad, size_t notepad_length,
+                                   uint8_t *buffer1, size_t buffer1_length, uint8_t *buffer2, size_t buffer2_length,
+                                   const uint8_t *run, size_t run_length, uint8_t *reply, size_t reply_length) {
+    struct bystrodol_answer answer = {BYSTRODOL_ACCEPTED, 0, 0};
+    size_t pages = templates_length / BYSTRODOL_PAGE_BYTES;
+    if (templates_length % BYSTRODOL_PAGE_BYTES != 0 || pages < 1 || pages > BYSTRODOL_PAGES_MOST ||
+        index_length != BYSTRODOL_INDEX_BYTES || notepad_length != BYSTRODOL_PAGE_BYTES ||
+        buffer1_length != BYSTRODOL_PAGE_BYTES || buffer2_length != BYSTRODOL_PAGE_BYTES)
+        answer.refusal = BYSTRODOL_BAD_LENGTH;
+    else if (reply_length < BYSTRODOL_REPLY_BYTES)
+        answer.refusal = BYSTRODOL_BAD_ROOM;
+    else if (!is_legal(settings) || !fits(index, pages))
+        answer.refusal = BYSTRODOL_BAD_SETTING;
+    else {
+        struct reader reader = {settings, templates, pages, index, notepad, buffer1, buffer2, reply};
+        const uint8_t *packet;
+        answer.used = find(run, run_length, &packet);
+        if (packet != NULL) answer.length = take(&reader, packet);
+    }
+    return answer;
+}
+
+uint8_t plain_line_switch(struct bystrodol_settings *settings, uint8_t *buffer1, size_t buffer1_length,
+                          uint8_t *buffer2, size_t buffer2_length) {
+    if (buffer1_length != BYSTRODOL_PAGE_BYTES || buffer2_length != BYSTRODOL_PAGE_BYTES) return BYSTRODOL_BAD_LENGTH;
+    settings->verified = 0;
+    settings->filled1 = 0;
+    settings->filled2 = 0;
+    close_transfer(settings);
+    memset(buffer1, 0, BYSTRODOL_PAGE_BYTES);
+    memset(buffer2, 0, BYSTRODOL_PAGE_BYTES);
+    return BYSTRODOL_ACCEPTED;
+}

@@ -1,0 +1,14 @@
+/* The reader in plain C: the functions of bystrodol.h, each with the same signature and the same answer. */
+#ifndef PLAIN_H
+#define PLAIN_H
+
+#include "bystrodol.h"
+
+__typeof__(bystrodol_step) plain_step;
+__typeof__(bystrodol_line_switch) plain_line_switch;
+__typeof__(bystrodol_sum) plain_sum;
+__typeof__(bystrodol_used) plain_used;
+__typeof__(bystrodol_build) plain_build;
+__typeof__(bystrodol_count) plain_count;
+
+#endif

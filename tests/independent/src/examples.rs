@@ -1,0 +1,65 @@
+//! The table of examples P1 to P12.
+
+use crate::reader::Reader;
+use crate::readers::fresh_reader;
+
+/// A reader and what it is sent, step by step.
+pub struct Example {
+    pub name: &'static str,
+    pub reader: Reader,
+    pub steps: Vec<Step>,
+}
+
+pub struct Step {
+    pub run: Vec<u8>,
+    pub used: usize,
+    pub reply: Vec<u8>,
+}
+
+const HAND_SHAKE: &str = "EF 01 A 01 00 03 40 00 44";
+const COUNT: &str = "EF 01 A 01 00 03 1D 00 21";
+const DELETE_9_1: &str = "EF 01 A 01 00 07 0C 00 09 00 01 00 1E";
+const DELETE_9_2: &str = "EF 01 A 01 00 07 0C 00 09 00 02 00 1F";
+const DELETE_0_0: &str = "EF 01 A 01 00 07 0C 00 00 00 00 00 14";
+const FINE: &str = "EF 01 A 07 00 03 00 00 0A";
+
+pub fn all() -> Vec<Example> {
+    let fresh = fresh_reader(10);
+    let mut locked = fresh.clone();
+    locked.settings.password = [0, 0, 0, 5];
+    let mut two_stored = fresh.clone();
+    two_stored.index[..2].copy_from_slice(&[0x01, 0x02]);
+
+    let example = |name, reader: &Reader, steps: &[(&str, usize, &str)]| {
+        let step = |&(run, used, reply): &(&str, usize, &str)| Step { run: bytes(run), used, reply: bytes(reply) };
+        Example { name, reader: reader.clone(), steps: steps.iter().map(step).collect() }
+    };
+    vec![
+        example("P1", &fresh, &[(HAND_SHAKE, 12, FINE)]),
+        example("P2", &fresh, &[("", 0, "")]),
+        example("P3", &fresh, &[("41 EF", 1, "")]),
+        example("P4", &fresh, &[("EF 01 A 01 00 03 40 00 45", 12, "EF 01 A 07 00 03 01 00 0B")]),
+        example("P5", &fresh, &[("EF 01 00 00 00 00 01 00 03 40 00 44", 12, "")]),
+        example("P6", &fresh, &[("EF 01 A 01 00 02 40", 2, "")]),
+        example("P7", &fresh, &[("EF 01 A 01 01 01 40", 2, ""), ("EF 01 A 01 01 00 40", 0, "")]),
+        example("P8", &fresh, &[(COUNT, 12, &count(0))]),
+        example("P9", &locked, &[(COUNT, 12, "EF 01 A 07 00 03 21 00 2B")]),
+        example("P10", &locked, &[("EF 01 A 01 00 07 13 00 00 00 05 00 20", 16, FINE), (COUNT, 12, &count(0))]),
+        example("P11", &two_stored, &[(COUNT, 12, &count(2)), (DELETE_9_1, 16, FINE), (COUNT, 12, &count(1))]),
+        example(
+            "P12",
+            &two_stored,
+            &[(DELETE_9_2, 16, "EF 01 A 07 00 03 10 00 1A"), (DELETE_0_0, 16, FINE), (COUNT, 12, &count(2))],
+        ),
+    ]
+}
+
+fn count(stored: u8) -> String {
+    format!("EF 01 A 07 00 05 00 00 {stored:02X} 00 {:02X}", 0x0C + stored)
+}
+
+/// Bytes in hexadecimal; A stands for FF FF FF FF.
+fn bytes(text: &str) -> Vec<u8> {
+    let text = text.replace(" A ", " FF FF FF FF ");
+    text.split_whitespace().filter_map(|byte| u8::from_str_radix(byte, 16).ok()).collect()
+}

@@ -1,0 +1,229 @@
+//! Pits a reader written from document 01 alone against another implementation of the paper.
+
+mod cases;
+mod chance;
+mod examples;
+mod frame;
+mod probe;
+mod reader;
+mod readers;
+mod report;
+mod shrink;
+mod tally;
+mod wrong;
+
+use cases::Dialogue;
+use chance::Chance;
+use frame::{Outcome, Request};
+use probe::Probe;
+use std::io::{self, Write};
+use std::process::ExitCode;
+use std::time::{Duration, Instant};
+use tally::Tally;
+
+const USAGE: &str = "usage: independent [--cases N] [--seed S] [--quiet] -- PROGRAM ARGS...
+       independent --answer [ERROR]    be a probe, with a deliberate error if named
+       independent --errors            list the deliberate errors";
+
+const DEFAULT_CASES: u64 = 10_000;
+/// So many cases or more must reach everything that is counted.
+const COVERING_CASES: u64 = 1000;
+/// One case in so many is a dialogue, the others are single readers.
+const DIALOGUE_EVERY: u64 = 4;
+/// How often a long run tells how far it is.
+const PROGRESS: Duration = Duration::from_secs(10);
+
+struct Options {
+    cases: u64,
+    seed: u64,
+    quiet: bool,
+    program: String,
+    arguments: Vec<String>,
+}
+
+/// Why a comparison ends without agreement.
+enum End {
+    /// The readers differ or the cases are too weak: status 1.
+    Disagreement(Vec<String>),
+    /// There is nothing to compare: status 2.
+    Trouble(String),
+}
+
+impl From<String> for End {
+    fn from(trouble: String) -> End {
+        End::Trouble(trouble)
+    }
+}
+
+fn main() -> ExitCode {
+    let arguments: Vec<String> =
+        std::env::args_os().skip(1).map(|argument| argument.to_string_lossy().into_owned()).collect();
+    let result = match arguments.first().map(String::as_str) {
+        Some("--answer") => answer(&arguments[1..]),
+        Some("--errors") if arguments.len() == 1 => list_errors(),
+        _ => options(&arguments).map_err(End::Trouble).and_then(compare),
+    };
+    match result {
+        Ok(()) => ExitCode::SUCCESS,
+        Err(End::Disagreement(lines)) => {
+            println!("independent: {}", lines.join("\n  "));
+            ExitCode::from(1)
+        }
+        Err(End::Trouble(trouble)) => {
+            eprintln!("independent: {trouble}");
+            ExitCode::from(2)
+        }
+    }
+}
+
+fn options(arguments: &[String]) -> Result<Options, String> {
+    let mut options =
+        Options { cases: DEFAULT_CASES, seed: 1, quiet: false, program: String::new(), arguments: Vec::new() };
+    let mut rest = arguments.iter();
+    while let Some(argument) = rest.next() {
+        match argument.as_str() {
+            "--cases" => options.cases = number(argument, rest.next())?,
+            "--seed" => options.seed = number(argument, rest.next())?,
+            "--quiet" => options.quiet = true,
+            "--" => break,
+            _ => return Err(format!("unknown argument {argument}\n{USAGE}")),
+        }
+    }
+    options.program = rest.next().ok_or_else(|| format!("no program is named\n{USAGE}"))?.clone();
+    options.arguments = rest.cloned().collect();
+    Ok(options)
+}
+
+fn number(name: &str, value: Option<&String>) -> Result<u64, String> {
+    let value = value.map_or("", String::as_str);
+    value.parse().map_err(|_| format!("{name} takes a number, not '{value}'\n{USAGE}"))
+}
+
+fn list_errors() -> Result<(), End> {
+    for (name, _) in wrong::ERRORS {
+        println!("{name}");
+    }
+    Ok(())
+}
+
+/// Acts as a probe with the independent reader, or with a wrong one.
+fn answer(arguments: &[String]) -> Result<(), End> {
+    let carry_out = match arguments {
+        [] => Request::carried_out,
+        [name] => match wrong::ERRORS.iter().find(|(error, _)| error == name) {
+            Some(&(_, wrong)) => wrong,
+            None => return Err(End::Trouble(format!("unknown error {name}\n{USAGE}"))),
+        },
+        _ => return Err(End::Trouble(format!("--answer takes one error\n{USAGE}"))),
+    };
+    let (mut input, mut output) = (io::stdin().lock(), io::stdout().lock());
+    let mut answer_all = || -> io::Result<()> {
+        while let Some(request) = Request::read(&mut input)? {
+            output.write_all(&carry_out(&request).frame())?;
+            output.flush()?;
+        }
+        Ok(())
+    };
+    answer_all().map_err(|error| match error.kind() {
+        io::ErrorKind::UnexpectedEof => End::Trouble("--answer: the input ends inside a frame".into()),
+        _ => End::Trouble(format!("--answer: {error}")),
+    })
+}
+
+/// Sends the examples and the cases to the program, and tells whether it agrees.
+fn compare(options: Options) -> Result<(), End> {
+    let mut comparer = Comparer {
+        probe: Probe::start(&options.program, &options.arguments)?,
+        tally: Tally::default(),
+        case: String::new(),
+    };
+    comparer.examples()?;
+    let mut told = Instant::now();
+    for case in 0..options.cases {
+        comparer.case = format!("case {case} of seed {}", options.seed);
+        let chance = Chance::new(options.seed, case);
+        if case % DIALOGUE_EVERY == 0 {
+            comparer.dialogue(Dialogue::new(chance))?;
+        } else {
+            comparer.agreed(&cases::single(chance))?;
+        }
+        if !options.quiet && told.elapsed() > PROGRESS {
+            eprintln!("independent: {case} of {} cases", options.cases);
+            told = Instant::now();
+        }
+    }
+    comparer.probe.finish()?;
+
+    let gaps = comparer.tally.gaps();
+    if !gaps.is_empty() && options.cases >= COVERING_CASES {
+        let heading = "the cases are too weak, these did not occur:".to_string();
+        return Err(End::Disagreement([vec![heading], gaps].concat()));
+    }
+    let dialogues = (options.cases + DIALOGUE_EVERY - 1) / DIALOGUE_EVERY;
+    println!(
+        "independent: {} calls in {dialogues} dialogues and {} readers agree (seed {})",
+        comparer.tally.calls,
+        options.cases - dialogues,
+        options.seed
+    );
+    if !options.quiet {
+        println!("  {}", comparer.tally.lines().join("\n  "));
+    }
+    Ok(())
+}
+
+struct Comparer {
+    probe: Probe,
+    tally: Tally,
+    /// What the case at hand is called.
+    case: String,
+}
+
+impl Comparer {
+    /// The examples of the paper, which also bind the independent reader.
+    fn examples(&mut self) -> Result<(), End> {
+        for example in examples::all() {
+            self.case = format!("example {}", example.name);
+            let mut reader = example.reader;
+            for step in example.steps {
+                let request = Request { line_switch: false, reader, run: step.run, room: vec![0x5A; reader::ROOM] };
+                let outcome = self.agreed(&request)?;
+                let answer = &outcome.answer;
+                if answer.used != step.used || outcome.room[..answer.length] != step.reply {
+                    return Err(End::Trouble(format!("the independent reader breaks {}", self.case)));
+                }
+                reader = outcome.reader;
+            }
+        }
+        Ok(())
+    }
+
+    fn dialogue(&mut self, mut dialogue: Dialogue) -> Result<(), End> {
+        while let Some(request) = dialogue.next() {
+            dialogue.go_on(self.agreed(&request)?);
+        }
+        Ok(())
+    }
+
+    /// The outcome on which both readers agree, in every byte.
+    fn agreed(&mut self, request: &Request) -> Result<Outcome, End> {
+        let paper = request.carried_out();
+        let probe = self.probe.ask(request).map_err(|trouble| {
+            let heading = format!("{trouble}, in {}:", self.case);
+            [vec![heading], report::case(request)].concat().join("\n  ")
+        })?;
+        if probe != paper {
+            return Err(self.disagreement(request, probe));
+        }
+        self.tally.add(request, &paper);
+        Ok(paper)
+    }
+
+    /// Tells of a case on which the readers differ, made small.
+    fn disagreement(&mut self, request: &Request, outcome: Outcome) -> End {
+        let (case, outcome) = shrink::shrink(request.clone(), outcome, |case| self.probe.ask(case));
+        let heading = format!("the two differ in {}, made small:", self.case);
+        let difference = report::difference(&case.carried_out(), &outcome);
+        End::Disagreement([vec![heading], report::case(&case), difference].concat())
+    }
+}

@@ -1,0 +1,489 @@
+//! The reader of document 01, written from that paper alone and in its order.
+
+use std::ops::RangeInclusive;
+
+/// Bytes of a page of templates, of a character buffer and of the notepad.
+pub const PAGE: usize = 512;
+/// The most pages of templates.
+pub const MOST_PAGES: usize = 256;
+/// Bytes of the index.
+pub const INDEX: usize = 32;
+/// Bytes of a page of the notepad.
+pub const NOTE: usize = 32;
+/// The least bytes of reply room.
+pub const ROOM: usize = 700;
+
+pub const LEVELS: RangeInclusive<u8> = 1..=5;
+pub const SIZE_CODES: RangeInclusive<u8> = 0..=2;
+pub const BAUD_FACTORS: RangeInclusive<u8> = 1..=12;
+/// The data bytes that the size codes 0, 1 and 2 mean.
+pub const SIZES: [usize; 3] = [32, 64, 128];
+
+pub const COMMAND: u8 = 1;
+pub const DATA: u8 = 2;
+pub const ACKNOWLEDGE: u8 = 7;
+pub const LAST_DATA: u8 = 8;
+
+pub const STORE: u8 = 0x06;
+pub const LOAD_CHAR: u8 = 0x07;
+pub const UP_CHAR: u8 = 0x08;
+pub const DOWN_CHAR: u8 = 0x09;
+pub const DELET_CHAR: u8 = 0x0C;
+pub const EMPTY: u8 = 0x0D;
+pub const SET_SYS_PARA: u8 = 0x0E;
+pub const READ_SYS_PARA: u8 = 0x0F;
+pub const SET_PWD: u8 = 0x12;
+pub const VFY_PWD: u8 = 0x13;
+pub const SET_ADDER: u8 = 0x15;
+pub const WRITE_NOTEPAD: u8 = 0x18;
+pub const READ_NOTEPAD: u8 = 0x19;
+pub const TEMPLETE_NUM: u8 = 0x1D;
+pub const READ_INDEX_TABLE: u8 = 0x1F;
+pub const HAND_SHAKE: u8 = 0x40;
+pub const COMMANDS: [u8; 16] = [
+    STORE,
+    LOAD_CHAR,
+    UP_CHAR,
+    DOWN_CHAR,
+    DELET_CHAR,
+    EMPTY,
+    SET_SYS_PARA,
+    READ_SYS_PARA,
+    SET_PWD,
+    VFY_PWD,
+    SET_ADDER,
+    WRITE_NOTEPAD,
+    READ_NOTEPAD,
+    TEMPLETE_NUM,
+    READ_INDEX_TABLE,
+    HAND_SHAKE,
+];
+
+#[derive(Clone, Debug, PartialEq, Eq)]
+pub struct Settings {
+    pub password: [u8; 4],
+    pub address: [u8; 4],
+    pub level: u8,
+    pub size_code: u8,
+    pub baud_factor: u8,
+    /// The number of the buffer that a transfer fills, or 0 for no transfer.
+    pub transfer: u8,
+    pub sensor_type: u16,
+    /// The bytes that the transfer got so far.
+    pub got: u16,
+    pub verified: bool,
+    pub filled: [bool; 2],
+}
+
+/// The settings and the lent memory, the reply room apart.
+#[derive(Clone, Debug, PartialEq, Eq)]
+pub struct Reader {
+    pub settings: Settings,
+    pub templates: Vec<u8>,
+    pub index: Vec<u8>,
+    pub notepad: Vec<u8>,
+    pub buffers: [Vec<u8>; 2],
+}
+
+#[derive(Clone, Debug, PartialEq, Eq)]
+pub struct Answer {
+    /// The number of the refusal, or 0.
+    pub refusal: u8,
+    /// The bytes used of the run.
+    pub used: usize,
+    /// The reply's length; 0 is silence.
+    pub length: usize,
+}
+
+/// A call of the reader: deals with at most one packet of the run.
+pub fn call(reader: &mut Reader, run: &[u8], reply_room: &mut [u8]) -> Answer {
+    let refusal = reader.refusal(reply_room.len());
+    if refusal != 0 {
+        return Answer { refusal, used: 0, length: 0 };
+    }
+    let (used, packet) = find(run);
+    let reply = packet.map_or_else(Vec::new, |packet| reader.deal_with(&packet));
+    reply_room[..reply.len()].copy_from_slice(&reply);
+    Answer { refusal: 0, used, length: reply.len() }
+}
+
+/// The line switch: takes any settings and both buffers, and knows only refusal 1.
+pub fn line_switch(reader: &mut Reader) -> Answer {
+    if !reader.buffers_fit() {
+        return Answer { refusal: 1, used: 0, length: 0 };
+    }
+    reader.settings.verified = false;
+    reader.settings.filled = [false; 2];
+    reader.settings.close_transfer();
+    for buffer in &mut reader.buffers {
+        buffer.fill(0);
+    }
+    Answer { refusal: 0, used: 0, length: 0 }
+}
+
+impl Settings {
+    pub fn fresh() -> Settings {
+        Settings {
+            password: [0; 4],
+            address: [0xFF; 4],
+            level: 3,
+            size_code: 1,
+            baud_factor: 6,
+            transfer: 0,
+            sensor_type: 0,
+            got: 0,
+            verified: false,
+            filled: [false; 2],
+        }
+    }
+
+    pub fn locked(&self) -> bool {
+        self.password != [0; 4] && !self.verified
+    }
+
+    /// The data bytes that the size code means; the code is legal.
+    pub fn size(&self) -> usize {
+        SIZES[usize::from(self.size_code)]
+    }
+
+    fn legal(&self) -> bool {
+        LEVELS.contains(&self.level)
+            && SIZE_CODES.contains(&self.size_code)
+            && BAUD_FACTORS.contains(&self.baud_factor)
+            && self.transfer_legal()
+    }
+
+    fn transfer_legal(&self) -> bool {
+        let got = usize::from(self.got);
+        match self.transfer {
+            0 => got == 0,
+            1 | 2 => {
+                let filled = self.filled[usize::from(self.transfer) - 1];
+                got % self.size() == 0 && got < PAGE && !filled && !self.locked()
+            }
+            _ => false,
+        }
+    }
+
+    /// The place of the buffer that an open transfer fills.
+    fn open_transfer(&self) -> Option<usize> {
+        usize::from(self.transfer).checked_sub(1)
+    }
+
+    fn close_transfer(&mut self) {
+        self.transfer = 0;
+        self.got = 0;
+    }
+}
+
+impl Reader {
+    /// C, read off the length of the templates.
+    pub fn capacity(&self) -> usize {
+        self.templates.len() / PAGE
+    }
+
+    pub fn stored(&self, page: usize) -> bool {
+        self.index[page / 8] & bit(page) != 0
+    }
+
+    fn template(&mut self, page: usize) -> &mut [u8] {
+        &mut self.templates[PAGE * page..PAGE * (page + 1)]
+    }
+
+    fn buffers_fit(&self) -> bool {
+        self.buffers.iter().all(|buffer| buffer.len() == PAGE)
+    }
+
+    fn lengths_fit(&self) -> bool {
+        self.templates.len() % PAGE == 0
+            && (1..=MOST_PAGES).contains(&self.capacity())
+            && self.index.len() == INDEX
+            && self.notepad.len() == PAGE
+            && self.buffers_fit()
+    }
+
+    fn refusal(&self, room: usize) -> u8 {
+        if !self.lengths_fit() {
+            1
+        } else if room < ROOM {
+            2
+        } else if !self.settings.legal() || (self.capacity()..MOST_PAGES).any(|page| self.stored(page)) {
+            3
+        } else {
+            0
+        }
+    }
+
+    /// Steps 5 to 7: the reply to a whole packet, empty for silence.
+    fn deal_with(&mut self, packet: &Packet) -> Vec<u8> {
+        if packet.address != self.settings.address || packet.identifier == ACKNOWLEDGE {
+            return Vec::new();
+        }
+        let result = if packet.identifier == COMMAND {
+            self.break_off_transfer();
+            demand(packet.sum_right, 0x01).and_then(|()| self.command(packet.content))
+        } else {
+            self.take_data(packet)
+        };
+        result.unwrap_or_else(|code| self.acknowledge(code, &[]))
+    }
+
+    /// Closes an open transfer and zeroes its buffer.
+    fn break_off_transfer(&mut self) {
+        if let Some(buffer) = self.settings.open_transfer() {
+            self.buffers[buffer].fill(0);
+            self.settings.close_transfer();
+        }
+    }
+
+    /// Step 7: a data packet goes in silently, or breaks off the transfer.
+    fn take_data(&mut self, packet: &Packet) -> Result<Vec<u8>, u8> {
+        if let Some(buffer) = self.settings.open_transfer() {
+            let got = usize::from(self.settings.got);
+            let total = got + packet.content.len();
+            let last = packet.identifier == LAST_DATA;
+            let total_right = if last { total == PAGE } else { total < PAGE };
+            if !packet.sum_right || packet.content.len() != self.settings.size() || !total_right {
+                self.break_off_transfer();
+                return Err(0x0E);
+            }
+            self.buffers[buffer][got..total].copy_from_slice(packet.content);
+            if last {
+                self.settings.filled[buffer] = true;
+                self.settings.close_transfer();
+            } else {
+                self.settings.got = total as u16;
+            }
+        }
+        Ok(Vec::new())
+    }
+
+    /// What comes before a row's own tests: unknown code, wrong length, lock.
+    fn command(&mut self, content: &[u8]) -> Result<Vec<u8>, u8> {
+        let (code, parameters) = (content[0], &content[1..]);
+        let length = length_field(code).ok_or(0x19)?;
+        demand(content.len() + 2 == length, 0x01)?;
+        demand(!self.settings.locked() || code == VFY_PWD || code == HAND_SHAKE, 0x21)?;
+        self.carry_out(code, parameters)
+    }
+
+    /// The rows of the command table: the whole reply, or the code of the first test that failed.
+    fn carry_out(&mut self, code: u8, parameters: &[u8]) -> Result<Vec<u8>, u8> {
+        let mut listed = Vec::new();
+        match code {
+            STORE => {
+                let (buffer, page) = self.buffer_and_page(parameters)?;
+                demand(self.settings.filled[buffer], 0x0C)?;
+                let template = self.buffers[buffer].clone();
+                self.template(page).copy_from_slice(&template);
+                self.index[page / 8] |= bit(page);
+            }
+            LOAD_CHAR => {
+                let (buffer, page) = self.buffer_and_page(parameters)?;
+                demand(self.stored(page), 0x0C)?;
+                self.buffers[buffer] = self.template(page).to_vec();
+                self.settings.filled[buffer] = true;
+            }
+            UP_CHAR => {
+                let buffer = buffer(parameters[0])?;
+                demand(self.settings.filled[buffer], 0x0D)?;
+                return Ok(self.upload(buffer));
+            }
+            DOWN_CHAR => {
+                let buffer = buffer(parameters[0])?;
+                self.buffers[buffer].fill(0);
+                self.settings.filled[buffer] = false;
+                self.settings.transfer = parameters[0];
+                self.settings.got = 0;
+            }
+            DELET_CHAR => {
+                let (page, count) = (number(&parameters[..2]), number(&parameters[2..]));
+                demand(page < self.capacity() && page + count <= self.capacity(), 0x10)?;
+                for page in page..page + count {
+                    self.template(page).fill(0);
+                    self.index[page / 8] &= !bit(page);
+                }
+            }
+            EMPTY => {
+                self.index.fill(0);
+                self.templates.fill(0);
+            }
+            SET_SYS_PARA => {
+                let (range, setting) = match parameters[0] {
+                    4 => (BAUD_FACTORS, &mut self.settings.baud_factor),
+                    5 => (LEVELS, &mut self.settings.level),
+                    6 => (SIZE_CODES, &mut self.settings.size_code),
+                    _ => return Err(0x1A),
+                };
+                demand(range.contains(&parameters[1]), 0x1B)?;
+                *setting = parameters[1];
+            }
+            READ_SYS_PARA => listed = self.system_parameters(),
+            SET_PWD => {
+                self.settings.password.copy_from_slice(parameters);
+                self.settings.verified = false;
+            }
+            VFY_PWD => {
+                self.settings.verified = parameters == self.settings.password;
+                demand(self.settings.verified, 0x13)?;
+            }
+            SET_ADDER => self.settings.address.copy_from_slice(parameters),
+            WRITE_NOTEPAD => {
+                let place = note(parameters[0])?;
+                self.notepad[place..place + NOTE].copy_from_slice(&parameters[1..]);
+            }
+            READ_NOTEPAD => {
+                let place = note(parameters[0])?;
+                listed = self.notepad[place..place + NOTE].to_vec();
+            }
+            TEMPLETE_NUM => {
+                let count = (0..self.capacity()).filter(|&page| self.stored(page)).count();
+                listed = two_bytes(count).to_vec();
+            }
+            READ_INDEX_TABLE => {
+                demand(parameters[0] == 0, 0x0B)?;
+                listed = self.index.clone();
+            }
+            _ => {} // HandShake
+        }
+        Ok(self.acknowledge(0x00, &listed))
+    }
+
+    /// The first two tests of Store and LoadChar.
+    fn buffer_and_page(&self, parameters: &[u8]) -> Result<(usize, usize), u8> {
+        let buffer = buffer(parameters[0])?;
+        let page = number(&parameters[1..]);
+        demand(page < self.capacity(), 0x0B)?;
+        Ok((buffer, page))
+    }
+
+    fn system_parameters(&self) -> Vec<u8> {
+        let settings = &self.settings;
+        let status = if settings.verified { 4 } else { 0 };
+        let mut listed = Vec::new();
+        listed.extend(two_bytes(status));
+        listed.extend(settings.sensor_type.to_be_bytes());
+        listed.extend(two_bytes(self.capacity()));
+        listed.extend(two_bytes(settings.level.into()));
+        listed.extend(settings.address);
+        listed.extend(two_bytes(settings.size_code.into()));
+        listed.extend(two_bytes(settings.baud_factor.into()));
+        listed
+    }
+
+    fn acknowledge(&self, code: u8, listed: &[u8]) -> Vec<u8> {
+        packet(self.settings.address, ACKNOWLEDGE, &[&[code], listed].concat())
+    }
+
+    /// The reply of UpChar, then the buffer in data packets of one size, the last with 8 and the others with 2.
+    fn upload(&self, buffer: usize) -> Vec<u8> {
+        let size = self.settings.size();
+        let mut reply = self.acknowledge(0x00, &[]);
+        for (place, data) in self.buffers[buffer].chunks(size).enumerate() {
+            let identifier = if (place + 1) * size == PAGE { LAST_DATA } else { DATA };
+            reply.extend(packet(self.settings.address, identifier, data));
+        }
+        reply
+    }
+}
+
+/// A whole packet that was found in a run.
+pub struct Packet<'a> {
+    pub address: [u8; 4],
+    pub identifier: u8,
+    pub content: &'a [u8],
+    pub sum_right: bool,
+}
+
+/// Steps 1 to 4: the bytes used, and the packet if there is a whole one.
+pub fn find(run: &[u8]) -> (usize, Option<Packet<'_>>) {
+    let p = match run.windows(2).position(|pair| pair == [0xEF, 0x01]) {
+        Some(p) => p,
+        None => return (run.len() - usize::from(run.ends_with(&[0xEF])), None),
+    };
+    let bytes = &run[p..];
+    if bytes.len() < 9 {
+        return (p, None);
+    }
+    let identifier = bytes[6];
+    let length = number(&bytes[7..9]);
+    if ![COMMAND, DATA, ACKNOWLEDGE, LAST_DATA].contains(&identifier) || !(3..=256).contains(&length) {
+        return (p + 2, None);
+    }
+    let end = 9 + length;
+    if bytes.len() < end {
+        return (p, None);
+    }
+    let packet = Packet {
+        address: [bytes[2], bytes[3], bytes[4], bytes[5]],
+        identifier,
+        content: &bytes[9..end - 2],
+        sum_right: number(&bytes[end - 2..end]) == sum(&bytes[6..end - 2]),
+    };
+    (p + end, Some(packet))
+}
+
+/// The bytes of a packet.
+pub fn packet(address: [u8; 4], identifier: u8, content: &[u8]) -> Vec<u8> {
+    let mut bytes = vec![0xEF, 0x01];
+    bytes.extend(address);
+    bytes.push(identifier);
+    bytes.extend(two_bytes(content.len() + 2));
+    bytes.extend(content);
+    bytes.extend(two_bytes(sum(&bytes[6..])));
+    bytes
+}
+
+/// The length field that a command code fixes; none if the code is unknown.
+fn length_field(code: u8) -> Option<usize> {
+    match code {
+        EMPTY | READ_SYS_PARA | TEMPLETE_NUM | HAND_SHAKE => Some(3),
+        UP_CHAR | DOWN_CHAR | READ_NOTEPAD | READ_INDEX_TABLE => Some(4),
+        SET_SYS_PARA => Some(5),
+        STORE | LOAD_CHAR => Some(6),
+        DELET_CHAR | SET_PWD | VFY_PWD | SET_ADDER => Some(7),
+        WRITE_NOTEPAD => Some(36),
+        _ => None,
+    }
+}
+
+/// A test of a command: the code if it fails.
+fn demand(passed: bool, code: u8) -> Result<(), u8> {
+    if passed {
+        Ok(())
+    } else {
+        Err(code)
+    }
+}
+
+/// The place of the buffer with this number.
+fn buffer(number: u8) -> Result<usize, u8> {
+    demand(number == 1 || number == 2, 0x01)?;
+    Ok(usize::from(number) - 1)
+}
+
+/// Where this page of the notepad starts.
+fn note(page: u8) -> Result<usize, u8> {
+    demand(page <= 15, 0x1C)?;
+    Ok(usize::from(page) * NOTE)
+}
+
+/// The bit of a page in its byte of the index.
+fn bit(page: usize) -> u8 {
+    1 << (page % 8)
+}
+
+/// All bytes added, modulo 65536.
+fn sum(bytes: &[u8]) -> usize {
+    bytes.iter().map(|&byte| usize::from(byte)).sum::<usize>() % 65536
+}
+
+/// Bytes as a number, high byte first.
+fn number(bytes: &[u8]) -> usize {
+    bytes.iter().fold(0, |number, &byte| number * 256 + usize::from(byte))
+}
+
+/// A number below 65536 as two bytes, high byte first.
+fn two_bytes(number: usize) -> [u8; 2] {
+    (number as u16).to_be_bytes()
+}

@@ -1,0 +1,161 @@
+//! Readers by chance, legal and not.
+
+use crate::chance::Chance;
+use crate::reader::*;
+use std::ops::RangeInclusive;
+
+/// C: mostly small, at times beside a multiple of 8, anywhere, or at the end.
+pub fn capacity(chance: &mut Chance) -> usize {
+    match chance.below(100) {
+        0..=79 => chance.within(1, 12),
+        80..=95 => 8 * chance.within(1, 5) + chance.below(3) - 1,
+        96..=97 => chance.within(1, MOST_PAGES),
+        _ => MOST_PAGES - chance.below(2),
+    }
+}
+
+/// Fresh settings and zeroed memory.
+pub fn fresh_reader(capacity: usize) -> Reader {
+    Reader {
+        settings: Settings::fresh(),
+        templates: vec![0; PAGE * capacity],
+        index: vec![0; INDEX],
+        notepad: vec![0; PAGE],
+        buffers: [vec![0; PAGE], vec![0; PAGE]],
+    }
+}
+
+pub fn legal_reader(chance: &mut Chance, capacity: usize) -> Reader {
+    let mut index = vec![0; INDEX];
+    let share = if capacity == MOST_PAGES { 100 - chance.below(2) } else { chance.pick(&[0, 20, 50, 80, 100]) };
+    for page in 0..capacity {
+        index[page / 8] |= u8::from(chance.percent(share)) << (page % 8);
+    }
+    Reader {
+        settings: legal_settings(chance),
+        templates: memory(chance, PAGE * capacity),
+        index,
+        notepad: memory(chance, PAGE),
+        buffers: [memory(chance, PAGE), memory(chance, PAGE)],
+    }
+}
+
+fn memory(chance: &mut Chance, length: usize) -> Vec<u8> {
+    if chance.percent(90) {
+        chance.bytes(length)
+    } else {
+        vec![chance.pick(&[0, 0x01, 0xEF, 0xFF]); length]
+    }
+}
+
+fn legal_settings(chance: &mut Chance) -> Settings {
+    let mut settings = Settings {
+        password: password(chance),
+        address: address(chance),
+        level: within(chance, LEVELS),
+        size_code: within(chance, SIZE_CODES),
+        baud_factor: within(chance, BAUD_FACTORS),
+        transfer: 0,
+        sensor_type: chance.pick(&[0, 1, 0x00FF, 0x1234, 0xFFFF]),
+        got: 0,
+        verified: chance.percent(50),
+        filled: [chance.percent(60), chance.percent(60)],
+    };
+    if !settings.locked() && chance.percent(40) {
+        open_transfer(chance, &mut settings);
+    }
+    settings
+}
+
+/// A transfer that is legal if the reader is not locked.
+fn open_transfer(chance: &mut Chance, settings: &mut Settings) {
+    let size = size(settings);
+    let parts = PAGE / size;
+    let part = if chance.percent(30) { parts - 1 } else { chance.below(parts) };
+    settings.transfer = chance.pick(&[1, 2]);
+    settings.got = (part * size) as u16;
+    settings.filled[usize::from(settings.transfer) - 1] = false;
+}
+
+fn within(chance: &mut Chance, range: RangeInclusive<u8>) -> u8 {
+    chance.within((*range.start()).into(), (*range.end()).into()) as u8
+}
+
+pub fn password(chance: &mut Chance) -> [u8; 4] {
+    match chance.below(10) {
+        0..=4 => [0; 4],
+        5..=7 => [0, 0, 0, chance.byte()],
+        8 => [chance.byte(), 0, 0, 0],
+        _ => chance.four(),
+    }
+}
+
+pub fn address(chance: &mut Chance) -> [u8; 4] {
+    match chance.below(10) {
+        0..=4 => [0xFF; 4],
+        5 => [0; 4],
+        6 => [0xEF, 0x01, 0xEF, 0x01],
+        _ => chance.four(),
+    }
+}
+
+/// The size, whether the size code is legal or not.
+pub fn size(settings: &Settings) -> usize {
+    SIZES[usize::from(settings.size_code) % SIZES.len()]
+}
+
+/// Makes something wrong that a refusal is for.
+pub fn spoil(chance: &mut Chance, reader: &mut Reader, room: &mut usize) {
+    let settings = &mut reader.settings;
+    match chance.below(16) {
+        0 | 1 => {
+            let length = reader.templates.len().clamp(1, PAGE * MOST_PAGES);
+            let far = if chance.percent(10) { PAGE * (MOST_PAGES + 1) } else { 0 };
+            resize(chance, &mut reader.templates, &[1, PAGE - 1, length - 1, length + 1, length + PAGE / 2, far]);
+        }
+        2 => resize(chance, &mut reader.index, &[0, INDEX - 1, INDEX + 1, 2 * INDEX]),
+        3 => resize(chance, &mut reader.notepad, &[0, PAGE - 1, PAGE + 1, 2 * PAGE]),
+        4 | 5 => {
+            let buffer = chance.below(2);
+            resize(chance, &mut reader.buffers[buffer], &[0, PAGE - 1, PAGE + 1, 2 * PAGE]);
+        }
+        6 | 7 => *room = chance.pick(&[0, 1, 11, 12, 13, ROOM / 2, ROOM - 1]),
+        8 => settings.level = chance.pick(&[0, 6, 255]),
+        9 => settings.size_code = chance.pick(&[3, 255]),
+        10 => settings.baud_factor = chance.pick(&[0, 13, 255]),
+        11 => settings.transfer = chance.pick(&[3, 255]),
+        12 => {
+            settings.transfer = 0;
+            settings.got = chance.pick(&[1, 32, 64, 511, 512, 0xFFFF]);
+        }
+        13 => {
+            open_transfer(chance, settings);
+            settings.got = chance.pick(&[512, 512, 512, 1, 31, 33, 96, 511, 640, 0xFF80, 0xFFFF]);
+        }
+        14 => {
+            open_transfer(chance, settings);
+            if chance.percent(50) {
+                settings.filled[usize::from(settings.transfer) - 1] = true;
+            } else {
+                settings.password = [0, chance.byte(), 0, 1];
+                settings.verified = false;
+            }
+        }
+        _ => {
+            let (first, end) = (reader.capacity(), 8 * reader.index.len());
+            if first < end {
+                let any = chance.within(first, end - 1);
+                let page = chance.pick(&[first, any, end - 1]);
+                reader.index[page / 8] |= 1 << (page % 8);
+            }
+        }
+    }
+}
+
+/// Gives a memory one of these lengths, with bytes by chance where it grows.
+fn resize(chance: &mut Chance, memory: &mut Vec<u8>, lengths: &[usize]) {
+    let length = chance.pick(lengths);
+    let more = chance.bytes(length.saturating_sub(memory.len()));
+    memory.truncate(length);
+    memory.extend(more);
+}

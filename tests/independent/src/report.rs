@@ -1,0 +1,118 @@
+//! Tells readably what a case is and where two readers differ.
+
+use crate::frame::{Outcome, Request};
+use crate::reader::Settings;
+
+/// The case in lines.
+pub fn case(request: &Request) -> Vec<String> {
+    let reader = &request.reader;
+    let fields: Vec<String> =
+        settings(&reader.settings).iter().map(|(name, value)| format!("{name} {value}")).collect();
+    let mut lines = vec![
+        if request.line_switch { "a line switch".into() } else { "a call of the reader".into() },
+        fields[..5].join(", "),
+        fields[5..].join(", "),
+        format!("C = {}, {}", reader.capacity(), memory("templates", &reader.templates)),
+    ];
+    lines.push(memory("index", &reader.index));
+    lines.push(memory("notepad", &reader.notepad));
+    lines.push(memory("buffer 1", &reader.buffers[0]));
+    lines.push(memory("buffer 2", &reader.buffers[1]));
+    lines.push(memory("reply room", &request.room));
+    lines.push(format!("run of {} bytes: {}", request.run.len(), hex(&request.run)));
+    lines
+}
+
+/// Each field that differs, and both answers, in lines.
+pub fn difference(paper: &Outcome, probe: &Outcome) -> Vec<String> {
+    let mut lines = Vec::new();
+    for ((name, paper), (_, probe)) in fields(paper).iter().zip(fields(probe)) {
+        if *paper != probe {
+            lines.push(format!("differs: {name}: paper {paper}, probe {probe}"));
+        }
+    }
+    for ((name, paper), (_, probe)) in memories(paper).iter().zip(memories(probe)) {
+        let places: Vec<usize> = (0..paper.len()).filter(|&place| paper[place] != probe[place]).collect();
+        if let Some(&first) = places.first() {
+            let (count, paper, probe) = (places.len(), paper[first], probe[first]);
+            lines.push(format!(
+                "differs: {name}: {count} bytes, first at {first}: paper {paper:02X}, probe {probe:02X}"
+            ));
+        }
+    }
+    lines.push(format!("paper: {}", answer(paper)));
+    lines.push(format!("probe: {}", answer(probe)));
+    lines
+}
+
+fn fields(outcome: &Outcome) -> Vec<(&'static str, String)> {
+    let answer = &outcome.answer;
+    let mut fields = vec![
+        ("refusal", answer.refusal.to_string()),
+        ("bytes used", answer.used.to_string()),
+        ("reply length", answer.length.to_string()),
+    ];
+    fields.extend(settings(&outcome.reader.settings));
+    fields
+}
+
+fn settings(settings: &Settings) -> [(&'static str, String); 10] {
+    let mark = |set| if set { "set" } else { "clear" }.to_string();
+    let transfer = match (settings.transfer, settings.got) {
+        (0, 0) => "none".to_string(),
+        (buffer, got) => format!("of buffer {buffer} with {got} bytes got"),
+    };
+    [
+        ("password", hex(&settings.password)),
+        ("address", hex(&settings.address)),
+        ("level", settings.level.to_string()),
+        ("size code", settings.size_code.to_string()),
+        ("baud factor", settings.baud_factor.to_string()),
+        ("type", settings.sensor_type.to_string()),
+        ("verified", mark(settings.verified)),
+        ("filled 1", mark(settings.filled[0])),
+        ("filled 2", mark(settings.filled[1])),
+        ("transfer", transfer),
+    ]
+}
+
+fn memories(outcome: &Outcome) -> [(&'static str, &[u8]); 6] {
+    let reader = &outcome.reader;
+    [
+        ("templates", &reader.templates),
+        ("index", &reader.index),
+        ("notepad", &reader.notepad),
+        ("buffer 1", &reader.buffers[0]),
+        ("buffer 2", &reader.buffers[1]),
+        ("reply room", &outcome.room),
+    ]
+}
+
+fn answer(outcome: &Outcome) -> String {
+    let answer = &outcome.answer;
+    let reply = match outcome.room.get(..answer.length) {
+        Some([]) => "silent".into(),
+        Some(reply) => format!("reply {}", hex(reply)),
+        None => format!("reply of {} bytes, more than the room", answer.length),
+    };
+    format!("refusal {}, used {}, {reply}", answer.refusal, answer.used)
+}
+
+/// The length of a memory, and the first of its bytes that are not zero.
+fn memory(name: &str, bytes: &[u8]) -> String {
+    const SHOWN: usize = 16;
+    let length = bytes.len();
+    match bytes.iter().position(|&byte| byte != 0) {
+        None => format!("{name} of {length} bytes: zero"),
+        Some(first) => {
+            let shown = &bytes[first..length.min(first + SHOWN)];
+            let more = bytes[first + shown.len()..].iter().filter(|&&byte| byte != 0).count();
+            format!("{name} of {length} bytes: from {first} {}, and {more} more not zero", hex(shown))
+        }
+    }
+}
+
+fn hex(bytes: &[u8]) -> String {
+    let bytes: Vec<String> = bytes.iter().map(|byte| format!("{byte:02X}")).collect();
+    bytes.join(" ")
+}

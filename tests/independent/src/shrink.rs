@@ -1,0 +1,165 @@
+//! Makes a case on which two readers differ small, as long as they still differ.
+
+use crate::frame::{Outcome, Request};
+use crate::reader::*;
+
+/// The most cases that are tried.
+const TRIES: usize = 4000;
+
+/// Sets one field of the settings to its fresh value.
+type Freshen = fn(&mut Settings, Settings);
+
+const FIELDS: [Freshen; 9] = [
+    |settings, fresh| settings.password = fresh.password,
+    |settings, fresh| settings.address = fresh.address,
+    |settings, fresh| settings.level = fresh.level,
+    |settings, fresh| settings.size_code = fresh.size_code,
+    |settings, fresh| settings.baud_factor = fresh.baud_factor,
+    |settings, fresh| settings.sensor_type = fresh.sensor_type,
+    |settings, fresh| settings.verified = fresh.verified,
+    |settings, fresh| settings.filled = fresh.filled,
+    |settings, fresh| {
+        settings.transfer = fresh.transfer;
+        settings.got = fresh.got;
+    },
+];
+
+/// The memories by number: templates, index, notepad, buffers 1 and 2, reply room.
+const MEMORIES: usize = 6;
+
+struct Shrinker<F> {
+    case: Request,
+    /// What the other reader makes of the case.
+    outcome: Outcome,
+    /// Asks the other reader.
+    ask: F,
+    tries: usize,
+}
+
+/// A smaller case on which the readers differ, and what the other reader makes of it.
+pub fn shrink(
+    case: Request,
+    outcome: Outcome,
+    ask: impl FnMut(&Request) -> Result<Outcome, String>,
+) -> (Request, Outcome) {
+    let mut shrinker = Shrinker { case, outcome, ask, tries: TRIES };
+    loop {
+        let before = shrinker.case.clone();
+        shrinker.shorten_run();
+        shrinker.reduce_capacity();
+        shrinker.freshen_settings();
+        for memory in 0..MEMORIES {
+            shrinker.right_length(memory);
+            shrinker.zero(memory);
+        }
+        if shrinker.case == before {
+            return (shrinker.case, shrinker.outcome);
+        }
+    }
+}
+
+impl<F: FnMut(&Request) -> Result<Outcome, String>> Shrinker<F> {
+    /// Keeps the change if the readers still differ; once the other reader fails no more is tried.
+    fn attempt(&mut self, change: impl FnOnce(&mut Request)) -> bool {
+        let mut smaller = self.case.clone();
+        change(&mut smaller);
+        if smaller == self.case || self.tries == 0 {
+            return false;
+        }
+        self.tries -= 1;
+        let outcome = match (self.ask)(&smaller) {
+            Ok(outcome) => outcome,
+            Err(_) => {
+                self.tries = 0;
+                return false;
+            }
+        };
+        let kept = outcome != smaller.carried_out();
+        if kept {
+            self.case = smaller;
+            self.outcome = outcome;
+        }
+        kept
+    }
+
+    fn shorten_run(&mut self) {
+        let mut piece = self.case.run.len();
+        while piece > 0 {
+            let mut start = 0;
+            while start < self.case.run.len() {
+                let end = self.case.run.len().min(start + piece);
+                if !self.attempt(|case| drop(case.run.drain(start..end))) {
+                    start = end;
+                }
+            }
+            piece /= 2;
+        }
+    }
+
+    fn reduce_capacity(&mut self) {
+        let capacity = self.case.reader.capacity();
+        for pages in 1..capacity {
+            let smaller = |case: &mut Request| {
+                case.reader.templates.truncate(PAGE * pages);
+                for page in pages..capacity {
+                    if let Some(byte) = case.reader.index.get_mut(page / 8) {
+                        *byte &= !(1 << (page % 8));
+                    }
+                }
+            };
+            if self.attempt(smaller) {
+                break;
+            }
+        }
+    }
+
+    fn freshen_settings(&mut self) {
+        self.attempt(readdress);
+        for freshen in FIELDS {
+            self.attempt(|case| freshen(&mut case.reader.settings, Settings::fresh()));
+        }
+    }
+
+    fn right_length(&mut self, which: usize) {
+        let lengths = [PAGE * self.case.reader.capacity().max(1), INDEX, PAGE, PAGE, PAGE, ROOM];
+        self.attempt(|case| memory(case, which).resize(lengths[which], 0));
+    }
+
+    /// Zeroes a memory, or those parts of it that do not matter.
+    fn zero(&mut self, which: usize) {
+        let length = memory(&mut self.case, which).len();
+        let least = (length / 64).max(1);
+        let mut piece = length;
+        while piece >= least {
+            for start in (0..length).step_by(piece) {
+                let end = length.min(start + piece);
+                self.attempt(|case| memory(case, which)[start..end].fill(0));
+            }
+            piece /= 2;
+        }
+    }
+}
+
+/// Gives the reader the fresh address, and the packets in the run with it.
+fn readdress(case: &mut Request) {
+    let old = case.reader.settings.address;
+    let new = Settings::fresh().address;
+    case.reader.settings.address = new;
+    for place in 2..case.run.len().saturating_sub(3) {
+        if case.run[place..].starts_with(&old) && case.run[..place].ends_with(&[0xEF, 0x01]) {
+            case.run[place..place + 4].copy_from_slice(&new);
+        }
+    }
+}
+
+fn memory(case: &mut Request, which: usize) -> &mut Vec<u8> {
+    let Reader { templates, index, notepad, buffers: [one, two], .. } = &mut case.reader;
+    match which {
+        0 => templates,
+        1 => index,
+        2 => notepad,
+        3 => one,
+        4 => two,
+        _ => &mut case.room,
+    }
+}
