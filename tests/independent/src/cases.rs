@@ -175,6 +175,7 @@ impl Author<'_> {
         self.packet(COMMAND, &content)
     }
 
+    /// The content of a command.
     fn content(&mut self, code: u8) -> Vec<u8> {
         let mut content = vec![code];
         match code {
@@ -368,7 +369,7 @@ impl Author<'_> {
             parts.push(self.packet(if got < PAGE { DATA } else { LAST_DATA }, &data));
         }
         let fault = self.chance.percent(50) && !parts.is_empty();
-        let mut scene: Vec<Event> = start.into_iter().map(Event::Bytes).collect();
+        let mut scene = bytes_events(start);
         scene.extend(if fault { self.spoiled_parts(parts, size) } else { bytes_events(parts) });
         if self.chance.percent(40) {
             scene.push(Event::Bytes(self.packet(COMMAND, &[UP_CHAR, buffer])));

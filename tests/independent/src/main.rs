@@ -26,7 +26,7 @@ const USAGE: &str = "usage: independent [--cases N] [--seed S] [--quiet] -- PROG
        independent --errors            list the deliberate errors";
 
 const DEFAULT_CASES: u64 = 10_000;
-/// So many cases or more must reach everything that is counted.
+/// So many cases or more must reach all that is counted; the examples do not count.
 const COVERING_CASES: u64 = 1000;
 /// One case in so many is a dialogue, the others are single readers.
 const DIALOGUE_EVERY: u64 = 4;
@@ -138,6 +138,7 @@ fn compare(options: Options) -> Result<(), End> {
         case: String::new(),
     };
     comparer.examples()?;
+    comparer.tally = Tally::default();
     let mut told = Instant::now();
     for case in 0..options.cases {
         comparer.case = format!("case {case} of seed {}", options.seed);

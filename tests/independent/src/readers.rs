@@ -9,8 +9,8 @@ pub fn capacity(chance: &mut Chance) -> usize {
     match chance.below(100) {
         0..=79 => chance.within(1, 12),
         80..=95 => 8 * chance.within(1, 5) + chance.below(3) - 1,
-        96..=97 => chance.within(1, MOST_PAGES),
-        _ => MOST_PAGES - chance.below(2),
+        96 => chance.within(1, MOST_PAGES),
+        _ => chance.pick(&[MOST_PAGES, MOST_PAGES, MOST_PAGES - 1]),
     }
 }
 
@@ -27,7 +27,7 @@ pub fn fresh_reader(capacity: usize) -> Reader {
 
 pub fn legal_reader(chance: &mut Chance, capacity: usize) -> Reader {
     let mut index = vec![0; INDEX];
-    let share = if capacity == MOST_PAGES { 100 - chance.below(2) } else { chance.pick(&[0, 20, 50, 80, 100]) };
+    let share = if capacity == MOST_PAGES { 100 } else { chance.pick(&[0, 20, 50, 80, 100]) };
     for page in 0..capacity {
         index[page / 8] |= u8::from(chance.percent(share)) << (page % 8);
     }
@@ -119,7 +119,10 @@ pub fn spoil(chance: &mut Chance, reader: &mut Reader, room: &mut usize) {
             let buffer = chance.below(2);
             resize(chance, &mut reader.buffers[buffer], &[0, PAGE - 1, PAGE + 1, 2 * PAGE]);
         }
-        6 | 7 => *room = chance.pick(&[0, 1, 11, 12, 13, ROOM / 2, ROOM - 1]),
+        6 | 7 => {
+            let any = chance.below(ROOM);
+            *room = chance.pick(&[0, any, ROOM - 1]);
+        }
         8 => settings.level = chance.pick(&[0, 6, 255]),
         9 => settings.size_code = chance.pick(&[3, 255]),
         10 => settings.baud_factor = chance.pick(&[0, 13, 255]),

@@ -73,9 +73,9 @@ impl Tally {
     /// A line for each kind.
     pub fn lines(&self) -> Vec<String> {
         let each = |(place, kind): (usize, &Kind)| {
-            let one = |&which: &u8| format!("{} {}", kind.label(which), self.number(place, which));
+            let one = |&which: &u8| format!("{}={}", kind.label(which), self.number(place, which));
             let counts: Vec<String> = kind.awaited.iter().map(one).collect();
-            format!("{}: {}", kind.name, counts.join(", "))
+            format!("{}: {}", kind.name, counts.join(" "))
         };
         KINDS.iter().enumerate().map(each).collect()
     }
@@ -103,7 +103,7 @@ impl Kind {
         if self.codes {
             format!("{which:02X}h")
         } else {
-            format!("{which}:")
+            which.to_string()
         }
     }
 }

@@ -209,7 +209,7 @@ fn foreign_ends_transfer(request: &Request) -> Outcome {
     outcome
 }
 
-/// A lone EF at the end of a run is used.
+/// A run that ends in EF is used whole.
 fn eats_last_ef(request: &Request) -> Outcome {
     let mut outcome = request.carried_out();
     if outcome.answer.refusal == 0 && !request.line_switch && request.run.ends_with(&[0xEF]) {

@@ -1,0 +1,308 @@
+-- Every length that is asked for is at most that of the memory here.
+use mathlib.Core.Path.{sym}
+use native.Mathlib.Omega.{arith}
+use lib.Seq.{length-take-le}
+use denote.Ref.{now}
+use borrow.Author.Needs.{needs}
+use Rattle.probe.proofs.answer.Statement.{statement}
+use Rattle.probe.proofs.answer.Tie as tie
+use Rattle.probe.proofs.answer.Reads as reads
+use Rattle.probe.proofs.answer.Lts as lts
+use Rattle.io.proofs.read_full.Reads as read-full-reads
+use Rattle.probe.proofs.complain.Reads as complain-reads
+use Rattle.probe.proofs.exchange.Reads as exchange-reads
+use Rattle.probe.proofs.frame.length_at.Reads as length-at-reads
+use Rattle.probe.proofs.frame.settings_of.Reads as settings-of-reads
+
+read-full-requires : tie.Need-read-full-requires
+read-full-requires c κs = search needs
+
+same-length : tie.Need-same-length
+same-length c = search needs
+
+returns : tie.Need-returns
+returns c = search needs
+
+slice-aggregate-complain : tie.Need-slice-aggregate-complain
+slice-aggregate-complain c = search needs
+
+complain-requires : tie.Need-complain-requires
+complain-requires c κs = search needs
+
+same-length-2 : tie.Need-same-length-2
+same-length-2 c = search needs
+
+returns-2 : tie.Need-returns-2
+returns-2 c = search needs
+
+slice-read-op : tie.Need-slice-read-op
+slice-read-op c = search needs
+
+slice-aggregate-complain-2 : tie.Need-slice-aggregate-complain-2
+slice-aggregate-complain-2 c = search needs
+
+complain-requires-2 : tie.Need-complain-requires-2
+complain-requires-2 c κs = search needs
+
+same-length-3 : tie.Need-same-length-3
+same-length-3 c = search needs
+
+returns-3 : tie.Need-returns-3
+returns-3 c = search needs
+
+length-at-requires : tie.Need-length-at-requires
+length-at-requires c κs = search needs
+
+length-at-requires-2 : tie.Need-length-at-requires-2
+length-at-requires-2 c κs = search needs
+
+length-at-requires-3 : tie.Need-length-at-requires-3
+length-at-requires-3 c κs = search needs
+
+length-at-requires-4 : tie.Need-length-at-requires-4
+length-at-requires-4 c κs = search needs
+
+length-at-requires-5 : tie.Need-length-at-requires-5
+length-at-requires-5 c κs = search needs
+
+length-at-requires-6 : tie.Need-length-at-requires-6
+length-at-requires-6 c κs = search needs
+
+length-at-requires-7 : tie.Need-length-at-requires-7
+length-at-requires-7 c κs = search needs
+
+slice-aggregate-complain-3 : tie.Need-slice-aggregate-complain-3
+slice-aggregate-complain-3 c = search needs
+
+complain-requires-3 : tie.Need-complain-requires-3
+complain-requires-3 c κs = search needs
+
+same-length-4 : tie.Need-same-length-4
+same-length-4 c = search needs
+
+returns-4 : tie.Need-returns-4
+returns-4 c = search needs
+
+slice-aggregate-complain-4 : tie.Need-slice-aggregate-complain-4
+slice-aggregate-complain-4 c = search needs
+
+complain-requires-4 : tie.Need-complain-requires-4
+complain-requires-4 c κs = search needs
+
+same-length-5 : tie.Need-same-length-5
+same-length-5 c = search needs
+
+returns-5 : tie.Need-returns-5
+returns-5 c = search needs
+
+slice-aggregate-complain-5 : tie.Need-slice-aggregate-complain-5
+slice-aggregate-complain-5 c = search needs
+
+complain-requires-5 : tie.Need-complain-requires-5
+complain-requires-5 c κs = search needs
+
+same-length-6 : tie.Need-same-length-6
+same-length-6 c = search needs
+
+returns-6 : tie.Need-returns-6
+returns-6 c = search needs
+
+slice-aggregate-complain-6 : tie.Need-slice-aggregate-complain-6
+slice-aggregate-complain-6 c = search needs
+
+complain-requires-6 : tie.Need-complain-requires-6
+complain-requires-6 c κs = search needs
+
+same-length-7 : tie.Need-same-length-7
+same-length-7 c = search needs
+
+returns-7 : tie.Need-returns-7
+returns-7 c = search needs
+
+slice-aggregate-complain-7 : tie.Need-slice-aggregate-complain-7
+slice-aggregate-complain-7 c = search needs
+
+complain-requires-7 : tie.Need-complain-requires-7
+complain-requires-7 c κs = search needs
+
+same-length-8 : tie.Need-same-length-8
+same-length-8 c = search needs
+
+returns-8 : tie.Need-returns-8
+returns-8 c = search needs
+
+slice-aggregate-complain-8 : tie.Need-slice-aggregate-complain-8
+slice-aggregate-complain-8 c = search needs
+
+complain-requires-8 : tie.Need-complain-requires-8
+complain-requires-8 c κs = search needs
+
+same-length-9 : tie.Need-same-length-9
+same-length-9 c = search needs
+
+returns-9 : tie.Need-returns-9
+returns-9 c = search needs
+
+slice-aggregate-complain-9 : tie.Need-slice-aggregate-complain-9
+slice-aggregate-complain-9 c = search needs
+
+complain-requires-9 : tie.Need-complain-requires-9
+complain-requires-9 c κs = search needs
+
+same-length-10 : tie.Need-same-length-10
+same-length-10 c = search needs
+
+returns-10 : tie.Need-returns-10
+returns-10 c = search needs
+
+settings-of-requires : tie.Need-settings-of-requires
+settings-of-requires c κs = search needs
+
+slice-relend-prefix-exchange : tie.Need-slice-relend-prefix-exchange
+slice-relend-prefix-exchange c = search needs
+
+slice-aggregate-exchange : tie.Need-slice-aggregate-exchange
+slice-aggregate-exchange c = sym (length-take-le (c .before .before .before .before .before .before .before .before .before .before .before .before .before .before .before .before .before .before .before .before .before .before .length-at .result) (now (c .before .before .before .before .before .before .before .before .before .before .before .before .before .before .before .before .before .before .before .before .before .before .before .before .before .before .before .before .before .before .before .before .before .before .before .before .before .before .before .before .args .templates)) (omega (arith, c .before .before .before .before .before .before .before .before .before .if4 .left)))
+
+slice-relend-prefix-exchange-2 : tie.Need-slice-relend-prefix-exchange-2
+slice-relend-prefix-exchange-2 c = search needs
+
+slice-aggregate-exchange-2 : tie.Need-slice-aggregate-exchange-2
+slice-aggregate-exchange-2 c = sym (length-take-le (c .before .before .before .before .before .before .before .before .before .before .before .before .before .before .before .before .before .before .before .before .before .length-at2 .result) (now (c .before .before .before .before .before .before .before .before .before .before .before .before .before .before .before .before .before .before .before .before .before .before .before .before .before .before .before .before .before .before .before .before .before .before .before .before .before .before .before .before .before .args .index)) (omega (arith, c .before .before .before .before .before .before .before .before .before .if5 .left)))
+
+slice-relend-prefix-exchange-3 : tie.Need-slice-relend-prefix-exchange-3
+slice-relend-prefix-exchange-3 c = search needs
+
+slice-aggregate-exchange-3 : tie.Need-slice-aggregate-exchange-3
+slice-aggregate-exchange-3 c = sym (length-take-le (c .before .before .before .before .before .before .before .before .before .before .before .before .before .before .before .before .before .before .before .before .length-at3 .result) (now (c .before .before .before .before .before .before .before .before .before .before .before .before .before .before .before .before .before .before .before .before .before .before .before .before .before .before .before .before .before .before .before .before .before .before .before .before .before .before .before .before .before .before .args .notepad)) (omega (arith, c .before .before .before .before .before .before .before .before .before .if6 .left)))
+
+slice-relend-prefix-exchange-4 : tie.Need-slice-relend-prefix-exchange-4
+slice-relend-prefix-exchange-4 c = search needs
+
+slice-aggregate-exchange-4 : tie.Need-slice-aggregate-exchange-4
+slice-aggregate-exchange-4 c = sym (length-take-le (c .before .before .before .before .before .before .before .before .before .before .before .before .before .before .before .before .before .before .before .length-at4 .result) (now (c .before .before .before .before .before .before .before .before .before .before .before .before .before .before .before .before .before .before .before .before .before .before .before .before .before .before .before .before .before .before .before .before .before .before .before .before .before .before .before .before .before .before .before .args .buffer1)) (omega (arith, c .before .before .before .before .before .before .before .before .before .if7 .left)))
+
+slice-relend-prefix-exchange-5 : tie.Need-slice-relend-prefix-exchange-5
+slice-relend-prefix-exchange-5 c = search needs
+
+slice-aggregate-exchange-5 : tie.Need-slice-aggregate-exchange-5
+slice-aggregate-exchange-5 c = sym (length-take-le (c .before .before .before .before .before .before .before .before .before .before .before .before .before .before .before .before .before .before .length-at5 .result) (now (c .before .before .before .before .before .before .before .before .before .before .before .before .before .before .before .before .before .before .before .before .before .before .before .before .before .before .before .before .before .before .before .before .before .before .before .before .before .before .before .before .before .before .before .before .args .buffer2)) (omega (arith, c .before .before .before .before .before .before .before .before .before .if8 .left)))
+
+slice-relend-prefix-exchange-6 : tie.Need-slice-relend-prefix-exchange-6
+slice-relend-prefix-exchange-6 c = search needs
+
+slice-aggregate-exchange-6 : tie.Need-slice-aggregate-exchange-6
+slice-aggregate-exchange-6 c = sym (length-take-le (c .before .before .before .before .before .before .before .before .before .before .before .before .before .before .before .before .before .length-at6 .result) (now (c .before .before .before .before .before .before .before .before .before .before .before .before .before .before .before .before .before .before .before .before .before .before .before .before .before .before .before .before .before .before .before .before .before .before .before .before .before .before .before .before .before .before .before .before .before .args .run)) (omega (arith, c .before .before .before .before .before .before .before .before .before .if9 .left)))
+
+slice-relend-prefix-exchange-7 : tie.Need-slice-relend-prefix-exchange-7
+slice-relend-prefix-exchange-7 c = search needs
+
+slice-aggregate-exchange-7 : tie.Need-slice-aggregate-exchange-7
+slice-aggregate-exchange-7 c = sym (length-take-le (c .before .before .before .before .before .before .before .before .before .before .before .before .before .before .before .before .length-at7 .result) (now (c .before .before .before .before .before .before .before .before .before .before .before .before .before .before .before .before .before .before .before .before .before .before .before .before .before .before .before .before .before .before .before .before .before .before .before .before .before .before .before .before .before .before .before .before .before .before .args .reply)) (omega (arith, c .before .before .before .before .before .before .before .before .before .if10 .left)))
+
+exchange-requires : tie.Need-exchange-requires
+exchange-requires c κs = search needs
+
+same-length-11 : tie.Need-same-length-11
+same-length-11 c = c .before .before .before .before .before .before .before .before .before .before .before .before .before .before .before .before .before .before .before .before .before .before .before .before .before .before .before .before .before .before .before .before .before .before .before .before .before .before .before .before .before .before .before .before .before .before .before .before .before .before .before .read-full .kept .1 .0
+
+same-length-12 : tie.Need-same-length-12
+same-length-12 c = search needs
+
+same-length-13 : tie.Need-same-length-13
+same-length-13 c = search needs
+
+same-length-14 : tie.Need-same-length-14
+same-length-14 c = search needs
+
+same-length-15 : tie.Need-same-length-15
+same-length-15 c = search needs
+
+same-length-16 : tie.Need-same-length-16
+same-length-16 c = search needs
+
+same-length-17 : tie.Need-same-length-17
+same-length-17 c = search needs
+
+same-length-18 : tie.Need-same-length-18
+same-length-18 c = search needs
+
+returns-11 : tie.Need-returns-11
+returns-11 c = search needs
+
+pub answer-spec : {M : Type 1} → statement M
+answer-spec =
+    tie.close
+    (tie.spec
+    read-full-requires
+    same-length
+    returns
+    slice-aggregate-complain
+    complain-requires
+    same-length-2
+    returns-2
+    slice-read-op
+    slice-aggregate-complain-2
+    complain-requires-2
+    same-length-3
+    returns-3
+    length-at-requires
+    length-at-requires-2
+    length-at-requires-3
+    length-at-requires-4
+    length-at-requires-5
+    length-at-requires-6
+    length-at-requires-7
+    slice-aggregate-complain-3
+    complain-requires-3
+    same-length-4
+    returns-4
+    slice-aggregate-complain-4
+    complain-requires-4
+    same-length-5
+    returns-5
+    slice-aggregate-complain-5
+    complain-requires-5
+    same-length-6
+    returns-6
+    slice-aggregate-complain-6
+    complain-requires-6
+    same-length-7
+    returns-7
+    slice-aggregate-complain-7
+    complain-requires-7
+    same-length-8
+    returns-8
+    slice-aggregate-complain-8
+    complain-requires-8
+    same-length-9
+    returns-9
+    slice-aggregate-complain-9
+    complain-requires-9
+    same-length-10
+    returns-10
+    settings-of-requires
+    slice-relend-prefix-exchange
+    slice-aggregate-exchange
+    slice-relend-prefix-exchange-2
+    slice-aggregate-exchange-2
+    slice-relend-prefix-exchange-3
+    slice-aggregate-exchange-3
+    slice-relend-prefix-exchange-4
+    slice-aggregate-exchange-4
+    slice-relend-prefix-exchange-5
+    slice-aggregate-exchange-5
+    slice-relend-prefix-exchange-6
+    slice-aggregate-exchange-6
+    slice-relend-prefix-exchange-7
+    slice-aggregate-exchange-7
+    exchange-requires
+    same-length-11
+    same-length-12
+    same-length-13
+    same-length-14
+    same-length-15
+    same-length-16
+    same-length-17
+    same-length-18
+    returns-11)
