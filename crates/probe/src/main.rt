@@ -70,7 +70,13 @@ fn send_all(
     buffer2: &[u8],
     reply: &[u8],
 ) -> bool {
-    send(templates) && send(index) && send(notepad) && send(buffer1) && send(buffer2) && send(reply)
+    send(head)
+        && send(templates)
+        && send(index)
+        && send(notepad)
+        && send(buffer1)
+        && send(buffer2)
+        && send(reply)
 }
 
 // The rest of a frame in, its call, and the frame out. It says whether all of it could be read and written.

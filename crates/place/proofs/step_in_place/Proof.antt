@@ -28,7 +28,7 @@ use denote.Laws.{Is, shows}
 use denote.Memory.{mem}
 use denote.Builtin.{u8}
 use denote.Ref.{RefT, MutRef, ptr-vals, mut-tells}
-use denote.Slice.{sliceVal, slice-vals, MutSlice, ShrSlice, Room, mut-slice-tells, shr-slice-tells}
+use denote.Slice.{slice-vals, MutSlice, ShrSlice, mut-slice-tells, shr-slice-tells}
 use denote.Signature.{plain}
 use denote.Steps.{only, opens, closes, owned, peeks}
 use denote.Struct.Steps.{spelt}
@@ -50,6 +50,7 @@ use Rattle.protocol.proofs.Called.Laws as D′
 use Rattle.place.specs.declared.Answered.{Answered}
 use Rattle.place.proofs.Answered as K
 use Rattle.place.proofs.Answered.Laws as K′
+use Rattle.place.proofs.Lent.{slice, Fits, val}
 use Rattle.place.proofs.Told.{rest, tolds, tolds-fit, tolds-go}
 use Rattle.reader.proofs.call.step as g
 use Rattle.reader.proofs.call.step.Symbol as g-def
@@ -62,9 +63,6 @@ use Rattle.place.proofs.step_in_place.Code as code
 
 abbrev stayed : Stays (f.ended .signature .params) (f.ended .kept)
 stayed = (stay-ref (0 ∷ []) tt (plain (λ _. T.the-row)), tolds (rest (f.ended .signature .params)) (f.ended .kept .1))
-
-abbrev val : Settings → Val
-val = LL.val T.the-type T′.the-laws
 
 -- what the wrapper returns
 abbrev taken : Called → Answered
@@ -87,13 +85,6 @@ G 𝓤 H A at-mem run = tripleOf 𝓤 H A g.signature (g.spec 𝓤 H A at-mem ru
 -- the slices, which both functions take
 abbrev Slices : Type 0
 Slices = RefT (List ℕ) × (RefT (List ℕ) × (RefT (List ℕ) × (RefT (List ℕ) × (RefT (List ℕ) × (RefT (List ℕ) × (RefT (List ℕ) × Unit {0}))))))
-
--- a slice's machine value, and that its length is one
-abbrev slice : RefT (List ℕ) → Val
-slice y = sliceVal (y .ptr) (length (y .now))
-
-abbrev Fits : RefT (List ℕ) → Type 0
-Fits y = Room u8 (length (y .now))
 
 abbrev rows : Lfts 7 → List RattleType
 rows κs = MutSlice (named 1) (κs .0) u8 ∷ MutSlice (named 2) (κs .1 .0) u8 ∷ MutSlice (named 3) (κs .1 .1 .0) u8 ∷ MutSlice (named 4) (κs .1 .1 .1 .0) u8 ∷ MutSlice (named 5) (κs .1 .1 .1 .1 .0) u8 ∷ ShrSlice (named 6) (κs .1 .1 .1 .1 .1 .0) u8 ∷ MutSlice (named 7) (κs .1 .1 .1 .1 .1 .1 .0) u8 ∷ []

@@ -6,13 +6,6 @@ use denote.Ref.{now}
 use borrow.Author.Needs.{needs}
 use Rattle.probe.proofs.answer.Statement.{statement}
 use Rattle.probe.proofs.answer.Tie as tie
-use Rattle.probe.proofs.answer.Reads as reads
-use Rattle.probe.proofs.answer.Lts as lts
-use Rattle.io.proofs.read_full.Reads as read-full-reads
-use Rattle.probe.proofs.complain.Reads as complain-reads
-use Rattle.probe.proofs.exchange.Reads as exchange-reads
-use Rattle.probe.proofs.frame.length_at.Reads as length-at-reads
-use Rattle.probe.proofs.frame.settings_of.Reads as settings-of-reads
 
 read-full-requires : tie.Need-read-full-requires
 read-full-requires c κs = search needs

@@ -3,13 +3,6 @@ use mathlib.Core.Path.{_∙_}
 use borrow.Author.Needs.{needs}
 use Rattle.probe.proofs.exchange.Statement.{statement}
 use Rattle.probe.proofs.exchange.Tie as tie
-use Rattle.probe.proofs.exchange.Reads as reads
-use Rattle.probe.proofs.exchange.Lts as lts
-use Rattle.probe.proofs.complain.Reads as complain-reads
-use Rattle.probe.proofs.fill_all.Reads as fill-all-reads
-use Rattle.probe.proofs.frame.head_of.Reads as head-of-reads
-use Rattle.probe.proofs.once.once.Reads as once-reads
-use Rattle.probe.proofs.send_all.Reads as send-all-reads
 
 fill-all-requires : tie.Need-fill-all-requires
 fill-all-requires c κs = search needs

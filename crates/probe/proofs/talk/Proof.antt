@@ -4,9 +4,6 @@ use lib.ListN.{length}
 use borrow.Author.Needs.{needs}
 use Rattle.probe.proofs.talk.Statement.{statement}
 use Rattle.probe.proofs.talk.Tie as tie
-use Rattle.probe.proofs.talk.Reads as reads
-use Rattle.probe.proofs.talk.Lts as lts
-use Rattle.probe.proofs.answer.Reads as answer-reads
 
 abbrev Inv-loop : tie.InvT-loop
 Inv-loop head₀ templates₀ index₀ notepad₀ buffer1₀ buffer2₀ run₀ reply₀ frames₀ head templates index notepad buffer1 buffer2 run reply frames =

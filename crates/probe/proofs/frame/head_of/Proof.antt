@@ -3,9 +3,6 @@ use mathlib.Core.Path.{refl}
 use borrow.Author.Needs.{needs}
 use Rattle.probe.proofs.frame.head_of.Statement.{statement}
 use Rattle.probe.proofs.frame.head_of.Tie as tie
-use Rattle.probe.proofs.frame.head_of.Reads as reads
-use Rattle.probe.proofs.frame.head_of.Lts as lts
-use Rattle.probe.proofs.frame.mark_of.Reads as mark-of-reads
 
 cast-t7 : tie.Need-cast-t7
 cast-t7 c = search needs

@@ -3,9 +3,6 @@ use mathlib.Core.Path.{refl}
 use borrow.Author.Needs.{needs}
 use Rattle.probe.proofs.frame.settings_of.Statement.{statement}
 use Rattle.probe.proofs.frame.settings_of.Tie as tie
-use Rattle.probe.proofs.frame.settings_of.Reads as reads
-use Rattle.probe.proofs.frame.settings_of.Lts as lts
-use Rattle.probe.proofs.frame.word_at.Reads as word-at-reads
 
 shared-slice-read-t3 : tie.Need-shared-slice-read-t3
 shared-slice-read-t3 c = search needs

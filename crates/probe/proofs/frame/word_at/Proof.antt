@@ -3,9 +3,6 @@ use Rattle.protocol.specs.Bytes.{wordAt}
 use borrow.Author.Needs.{needs}
 use Rattle.probe.proofs.frame.word_at.Statement.{statement}
 use Rattle.probe.proofs.frame.word_at.Tie as tie
-use Rattle.probe.proofs.frame.word_at.Reads as reads
-use Rattle.probe.proofs.frame.word_at.Lts as lts
-use Rattle.wire.proofs.bytes.wide.Reads as wide-reads
 
 shared-slice-read-wide : tie.Need-shared-slice-read-wide
 shared-slice-read-wide c = search needs

@@ -3,14 +3,9 @@ use mathlib.Core.Path.{ap}
 use borrow.Author.Tests.{eq-eqb, ne-eqb}
 use denote.Ref.{now}
 use borrow.Author.Needs.{needs}
-use Rattle.protocol.specs.Call.{Ended}
 use Rattle.probe.specs.Once.{besides, onceOf}
 use Rattle.probe.proofs.once.once.Statement.{statement}
 use Rattle.probe.proofs.once.once.Tie as tie
-use Rattle.probe.proofs.once.once.Reads as reads
-use Rattle.probe.proofs.once.once.Lts as lts
-use Rattle.place.proofs.line_switch_through.Reads as line-switch-through-reads
-use Rattle.place.proofs.step_through.Reads as step-through-reads
 
 step-through-requires : tie.Need-step-through-requires
 step-through-requires c κs = search needs
