@@ -1,22 +1,274 @@
-/* The table of instruction counts: ours, C's, and their ratio. */
-#include "counts.h"
+/* The tables of instruction counts. */
+#include "benchmarks.h"
 #include "reader.h"
 #include "stepper.h"
+#include "system.h"
 
-enum { COMMAND = 1, DATA = 2, ACKNOWLEDGE = 7, LAST_DATA = 8 };
-enum { ROWS_MOST = 64, CAPACITIES = 3, SILENT = -1, NAME_WIDTH = 34, NUMBER_WIDTH = 8 };
+enum { ROWS_MOST = 48, COLUMNS_MOST = 3 };
 
-static const size_t capacities[CAPACITIES] = {1, 64, 256};
+/* A call is measured at these capacities, a service once. */
+static const size_t capacities[COLUMNS_MOST] = {1, 64, 256};
+
+/* ---- rows: a row is measured once in each column */
 
 struct row {
-    const char *name;
-    size_t ours[CAPACITIES], plain[CAPACITIES];
-    const char *trouble;
+    const char *name, *trouble;
+    size_t ours[COLUMNS_MOST], plain[COLUMNS_MOST];
 };
 
-static struct row rows[ROWS_MOST], *row = rows;
+struct table {
+    struct row rows[ROWS_MOST];
+    size_t length;
+};
+
+static struct table calls, services;
+static struct row *row;
 static size_t column;
 
-static void next_row(const char *name) {
-    row = row == NULL ? rows : row + 1;
+/* A new row, for a reader of so many pages. Its password is given, its buffers are filled, its last page is stored. */
+static void begin(struct table *table, const char *name, size_t capacity) {
+    if (table->length == ROWS_MOST) fail("a table has too many rows");
+    row = &table->rows[table->length++];
+    row->name = name;
+    restart_random();
+    make_reader(capacity);
+    set_stored(&reader.memory, capacity - 1);
+    reader.settings.password[3] = 5;
+    reader.settings.verified = reader.settings.filled1 = reader.settings.filled2 = 1;
+    run_length = 0;
+}
+
+/* All bytes, but the one that pads the settings. */
+static int is_same(const struct reader *a, const struct reader *b) {
+    const size_t settings_bytes = offsetof(struct bystrodol_settings, filled2) + 1;
+    return memcmp(&a->settings, &b->settings, settings_bytes) == 0 &&
+           memcmp(&a->memory, &b->memory, sizeof a->memory) == 0 && memcmp(a->reply, b->reply, sizeof a->reply) == 0;
+}
+
+/* A measurement: start, our call, turn, the plain call, finish. Both start from the same reader. */
+static struct reader before, after;
+
+static void start(void) { before = reader; }
+
+static void turn(void) {
+    row->ours[column] += step_count;
+    after = reader;
+    reader = before;
+}
+
+static void finish(int same_answer) {
+    row->plain[column] += step_count;
+    if (!same_answer || !is_same(&after, &reader)) row->trouble = "OTHER RESULTS";
+}
+
+#define MEASURE(service, ...)                                                                  \
+    do {                                                                                       \
+        start();                                                                               \
+        size_t ours = STEPPED(bystrodol_##service, bystrodol_##service(__VA_ARGS__));          \
+        turn();                                                                                \
+        size_t plain = STEPPED(plain_##service, plain_##service(__VA_ARGS__));                 \
+        finish(ours == plain);                                                                 \
+    } while (0)
+
+/* What a call comes to: an acknowledge code, silence, or a refusal. */
+enum { SILENT = 0x100, REFUSED = 0x200 };
+
+static void measure_call(int expected) {
+    start();
+    struct bystrodol_answer ours = call_stepped(bystrodol_step);
+    turn();
+    struct bystrodol_answer plain = call_stepped(plain_step);
+    finish(ours.refusal == plain.refusal && ours.used == plain.used && ours.length == plain.length);
+    int outcome = plain.refusal ? REFUSED + plain.refusal : plain.length ? reader.reply[9] : SILENT;
+    if (outcome != expected && !row->trouble) row->trouble = "NOT AS EXPECTED";
+}
+
+/* ---- the rows of calls */
+
+static void measure_command(int expected, const uint8_t *content, size_t n) {
+    run_length = 0;
+    append_packet(COMMAND, content, n);
+    measure_call(expected);
+}
+
+static void command_rows(size_t capacity) {
+    const uint8_t delete_all[] = {0x0C, 0, 0, (uint8_t)(capacity >> 8), (uint8_t)capacity};
+    for (size_t i = 0; i < COMMANDS; i++) {
+        const struct command command = command_of(i, capacity);
+        begin(&calls, command.name, capacity);
+        measure_command(0x00, command.content, command.length);
+    }
+    begin(&calls, "0Ch DeletChar, all pages", capacity);
+    measure_command(0x00, delete_all, sizeof delete_all);
+}
+
+static void refused_command_rows(size_t capacity) {
+    static const uint8_t count[] = {0x1D}, unknown[] = {0x05}, password[] = {0x13, 0, 0, 0, 6};
+    begin(&calls, "wrong sum: 01h", capacity);
+    append_packet(COMMAND, count, sizeof count);
+    run[run_length - 1]++;
+    measure_call(0x01);
+    begin(&calls, "unknown command: 19h", capacity);
+    measure_command(0x19, unknown, sizeof unknown);
+    begin(&calls, "wrong password: 13h", capacity);
+    measure_command(0x13, password, sizeof password);
+    begin(&calls, "locked: 21h", capacity);
+    reader.settings.verified = 0;
+    measure_command(0x21, count, sizeof count);
+}
+
+static void silent_rows(size_t capacity) {
+    static const uint8_t hand_shake[] = {0x40};
+    begin(&calls, "another address: silent", capacity);
+    append_packet(COMMAND, hand_shake, sizeof hand_shake);
+    run[2]--;
+    measure_call(SILENT);
+    begin(&calls, "unfinished packet: silent", capacity);
+    append_packet(COMMAND, hand_shake, sizeof hand_shake);
+    run_length--;
+    measure_call(SILENT);
+    begin(&calls, "1024 bytes of noise: silent", capacity);
+    append_noise(1024);
+    measure_call(SILENT);
+}
+
+static void refusal_rows(size_t capacity) {
+    begin(&calls, "refusal 1", capacity);
+    pages = 0;
+    measure_call(REFUSED + BYSTRODOL_BAD_LENGTH);
+    begin(&calls, "refusal 2", capacity);
+    reply_length--;
+    measure_call(REFUSED + BYSTRODOL_BAD_ROOM);
+    begin(&calls, "refusal 3, a setting", capacity);
+    reader.settings.level = 6;
+    measure_call(REFUSED + BYSTRODOL_BAD_SETTING);
+}
+
+static void upload_row(const char *name, size_t capacity, uint8_t size) {
+    static const uint8_t up[] = {0x08, 1};
+    begin(&calls, name, capacity);
+    reader.settings.size = size;
+    measure_command(0x00, up, sizeof up);
+}
+
+static void download_row(const char *name, size_t capacity, uint8_t size) {
+    static const uint8_t down[] = {0x09, 1};
+    const size_t bytes = (size_t)32 << size;
+    begin(&calls, name, capacity);
+    reader.settings.size = size;
+    measure_command(0x00, down, sizeof down);
+    for (size_t got = 0; got < BYSTRODOL_PAGE_BYTES; got += bytes) {
+        run_length = 0;
+        append_packet(got + bytes < BYSTRODOL_PAGE_BYTES ? DATA : LAST_DATA, reader.memory.buffer2 + got, bytes);
+        measure_call(SILENT);
+    }
+    if (!reader.settings.filled1) row->trouble = "NOT AS EXPECTED";
+}
+
+static void measure_calls(size_t capacity) {
+    calls.length = 0;
+    command_rows(capacity);
+    upload_row("upload, 32 bytes a packet", capacity, 0);
+    upload_row("upload, 64 bytes a packet", capacity, 1);
+    upload_row("upload, 128 bytes a packet", capacity, 2);
+    download_row("download, 32 bytes a packet", capacity, 0);
+    download_row("download, 64 bytes a packet", capacity, 1);
+    download_row("download, 128 bytes a packet", capacity, 2);
+    refused_command_rows(capacity);
+    silent_rows(capacity);
+    refusal_rows(capacity);
+}
+
+/* ---- the rows of services */
+
+static void build_row(const char *name, size_t n) {
+    begin(&services, name, 1);
+    MEASURE(build, 0x12345678, DATA, reader.memory.buffer1, n, reader.reply, reply_length);
+}
+
+static void measure_services(void) {
+    begin(&services, "line switch", 1);
+    start();
+    uint8_t ours = line_switch_stepped(bystrodol_line_switch);
+    turn();
+    finish(ours == line_switch_stepped(plain_line_switch));
+    begin(&services, "sum of 1024 bytes", 1);
+    append_noise(1024);
+    MEASURE(sum, run, run_length);
+    begin(&services, "used of 1024 bytes of noise", 1);
+    append_noise(1024);
+    MEASURE(used, run, run_length);
+    begin(&services, "used of a packet", 1);
+    append_packet(DATA, reader.memory.buffer1, BYSTRODOL_CONTENT_MOST);
+    MEASURE(used, run, run_length);
+    build_row("build, 1 byte of content", 1);
+    build_row("build, 64 bytes of content", 64);
+    build_row("build, 254 bytes of content", 254);
+    build_row("build, refused", 255);
+    begin(&services, "count", 1);
+    MEASURE(count, reader.memory.index, sizeof reader.memory.index);
+}
+
+/* ---- output: tables in Markdown, their columns aligned */
+
+struct summary {
+    size_t ratios, at_most_one, above, worst, troubles;
+    const char *worst_name;
+};
+
+static void put_ratio(size_t hundredths) {
+    put_number(hundredths / 100);
+    put_text(hundredths % 100 < 10 ? ".0" : "."), put_number(hundredths % 100);
+}
+
+static void put_row(const struct row *shown, size_t columns, struct summary *summary) {
+    put_text("| "), put_text_in(28, shown->name), put_text(" |");
+    for (size_t i = 0; i < columns; i++) {
+        size_t ours = shown->ours[i], plain = shown->plain[i], ratio = (100 * ours + plain / 2) / plain;
+        put_number_in(9, ours), put_text(" |");
+        put_number_in(9, plain), put_text(" |");
+        put_text(ratio < 1000 ? "  " : " "), put_ratio(ratio), put_text(" |");
+        summary->ratios++;
+        summary->at_most_one += ours <= plain;
+        summary->above += 10 * ours > 11 * plain;
+        if (ratio > summary->worst) summary->worst = ratio, summary->worst_name = shown->name;
+    }
+    if (shown->trouble) put_text(" "), put_text(shown->trouble), summary->troubles++;
+    put_text("\n");
+}
+
+static void put_table(const char *heading, const struct table *table, size_t columns, struct summary *summary) {
+    put_text(heading);
+    for (size_t i = 0; i < table->length; i++) put_row(&table->rows[i], columns, summary);
+    put_text("\n");
+}
+
+static void put_growing(void) {
+    const char *between = "Ours grow with the pages: ";
+    for (size_t i = 0; i < calls.length; i++)
+        if (calls.rows[i].ours[COLUMNS_MOST - 1] > calls.rows[i].ours[0])
+            put_text(between), put_text(calls.rows[i].name), between = "; ";
+    put_text(".\n\n");
+}
+
+static void put_summary(const struct summary *summary) {
+    put_text("counts: "), put_number(summary->ratios), put_text(" ratios, "), put_number(summary->at_most_one);
+    put_text(" at most 1, "), put_number(summary->above), put_text(" above 1.1, the largest ");
+    put_ratio(summary->worst), put_text(" ("), put_text(summary->worst_name), put_text("); ");
+    put_number(summary->troubles), put_text(" rows with other results\n");
+}
+
+int print_counts(void) {
+    struct summary summary = {0, 0, 0, 0, 0, ""};
+    for (column = 0; column < COLUMNS_MOST; column++) measure_calls(capacities[column]);
+    column = 0;
+    measure_services();
+    put_table("| a call, at 1, 64, 256 pages  |  1: ours |     1: C | ratio | 64: ours |    64: C | ratio "
+              "|256: ours |   256: C | ratio |\n|---|---:|---:|---:|---:|---:|---:|---:|---:|---:|\n",
+              &calls, COLUMNS_MOST, &summary);
+    put_table("| a service                    |     ours |        C | ratio |\n|---|---:|---:|---:|\n", &services, 1,
+              &summary);
+    put_growing();
+    put_summary(&summary);
+    return summary.troubles != 0;
 }

@@ -4,58 +4,24 @@
  */
 #include "plain.h"
 
-/* The C library's; the kit's clang brings no <string.h>. */
-int memcmp(const void *a, const void *b, size_t n);
-void *memcpy(void *to, const void *from, size_t n);
-void *memset(void *to, int byte, size_t n);
+#include <string.h>
 
 enum identifier { COMMAND = 1, DATA = 2, ACKNOWLEDGE = 7, LAST_DATA = 8 };
 
 enum command {
-    STORE = 0x06,
-    LOAD_CHAR = 0x07,
-    UP_CHAR = 0x08,
-    DOWN_CHAR = 0x09,
-    DELET_CHAR = 0x0C,
-    EMPTY = 0x0D,
-    SET_SYS_PARA = 0x0E,
-    READ_SYS_PARA = 0x0F,
-    SET_PWD = 0x12,
-    VFY_PWD = 0x13,
-    SET_ADDER = 0x15,
-    WRITE_NOTEPAD = 0x18,
-    READ_NOTEPAD = 0x19,
-    TEMPLETE_NUM = 0x1D,
-    READ_INDEX_TABLE = 0x1F,
-    HAND_SHAKE = 0x40
+    STORE = 0x06, LOAD_CHAR = 0x07, UP_CHAR = 0x08, DOWN_CHAR = 0x09, DELET_CHAR = 0x0C, EMPTY = 0x0D,
+    SET_SYS_PARA = 0x0E, READ_SYS_PARA = 0x0F, SET_PWD = 0x12, VFY_PWD = 0x13, SET_ADDER = 0x15, WRITE_NOTEPAD = 0x18,
+    READ_NOTEPAD = 0x19, TEMPLETE_NUM = 0x1D, READ_INDEX_TABLE = 0x1F, HAND_SHAKE = 0x40
 };
 
 enum code {
-    DONE = 0x00,
-    BAD_PACKET = 0x01,
-    BAD_PAGE = 0x0B,
-    NOT_THERE = 0x0C,
-    NOT_FILLED = 0x0D,
-    BAD_DATA = 0x0E,
-    NOT_DELETED = 0x10,
-    WRONG_PASSWORD = 0x13,
-    UNKNOWN_COMMAND = 0x19,
-    BAD_PARAMETER = 0x1A,
-    BAD_VALUE = 0x1B,
-    BAD_NOTEPAD_PAGE = 0x1C,
-    PASSWORD_FIRST = 0x21
+    DONE = 0x00, BAD_PACKET = 0x01, BAD_PAGE = 0x0B, NOT_THERE = 0x0C, NOT_FILLED = 0x0D, BAD_DATA = 0x0E,
+    NOT_DELETED = 0x10, WRONG_PASSWORD = 0x13, UNKNOWN_COMMAND = 0x19, BAD_PARAMETER = 0x1A, BAD_VALUE = 0x1B,
+    BAD_NOTEPAD_PAGE = 0x1C, PASSWORD_FIRST = 0x21
 };
 
 /* Where the parts of a packet are, and its least and most length field. */
-enum {
-    ADDRESS = 2,
-    IDENTIFIER = 6,
-    LENGTH = 7,
-    CONTENT = 9,
-    SUM_BYTES = 2,
-    LENGTH_LEAST = 3,
-    LENGTH_MOST = 256
-};
+enum { ADDRESS = 2, IDENTIFIER = 6, LENGTH = 7, CONTENT = 9, SUM_BYTES = 2, LENGTH_LEAST = 3, LENGTH_MOST = 256 };
 
 enum { NOTEPAD_PAGES = 16, NOTEPAD_PAGE_BYTES = 32, DATA_MOST = 32 };
 
@@ -108,7 +74,8 @@ size_t plain_used(const uint8_t *run, size_t run_length) {
     return find(run, run_length, &packet);
 }
 
-static size_t put_packet(uint8_t *room, const uint8_t address[4], uint8_t identifier, const uint8_t *content, size_t n) {
+static size_t put_packet(uint8_t *room, const uint8_t address[4], uint8_t identifier, const uint8_t *content,
+                         size_t n) {
     room[0] = 0xEF;
     room[1] = 0x01;
     memcpy(room + ADDRESS, address, 4);
@@ -183,8 +150,8 @@ static int is_baud(uint8_t baud) { return baud >= 1 && baud <= 12; }
 static int is_legal(const struct bystrodol_settings *settings) {
     if (!is_level(settings->level) || !is_size(settings->size) || !is_baud(settings->baud)) return 0;
     if (settings->transfer == 0) return settings->got == 0;
-    return settings->transfer <= 2 && settings->got < BYSTRODOL_PAGE_BYTES && settings->got % data_size(settings) == 0 &&
-           !is_filled(settings, settings->transfer) && !is_locked(settings);
+    return settings->transfer <= 2 && settings->got < BYSTRODOL_PAGE_BYTES &&
+           settings->got % data_size(settings) == 0 && !is_filled(settings, settings->transfer) && !is_locked(settings);
 }
 
 /* ---- the commands: parameters in, acknowledge code out */

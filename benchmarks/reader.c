@@ -1,30 +1,41 @@
 #include "reader.h"
 #include "stepper.h"
+#include "system.h"
 
 struct reader reader;
 size_t pages, reply_length;
 uint8_t run[RUN_MOST];
 size_t run_length;
 
+static uint32_t random_state;
+
+void restart_random(void) { random_state = 0; }
+
 uint8_t random_byte(void) {
-    static uint32_t state = 1;
-    state = state * 1664525 + 1013904223;
-    return (uint8_t)(state >> 24);
+    random_state = random_state * 1664525 + 1013904223;
+    return (uint8_t)(random_state >> 24);
 }
 
-void fill_random(uint8_t *at, size_t n) {
-    for (size_t i = 0; i < n; i++) at[i] = random_byte();
+void fill_random(void *at, size_t n) {
+    for (uint8_t *byte = at; n > 0; n--) *byte++ = random_byte();
+}
+
+void set_stored(struct memory *memory, size_t page) { memory->index[page / 8] |= (uint8_t)(1 << page % 8); }
+
+void clear_stored(struct memory *memory, size_t page) { memory->index[page / 8] &= (uint8_t)~(1 << page % 8); }
+
+void make_index_legal(struct memory *memory) {
+    for (size_t page = pages; page < BYSTRODOL_PAGES_MOST; page++) clear_stored(memory, page);
 }
 
 void make_reader(size_t capacity) {
-    fill_random((uint8_t *)&reader, sizeof reader);
-    for (size_t page = capacity; page < BYSTRODOL_PAGES_MOST; page++) reader.index[page / 8] &= (uint8_t)~(1 << page % 8);
-    reader.settings = bystrodol_fresh();
     pages = capacity;
     reply_length = BYSTRODOL_REPLY_BYTES;
+    reader.settings = bystrodol_fresh();
+    fill_random(&reader.memory, sizeof reader.memory);
+    fill_random(reader.reply, sizeof reader.reply);
+    make_index_legal(&reader.memory);
 }
-
-void clear_run(void) { run_length = 0; }
 
 void append(const uint8_t *bytes, size_t n) {
     if (n > RUN_MOST - run_length) fail("a run is too long");
@@ -33,27 +44,52 @@ void append(const uint8_t *bytes, size_t n) {
 }
 
 void append_noise(size_t n) {
-    for (size_t i = 0; i < n; i++) {
+    for (; n > 0; n--) {
         uint8_t byte = random_byte();
         if (byte == 0x01) byte = 0xEF;
         append(&byte, 1);
     }
 }
 
-void append_packet(uint8_t identifier, const uint8_t *content, size_t n) {
-    size_t length = plain_build(0xFFFFFFFF, identifier, content, n, run + run_length, RUN_MOST - run_length);
+void append_packet(enum identifier identifier, const uint8_t *content, size_t n) {
+    size_t length = plain_build(0xFFFFFFFF, (uint8_t)identifier, content, n, run + run_length, RUN_MOST - run_length);
     if (length == 0) fail("a packet was not built");
     run_length += length;
 }
 
+struct command command_of(size_t number, size_t capacity) {
+    const uint8_t last = (uint8_t)(capacity - 1);
+    const struct command commands[COMMANDS] = {
+        {"06h Store", 4, {0x06, 1, 0, last}},
+        {"07h LoadChar", 4, {0x07, 1, 0, last}},
+        {"08h UpChar", 2, {0x08, 1}},
+        {"09h DownChar", 2, {0x09, 1}},
+        {"0Ch DeletChar, one page", 5, {0x0C, 0, last, 0, 1}},
+        {"0Dh Empty", 1, {0x0D}},
+        {"0Eh SetSysPara", 3, {0x0E, 4, 12}},
+        {"0Fh ReadSysPara", 1, {0x0F}},
+        {"12h SetPwd", 5, {0x12, 1, 2, 3, 4}},
+        {"13h VfyPwd", 5, {0x13, 0, 0, 0, 5}},
+        {"15h SetAdder", 5, {0x15, 1, 2, 3, 4}},
+        {"18h WriteNotepad", 34, {0x18, 15, 1, 2, 3, 4}},
+        {"19h ReadNotepad", 2, {0x19, 15}},
+        {"1Dh TempleteNum", 1, {0x1D}},
+        {"1Fh ReadIndexTable", 2, {0x1F, 0}},
+        {"40h HandShake", 1, {0x40}},
+    };
+    return commands[number];
+}
+
 struct bystrodol_answer call_stepped(__typeof__(bystrodol_step) *step) {
-    return STEPPED(step, step(&reader.settings, reader.templates, BYSTRODOL_PAGE_BYTES * pages, reader.index,
-                              sizeof reader.index, reader.notepad, sizeof reader.notepad, reader.buffer1,
-                              sizeof reader.buffer1, reader.buffer2, sizeof reader.buffer2, run, run_length,
-                              reader.reply, reply_length));
+    struct memory *lent = &reader.memory;
+    return STEPPED(step, step(&reader.settings, lent->templates, BYSTRODOL_PAGE_BYTES * pages, lent->index,
+                              sizeof lent->index, lent->notepad, sizeof lent->notepad, lent->buffer1,
+                              sizeof lent->buffer1, lent->buffer2, sizeof lent->buffer2, run, run_length, reader.reply,
+                              reply_length));
 }
 
 uint8_t line_switch_stepped(__typeof__(bystrodol_line_switch) *line_switch) {
-    return STEPPED(line_switch, line_switch(&reader.settings, reader.buffer1, sizeof reader.buffer1, reader.buffer2,
-                                            sizeof reader.buffer2));
+    struct memory *lent = &reader.memory;
+    return STEPPED(line_switch, line_switch(&reader.settings, lent->buffer1, sizeof lent->buffer1, lent->buffer2,
+                                            sizeof lent->buffer2));
 }

@@ -4,37 +4,64 @@
 
 #include "plain.h"
 
+/* Behind the reply room that is lent lie bytes that must stay. */
 enum { REPLY_ROOM = BYSTRODOL_REPLY_BYTES + 68, RUN_MOST = 2048 };
 
-struct reader {
-    struct bystrodol_settings settings;
+struct memory {
     uint8_t index[BYSTRODOL_INDEX_BYTES];
     uint8_t notepad[BYSTRODOL_PAGE_BYTES];
     uint8_t buffer1[BYSTRODOL_PAGE_BYTES];
     uint8_t buffer2[BYSTRODOL_PAGE_BYTES];
-    uint8_t reply[REPLY_ROOM];
     uint8_t templates[BYSTRODOL_PAGE_BYTES * BYSTRODOL_PAGES_MOST];
+};
+
+struct reader {
+    struct bystrodol_settings settings;
+    struct memory memory;
+    uint8_t reply[REPLY_ROOM];
 };
 
 extern struct reader reader;
 extern size_t pages, reply_length;
+
+/* Makes a reader of so many pages with fresh settings and pseudo-random memory. */
+void make_reader(size_t capacity);
+
+void set_stored(struct memory *memory, size_t page);
+void clear_stored(struct memory *memory, size_t page);
+
+/* Clears the index bits at and above the capacity. */
+void make_index_legal(struct memory *memory);
+
+/* Pseudo-random bytes, the same after each restart and whenever the program runs. */
+void restart_random(void);
+uint8_t random_byte(void);
+void fill_random(void *at, size_t n);
+
+/* ---- the run */
+
 extern uint8_t run[RUN_MOST];
 extern size_t run_length;
 
-/* Makes the reader fresh, then fills all its memory with pseudo-random bytes; no index bit at or above pages is set. */
-void make_reader(size_t capacity);
+enum identifier { COMMAND = 1, DATA = 2, ACKNOWLEDGE = 7, LAST_DATA = 8 };
 
-/* Pseudo-random bytes, the same in every run of the program. */
-uint8_t random_byte(void);
-void fill_random(uint8_t *at, size_t n);
-
-/* Bytes at the end of the run: any; noise, in which no packet starts; a packet to the address of a fresh reader. */
-void clear_run(void);
+/* At the end of the run: any bytes; noise, in which no packet starts; a packet to the address of a fresh reader. */
 void append(const uint8_t *bytes, size_t n);
 void append_noise(size_t n);
-void append_packet(uint8_t identifier, const uint8_t *content, size_t n);
+void append_packet(enum identifier identifier, const uint8_t *content, size_t n);
 
-/* Steps through a call, ours or C's, of the reader with the run; and through a line switch. */
+/* ---- the sixteen commands, with parameters for a reader that does them all */
+
+struct command {
+    const char *name;
+    uint8_t length, content[36];
+};
+
+enum { COMMANDS = 16 };
+struct command command_of(size_t number, size_t capacity);
+
+/* ---- calls of the reader, ours or plain C's, that are stepped through */
+
 struct bystrodol_answer call_stepped(__typeof__(bystrodol_step) *step);
 uint8_t line_switch_stepped(__typeof__(bystrodol_line_switch) *line_switch);
 

@@ -1,0 +1,11 @@
+/* What the program can do; each gives its status: 0, or 1 where something is not as it must be. */
+#ifndef BENCHMARKS_H
+#define BENCHMARKS_H
+
+/* Prints the tables of instruction counts. */
+int print_counts(void);
+
+/* Compares the paths of pairs of locked readers, of ours or of the reader in plain C. */
+int compare_traces(int of_plain);
+
+#endif

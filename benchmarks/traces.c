@@ -1,0 +1,247 @@
+/*
+ * Pairs of legal locked readers that differ only in guarded contents get the same runs and line switches, up to and
+ * including the right password. The addresses of a call's instructions must be the same in both.
+ */
+#include "benchmarks.h"
+#include "reader.h"
+#include "stepper.h"
+#include "system.h"
+
+static const size_t capacities[] = {1, 8, 9, 64, 256};
+enum { CAPACITIES = sizeof capacities / sizeof *capacities, PAIRS_EACH = 40 };
+
+/* ---- a pair: two readers with the same public settings */
+
+static struct reader pair[2];
+
+enum { KINDS = 4 };
+
+static void set_marks(struct bystrodol_settings *settings, uint8_t marks) {
+    settings->filled1 = marks & 1;
+    settings->filled2 = marks >> 1 & 1;
+}
+
+static void make_locked_settings(struct bystrodol_settings *settings) {
+    fill_random(settings->password, sizeof settings->password);
+    settings->password[0] |= 1;
+    settings->level = (uint8_t)(1 + random_byte() % 5);
+    settings->size = (uint8_t)(random_byte() % 3);
+    settings->baud = (uint8_t)(1 + random_byte() % 12);
+    settings->sensor = random_byte();
+    set_marks(settings, random_byte());
+}
+
+static void make_pair(size_t capacity, size_t number) {
+    make_reader(capacity);
+    make_locked_settings(&reader.settings);
+    pair[0] = pair[1] = reader;
+    switch (number % KINDS) {
+    case 0: /* everything differs */
+        fill_random(&pair[1].memory, sizeof pair[1].memory);
+        set_marks(&pair[1].settings, random_byte());
+        break;
+    case 1: /* nothing, and all that there can be */
+        memset(&pair[0].memory, 0x00, sizeof pair[0].memory);
+        memset(&pair[1].memory, 0xFF, sizeof pair[1].memory);
+        set_marks(&pair[0].settings, 0);
+        set_marks(&pair[1].settings, 3);
+        break;
+    case 2: /* the filled marks alone */
+        set_marks(&pair[0].settings, 0);
+        set_marks(&pair[1].settings, (uint8_t)(1 + random_byte() % 3));
+        break;
+    default: /* one page of the index alone */
+        clear_stored(&pair[0].memory, number % capacity);
+        set_stored(&pair[1].memory, number % capacity);
+    }
+    make_index_legal(&pair[0].memory);
+    make_index_legal(&pair[1].memory);
+}
+
+/* ---- calls: a command in one of its shapes, another packet, other bytes, or a line switch */
+
+enum shape { VALID, DAMAGED, FOREIGN, NOISY, UNFINISHED, TOO_LONG, SHAPES };
+
+#define A 0xFF, 0xFF, 0xFF, 0xFF
+
+static const struct {
+    size_t length;
+    uint8_t bytes[12];
+} other_runs[] = {
+    {0, {0}},                                                  /* nothing */
+    {1, {0xEF}},                                               /* half a mark */
+    {12, {0xEF, 0x01, A, 0x01, 0x00, 0x03, 0x05, 0x00, 0x09}}, /* no such command */
+    {12, {0xEF, 0x01, A, 0x03, 0x00, 0x03, 0x40, 0x00, 0x46}}, /* no such identifier */
+    {12, {0xEF, 0x01, A, 0x01, 0x00, 0x02, 0x40, 0x00, 0x43}}, /* length 2 */
+    {12, {0xEF, 0x01, A, 0x01, 0x01, 0x01, 0x40, 0x00, 0x43}}, /* length 257 */
+    {12, {0xEF, 0x01, A, 0x07, 0x00, 0x03, 0x00, 0x00, 0x0A}}, /* an acknowledge */
+};
+
+enum call {
+    OTHER_RUN = COMMANDS * SHAPES,
+    DATA_PACKET = OTHER_RUN + sizeof other_runs / sizeof *other_runs,
+    LAST_DATA_PACKET,
+    NOISE,
+    WRONG_PASSWORD,
+    LINE_SWITCH,
+    LOCKED_CALLS,
+    RIGHT_PASSWORD = LOCKED_CALLS,
+    LOAD_FIRST_PAGE,
+    NO_CALL
+};
+
+/* The calls that one pair gets before the right password; the next pairs of its kind get others. */
+enum { CALLS_EACH = LOCKED_CALLS / 6 };
+
+static void append_command(struct command command, enum shape shape) {
+    if (shape == NOISY) append_noise(16);
+    append_packet(COMMAND, command.content, command.length + (shape == TOO_LONG));
+    if (shape == DAMAGED) run[run_length - 1]++;
+    if (shape == FOREIGN) run[2]--;
+    if (shape == UNFINISHED) run_length--;
+}
+
+static void append_data(enum identifier identifier) {
+    uint8_t content[128];
+    fill_random(content, sizeof content);
+    append_packet(identifier, content, (size_t)32 << pair[0].settings.size);
+}
+
+static void append_password(uint8_t change) {
+    uint8_t content[5] = {0x13};
+    memcpy(content + 1, pair[0].settings.password, 4);
+    content[4] ^= change;
+    append_packet(COMMAND, content, sizeof content);
+}
+
+static void make_run(enum call call) {
+    static const uint8_t load[] = {0x07, 1, 0, 0};
+    run_length = 0;
+    switch (call) {
+    case DATA_PACKET:
+        append_data(DATA);
+        break;
+    case LAST_DATA_PACKET:
+        append_data(LAST_DATA);
+        break;
+    case NOISE:
+        append_noise(64);
+        break;
+    case WRONG_PASSWORD:
+        append_password(1);
+        break;
+    case RIGHT_PASSWORD:
+        append_password(0);
+        break;
+    case LOAD_FIRST_PAGE:
+        append_packet(COMMAND, load, sizeof load);
+        break;
+    case LINE_SWITCH:
+        break;
+    default:
+        if (call >= OTHER_RUN)
+            append(other_runs[call - OTHER_RUN].bytes, other_runs[call - OTHER_RUN].length);
+        else
+            append_command(command_of(call / SHAPES, pages), call % SHAPES);
+    }
+}
+
+/* ---- the comparison */
+
+static __typeof__(bystrodol_step) *step;
+static __typeof__(bystrodol_line_switch) *line_switch;
+static size_t first_count, first_trace[TRACE_MOST];
+
+/* Puts a reader of the pair in the place of the called one, calls it, and takes it back. */
+static void make_call(struct reader *called, enum call call) {
+    reader = *called;
+    uint8_t refusal = call == LINE_SWITCH ? line_switch_stepped(line_switch) : call_stepped(step).refusal;
+    if (refusal != BYSTRODOL_ACCEPTED) fail("a legal reader was refused");
+    if (step_count > TRACE_MOST) fail("a call has more instructions than a trace holds");
+    *called = reader;
+}
+
+static int paths_differ(enum call call) {
+    make_run(call);
+    make_call(&pair[0], call);
+    first_count = step_count;
+    memcpy(first_trace, step_trace, step_count * sizeof *step_trace);
+    make_call(&pair[1], call);
+    return step_count != first_count || memcmp(first_trace, step_trace, step_count * sizeof *step_trace) != 0;
+}
+
+/* Some of the calls, and then the right password. The first call whose paths differ. */
+static enum call first_difference(size_t number) {
+    for (size_t i = 0; i < CALLS_EACH; i++) {
+        enum call call = (enum call)((CALLS_EACH * (number / KINDS) + i) % LOCKED_CALLS);
+        if (paths_differ(call)) return call;
+    }
+    if (paths_differ(RIGHT_PASSWORD)) return RIGHT_PASSWORD;
+    if (!pair[0].settings.verified || !pair[1].settings.verified) fail("the right password was not accepted");
+    return NO_CALL;
+}
+
+/* The password is given now: the paths of LoadChar must differ if only one reader has stored the page. */
+static int unlocked_paths_differ(void) {
+    clear_stored(&pair[0].memory, 0);
+    set_stored(&pair[1].memory, 0);
+    return paths_differ(LOAD_FIRST_PAGE);
+}
+
+/* ---- output */
+
+/* An address as the function that it is in, and how far. */
+static void put_place(size_t address) {
+    const struct {
+        const char *name;
+        size_t address;
+    } functions[] = {
+        {"the program", 0},
+        {"bystrodol_step", (size_t)bystrodol_step},
+        {"bystrodol_line_switch", (size_t)bystrodol_line_switch},
+        {"plain_step", (size_t)plain_step},
+        {"plain_line_switch", (size_t)plain_line_switch},
+        {"memcpy", (size_t)memcpy},
+        {"memset", (size_t)memset},
+    };
+    size_t nearest = 0;
+    for (size_t i = 1; i < sizeof functions / sizeof *functions; i++)
+        if (functions[i].address <= address && functions[i].address > functions[nearest].address) nearest = i;
+    put_text(functions[nearest].name), put_text("+0x"), put_hexadecimal(address - functions[nearest].address);
+}
+
+static void put_next(const size_t *trace, size_t count, size_t i) {
+    if (i < count)
+        put_place(trace[i]);
+    else
+        put_text("its end");
+}
+
+/* Where the two last calls part: the last instruction that they share, and the next one of each. */
+static void put_difference(size_t capacity, size_t number, enum call call) {
+    size_t i = 0;
+    while (i < first_count && i < step_count && first_trace[i] == step_trace[i]) i++;
+    put_text("traces: capacity "), put_number(capacity), put_text(", pair "), put_number(number);
+    put_text(", call "), put_number(call), put_text(": after "), put_place(i > 0 ? first_trace[i - 1] : 0);
+    put_text(" one goes to "), put_next(first_trace, first_count, i);
+    put_text(", the other to "), put_next(step_trace, step_count, i), put_text("\n");
+}
+
+int compare_traces(int of_plain) {
+    size_t pairs = CAPACITIES * PAIRS_EACH, differ = 0, unlocked_differ = 0;
+    step = of_plain ? plain_step : bystrodol_step;
+    line_switch = of_plain ? plain_line_switch : bystrodol_line_switch;
+    for (size_t i = 0; i < pairs; i++) {
+        size_t capacity = capacities[i % CAPACITIES], number = i / CAPACITIES;
+        make_pair(capacity, number);
+        enum call call = first_difference(number);
+        if (call == NO_CALL)
+            unlocked_differ += (size_t)unlocked_paths_differ();
+        else if (differ++ == 0)
+            put_difference(capacity, number, call);
+    }
+    put_text("unlocked: "), put_number(pairs - differ), put_text(" pairs, "), put_number(unlocked_differ);
+    put_text(" differ (LoadChar of a page that only one has stored: all must)\n");
+    put_text("traces: "), put_number(pairs), put_text(" pairs, "), put_number(differ), put_text(" differ\n");
+    return differ != 0 || unlocked_differ != pairs;
+}
