@@ -18,14 +18,18 @@ pub part-laid : (a e : ℕ) (xs ys : List ℕ) → a ≤ e → length ys ≡ e -
 unfolding lay
 part-laid a e xs ys h k = let n : a + length ys ≡ e = omega arith in rw (n, post-is a e xs h)
 
+-- a list over which one as long was put
+pub put-whole : (s d ys : List ℕ) → length s ≡ length d → ys ≡ layFront s d → ys ≡ s
+unfolding layFront
+put-whole s d ys l f =
+    let m : length s ≤ length d = omega arith in
+    f ∙ rw (le-leb _ _ m) (lay-whole s d l)
+
 -- a part of n bytes over which a list as long was put
 pub part-put : (a n : ℕ) (xs s ys : List ℕ) → length s ≡ n → a + n ≤ length xs → ys ≡ layFront s (take (a + n - a) (drop a xs)) → putMid a (a + n - a) xs ys ≡ lay a s xs
-unfolding layFront
 part-put a n xs s ys e h f =
     let l : length s ≡ length (take (a + n - a) (drop a xs)) = simp (length-take, length-drop) (omega arith) in
-    let m : length s ≤ length (take (a + n - a) (drop a xs)) = omega arith in
-    let same : ys ≡ s = f ∙ rw (le-leb _ _ m) (lay-whole s _ l) in
-    rw same (part-laid a (a + n) xs s (omega arith) (omega arith))
+    rw (put-whole s _ ys l f) (part-laid a (a + n) xs s (omega arith) (omega arith))
 
 -- a part of n bytes that was zeroed
 pub part-zeroed : (a n : ℕ) (xs ys : List ℕ) → a + n ≤ length xs → ys ≡ zeros (length (take (a + n - a) (drop a xs))) → putMid a (a + n - a) xs ys ≡ lay a (zeros n) xs

@@ -2,7 +2,7 @@
 use mathlib.Core.Path.{_≡_, refl}
 use mathlib.Core.Bool.{Bool, true, false, cond}
 use mathlib.Core.List.{List, [], _∷_}
-use Prim.Native.Nat.{ℕ, _+_, _-_, _*_, _/_, _%_, _≤_, _<_}
+use Prim.Native.Nat.{ℕ, _+_, _*_, _/_, _%_, _<_}
 use native.Mathlib.Omega.{arith}
 use lib.ListN.{length, getD, take, drop, length-drop}
 use lib.Seq.{take-all}
@@ -10,21 +10,10 @@ use borrow.Author.Tests.{lt-ltb, eq-eqb}
 use Rattle.protocol.specs.Bytes.{two, part, lay, joined}
 use Rattle.protocol.specs.Index.{setBits}
 use Rattle.protocol.specs.Reader.{Buffer}
-use Rattle.protocol.proofs.Laws.Lists.{from, by-four}
+use Rattle.protocol.proofs.Laws.Lists.{by-four}
 use Rattle.library.specs.Lent.{countOf, writePage, readPage}
 
 -- ---- parameters
-
--- four bytes from a place on
-pub four-from : (s : List ℕ) (i : ℕ) → i + 4 ≤ length s → getD s i 0 ∷ getD s (i + 1) 0 ∷ getD s (i + 2) 0 ∷ getD s (i + 3) 0 ∷ [] ≡ part i 4 s
-four-from s i h =
-    let a : i < length s = omega arith in
-    let b : i + 1 < length s = omega arith in
-    let c : i + 2 < length s = omega arith in
-    let d : i + 3 < length s = omega arith in
-    let e : i + 1 + 1 ≡ i + 2 = omega arith in
-    let f : i + 2 + 1 ≡ i + 3 = omega arith in
-    rw (from s i a, from s (i + 1) b, e, from s (i + 2) c, f, from s (i + 3) d)
 
 -- all but the first k of k + n bytes
 pub take-rest : (k n : ℕ) (c : List ℕ) → length c ≡ k + n → take n (drop k c) ≡ drop k c

@@ -18,5 +18,7 @@ pub(crate) fn four_at(s: &[u8], at: usize) -> [u8; 4]
     requires { ⌜ at + 4 ≤ length (now s) ⌝ }
     ensures { λ r. ⌜ (r ≡ part at 4 (now (s .entry))) × (length r ≡ 4) ⌝ }
 {
-    [s[at], s[at + 1], s[at + 2], s[at + 3]]
+    let mut four = [0u8; 4];
+    bytes::put(&mut four, &s[at..at + 4]);
+    four
 }

@@ -25,7 +25,9 @@ pub(crate) fn write_note(settings: Settings, notepad: &mut [u8], content: &[u8])
     }
     let a = numbers::NOTE * p;
     let e = a + numbers::NOTE;
-    bytes::put(&mut notepad[a..e], &content[2..34]);
+    let mut note = [0u8; numbers::NOTE];
+    bytes::put(&mut note, &content[2..34]);
+    bytes::put(&mut notepad[a..e], &note);
     answers::plain(codes::DONE, settings)
 }
 

@@ -26,15 +26,20 @@ fn content_of(code: u8, bytes: [u8; 32]) -> [u8; 33]
     content
 }
 
-// Writes an acknowledge at the front of the reply room.
+// Writes an acknowledge at the front of the reply room. Most have a code alone.
 fn put_acknowledge(a: Answer, reply: &mut [u8]) -> usize
     requires { ⌜ (a .count ≤ 32) × (700 ≤ length (now reply)) ⌝ }
     ensures { λ r. ⌜ (r ≡ a .count + 12) × (now (reply .exit) ≡ lay 0 (acknowledge (a .settings .address) (a .code) (take (a .count) (a .bytes))) (now (reply .entry))) ⌝ }
 {
     let n = a.count;
-    let bytes = a.bytes;
     let s = a.settings;
     let address = s.address;
+    if n == 0 {
+        let alone = [a.code];
+        let made = builder::build(address, numbers::ACKNOWLEDGE_PACKET, &alone, reply);
+        return made.length;
+    }
+    let bytes = a.bytes;
     let content = content_of(a.code, bytes);
     let made = builder::build(
         address,

@@ -1,13 +1,12 @@
--- Sums byte by byte, and four bytes compared without an early exit.
-use mathlib.Core.Path.{_≡_, refl, sym, ap, _∙_}
+-- Sums byte by byte, and four bytes compared as one number.
+use mathlib.Core.Path.{_≡_, refl, sym, _∙_}
 use mathlib.Core.Bool.{Bool, true, false, _&&_}
 use mathlib.Core.List.{List, [], _∷_}
-use Prim.Native.Nat.{ℕ, zero, suc, _+_, _%_, _≤_, _<_}
+use Prim.Native.Nat.{ℕ, _+_, _*_, _%_, _≤_, _<_}
 use native.Mathlib.Nat.{zero-add, add-zero, add-assoc, mod-add-mod, mod-eq-of-lt}
 use native.Mathlib.Omega.{arith}
 use lib.Dec.{eqb}
 use lib.ListN.{length, getD, drop, drop-of-length-le}
-use lib.Bits.{bitXor, xor-add-and, and-le-l, and-le-r, xor-self}
 use borrow.Author.Tests.{eq-eqb, ne-eqb, eqb-true, eqb-false}
 use Rattle.protocol.specs.Bytes.{total, same}
 use Rattle.protocol.proofs.Laws.Lists.{from, by-four}
@@ -34,41 +33,45 @@ sum-more s acc i next h e n = (omega arith, e .1 ∙ rw (total-step s i h, n, mo
 pub sum-all : (s : List ℕ) (acc i : ℕ) → length s ≤ i → Summed s acc i → acc ≡ total s % 65536
 sum-all s acc i h e = sym (e .1 ∙ rw (total-end s i h, add-zero) (mod-eq-of-lt (e .0)))
 
--- ---- four bytes: the sum of their exclusive ors is 0 where they are the same
+-- ---- four bytes: as one number they are equal where each is
 
-xor-zero : (a b : ℕ) → bitXor a b ≡ 0 → a ≡ b
-xor-zero a b e = omega (arith, xor-add-and a b, and-le-l a b, and-le-r a b)
+four-number : (p q r s w x y z : ℕ) → p < 256 → q < 256 → r < 256 → s < 256 → w < 256 → x < 256 → y < 256 → z < 256
+    → p + q * 256 + r * 65536 + s * 16777216 ≡ w + x * 256 + y * 65536 + z * 16777216 → (p ≡ w) × ((q ≡ x) × ((r ≡ y) × (s ≡ z)))
+four-number p q r s w x y z hp hq hr hs hw hx hy hz e =
+    let es : s ≡ z = omega arith in
+    let er : r ≡ y = omega arith in
+    let eq : q ≡ x = omega arith in
+    (omega arith, (eq, (er, es)))
 
-xor-same : (a b : ℕ) → eqb (bitXor a b) 0 ≡ eqb a b
-xor-same a b = go (eqb a b) refl
+same-number : (p q r s w x y z : ℕ) → p < 256 → q < 256 → r < 256 → s < 256 → w < 256 → x < 256 → y < 256 → z < 256
+    → eqb (p + q * 256 + r * 65536 + s * 16777216) (w + x * 256 + y * 65536 + z * 16777216) ≡ (eqb p w && (eqb q x && (eqb r y && (eqb s z && true))))
+same-number p q r s w x y z hp hq hr hs hw hx hy hz = go (eqb p w) (eqb q x) (eqb r y) (eqb s z) refl refl refl refl
   where
-    go : (t : Bool) → eqb a b ≡ t → eqb (bitXor a b) 0 ≡ eqb a b
-    go true e = let f : a ≡ b = eqb-true a b e in eq-eqb (bitXor a b) 0 (ap (λ (n : ℕ). bitXor n b) f ∙ xor-self b) ∙ sym e
-    go false e = ne-eqb (bitXor a b) 0 (λ z. eqb-false a b e (xor-zero a b z)) ∙ sym e
+    n : ℕ
+    n = p + q * 256 + r * 65536 + s * 16777216
 
-sum-zero : (x y : ℕ) → eqb (x + y) 0 ≡ (eqb x 0 && eqb y 0)
-sum-zero zero y = ap (λ (n : ℕ). eqb n 0) (zero-add y)
-sum-zero (suc x) y =
-    let f : suc x + y ≡ 0 → ⊥ = λ h. omega arith in
-    let g : suc x ≡ 0 → ⊥ = λ h. omega arith in
-    ne-eqb (suc x + y) 0 f ∙ ap (λ (t : Bool). t && eqb y 0) (sym (ne-eqb (suc x) 0 g))
+    m : ℕ
+    m = w + x * 256 + y * 65536 + z * 16777216
 
-nested : (p q r s : Bool) → (p && q && r && s) ≡ (p && (q && (r && (s && true))))
-nested false q r s = refl
-nested true false r s = refl
-nested true true false s = refl
-nested true true true false = refl
-nested true true true true = refl
+    go : (a b c d : Bool) → eqb p w ≡ a → eqb q x ≡ b → eqb r y ≡ c → eqb s z ≡ d → eqb n m ≡ (a && (b && (c && (d && true))))
+    go false b c d e f g h = ne-eqb n m (λ k. eqb-false p w e (four-number p q r s w x y z hp hq hr hs hw hx hy hz k .0))
+    go true false c d e f g h = ne-eqb n m (λ k. eqb-false q x f (four-number p q r s w x y z hp hq hr hs hw hx hy hz k .1 .0))
+    go true true false d e f g h = ne-eqb n m (λ k. eqb-false r y g (four-number p q r s w x y z hp hq hr hs hw hx hy hz k .1 .1 .0))
+    go true true true false e f g h = ne-eqb n m (λ k. eqb-false s z h (four-number p q r s w x y z hp hq hr hs hw hx hy hz k .1 .1 .1))
+    go true true true true e f g h = eq-eqb n m (rw (eqb-true p w e, eqb-true q x f, eqb-true r y g, eqb-true s z h) refl)
 
-pub same-xor : (a b : List ℕ) → length a ≡ 4 → length b ≡ 4
-    → eqb (bitXor (getD a 0 0) (getD b 0 0) + bitXor (getD a 1 0) (getD b 1 0) + bitXor (getD a 2 0) (getD b 2 0) + bitXor (getD a 3 0) (getD b 3 0)) 0 ≡ same a b
+pub same-four : (a b : List ℕ) → length a ≡ 4 → length b ≡ 4
+    → getD a 0 0 < 256 → getD a 1 0 < 256 → getD a 2 0 < 256 → getD a 3 0 < 256 → getD b 0 0 < 256 → getD b 1 0 < 256 → getD b 2 0 < 256 → getD b 3 0 < 256
+    → eqb (getD a 0 0 + getD a 1 0 * 256 + getD a 2 0 * 65536 + getD a 3 0 * 16777216) (getD b 0 0 + getD b 1 0 * 256 + getD b 2 0 * 65536 + getD b 3 0 * 16777216) ≡ same a b
 unfolding same
-same-xor a b h k =
+same-four a b h k =
     by-four a h
-    (λ (x : List ℕ).
-    eqb (bitXor (getD x 0 0) (getD b 0 0) + bitXor (getD x 1 0) (getD b 1 0) + bitXor (getD x 2 0) (getD b 2 0) + bitXor (getD x 3 0) (getD b 3 0)) 0 ≡ same x b)
+    (λ (t : List ℕ).
+    getD t 0 0 < 256 → getD t 1 0 < 256 → getD t 2 0 < 256 → getD t 3 0 < 256 → getD b 0 0 < 256 → getD b 1 0 < 256 → getD b 2 0 < 256 → getD b 3 0 < 256
+    → eqb (getD t 0 0 + getD t 1 0 * 256 + getD t 2 0 * 65536 + getD t 3 0 * 16777216) (getD b 0 0 + getD b 1 0 * 256 + getD b 2 0 * 65536 + getD b 3 0 * 16777216) ≡ same t b)
     (λ p q r s.
     by-four b k
-    (λ (y : List ℕ).
-    eqb (bitXor p (getD y 0 0) + bitXor q (getD y 1 0) + bitXor r (getD y 2 0) + bitXor s (getD y 3 0)) 0 ≡ same (p ∷ q ∷ r ∷ s ∷ []) y)
-    (λ w x y z. rw (sum-zero, sum-zero, sum-zero, xor-same, xor-same, xor-same, xor-same) (nested (eqb p w) (eqb q x) (eqb r y) (eqb s z))))
+    (λ (u : List ℕ).
+    p < 256 → q < 256 → r < 256 → s < 256 → getD u 0 0 < 256 → getD u 1 0 < 256 → getD u 2 0 < 256 → getD u 3 0 < 256
+    → eqb (p + q * 256 + r * 65536 + s * 16777216) (getD u 0 0 + getD u 1 0 * 256 + getD u 2 0 * 65536 + getD u 3 0 * 16777216) ≡ same (p ∷ q ∷ r ∷ s ∷ []) u)
+    (λ w x y z. same-number p q r s w x y z))

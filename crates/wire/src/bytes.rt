@@ -25,12 +25,13 @@ pub fn sum(s: &[u8]) -> u16
     acc
 }
 
-// Whether two words of four bytes are the same. Every byte is looked at, whatever the others are.
+// Whether two words of four bytes are the same. Each is compared as one number: every byte is looked at, whatever the others are.
 pub fn is_same(a: [u8; 4], b: [u8; 4]) -> bool
     ensures { λ r. ⌜ r ≡ same a b ⌝ }
 {
-    let d = wide(a[0] ^ b[0]) + wide(a[1] ^ b[1]) + wide(a[2] ^ b[2]) + wide(a[3] ^ b[3]);
-    d == 0
+    let x = wide(a[0]) + wide(a[1]) * 256 + wide(a[2]) * 65536 + wide(a[3]) * 16777216;
+    let y = wide(b[0]) + wide(b[1]) * 256 + wide(b[2]) * 65536 + wide(b[3]) * 16777216;
+    x == y
 }
 
 // Lays src over dst from place at on, and returns the place after it.

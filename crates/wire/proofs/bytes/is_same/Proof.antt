@@ -1,84 +1,142 @@
--- The exclusive ors of the four bytes add up to 0 just where all four are the same.
-use lib.ListN.{length}
-use Prim.Native.Nat.{_-_}
+-- As one number, four bytes are equal just where all four are the same.
 use mathlib.Core.Path.{_≡_}
+use Prim.Native.Nat.{_<_}
+use native.Mathlib.Omega.{arith}
+use lib.ListN.{length, getD}
 use borrow.Author.Needs.{needs}
-use Rattle.wire.proofs.Sums.{same-xor}
+use Rattle.wire.proofs.Sums.{same-four}
 use Rattle.wire.proofs.bytes.is_same.Statement.{statement}
 use Rattle.wire.proofs.bytes.is_same.Tie as tie
-use Rattle.wire.proofs.bytes.is_same.Reads as reads
-use Rattle.wire.proofs.bytes.is_same.Lts as lts
-use Rattle.wire.proofs.bytes.wide.Reads as wide-reads
 
 array-read-wide : tie.Need-array-read-wide
 array-read-wide c = search needs
 
-array-read-wide-2 : tie.Need-array-read-wide-2
-array-read-wide-2 c = search needs
-
 wide-requires : tie.Need-wide-requires
 wide-requires c κs = search needs
 
-array-read-wide-3 : tie.Need-array-read-wide-3
-array-read-wide-3 c = search needs
-
-array-read-wide-4 : tie.Need-array-read-wide-4
-array-read-wide-4 c = search needs
+array-read-wide-2 : tie.Need-array-read-wide-2
+array-read-wide-2 c = search needs
 
 wide-requires-2 : tie.Need-wide-requires-2
 wide-requires-2 c κs = search needs
 
-add-d : tie.Need-add-d
-add-d c = search needs
+mul-x : tie.Need-mul-x
+mul-x c = search needs
 
-array-read-wide-5 : tie.Need-array-read-wide-5
-array-read-wide-5 c = search needs
+add-x : tie.Need-add-x
+add-x c = search needs
 
-array-read-wide-6 : tie.Need-array-read-wide-6
-array-read-wide-6 c = search needs
+array-read-wide-3 : tie.Need-array-read-wide-3
+array-read-wide-3 c = search needs
 
 wide-requires-3 : tie.Need-wide-requires-3
 wide-requires-3 c κs = search needs
 
-add-d-2 : tie.Need-add-d-2
-add-d-2 c = search needs
+mul-x-2 : tie.Need-mul-x-2
+mul-x-2 c = search needs
 
-array-read-wide-7 : tie.Need-array-read-wide-7
-array-read-wide-7 c = search needs
+add-x-2 : tie.Need-add-x-2
+add-x-2 c = search needs
 
-array-read-wide-8 : tie.Need-array-read-wide-8
-array-read-wide-8 c = search needs
+array-read-wide-4 : tie.Need-array-read-wide-4
+array-read-wide-4 c = search needs
 
 wide-requires-4 : tie.Need-wide-requires-4
 wide-requires-4 c κs = search needs
 
-add-d-3 : tie.Need-add-d-3
-add-d-3 c = search needs
+mul-x-3 : tie.Need-mul-x-3
+mul-x-3 c = search needs
+
+add-x-3 : tie.Need-add-x-3
+add-x-3 c = search needs
+
+array-read-wide-5 : tie.Need-array-read-wide-5
+array-read-wide-5 c = search needs
+
+wide-requires-5 : tie.Need-wide-requires-5
+wide-requires-5 c κs = search needs
+
+array-read-wide-6 : tie.Need-array-read-wide-6
+array-read-wide-6 c = search needs
+
+wide-requires-6 : tie.Need-wide-requires-6
+wide-requires-6 c κs = search needs
+
+mul-y : tie.Need-mul-y
+mul-y c = search needs
+
+add-y : tie.Need-add-y
+add-y c = search needs
+
+array-read-wide-7 : tie.Need-array-read-wide-7
+array-read-wide-7 c = search needs
+
+wide-requires-7 : tie.Need-wide-requires-7
+wide-requires-7 c κs = search needs
+
+mul-y-2 : tie.Need-mul-y-2
+mul-y-2 c = search needs
+
+add-y-2 : tie.Need-add-y-2
+add-y-2 c = search needs
+
+array-read-wide-8 : tie.Need-array-read-wide-8
+array-read-wide-8 c = search needs
+
+wide-requires-8 : tie.Need-wide-requires-8
+wide-requires-8 c κs = search needs
+
+mul-y-3 : tie.Need-mul-y-3
+mul-y-3 c = search needs
+
+add-y-3 : tie.Need-add-y-3
+add-y-3 c = search needs
 
 returns : tie.Need-returns
 returns c =
-    let a = c .before .before .before .before .args in
+    let a = c .before .before .before .before .before .before .before .before .args in
     let p : length (a .t1) ≡ 4 = search needs in
     let q : length (a .t2) ≡ 4 = search needs in
-    rw (c .before .before .before .wide .ensures .0, c .before .before .wide2 .ensures .0, c .before .wide3 .ensures .0, c .wide4 .ensures .0) (same-xor (a .t1) (a .t2) p q)
+    let f0 : getD (a .t1) 0 0 < 256 = omega (arith, c .before .before .before .before .before .before .before .wide .ensures .0, c .before .before .before .before .before .before .before .wide .ensures .1) in
+    let f1 : getD (a .t1) 1 0 < 256 = omega (arith, c .before .before .before .before .before .before .wide2 .ensures .0, c .before .before .before .before .before .before .wide2 .ensures .1) in
+    let f2 : getD (a .t1) 2 0 < 256 = omega (arith, c .before .before .before .before .before .wide3 .ensures .0, c .before .before .before .before .before .wide3 .ensures .1) in
+    let f3 : getD (a .t1) 3 0 < 256 = omega (arith, c .before .before .before .before .wide4 .ensures .0, c .before .before .before .before .wide4 .ensures .1) in
+    let g0 : getD (a .t2) 0 0 < 256 = omega (arith, c .before .before .before .wide5 .ensures .0, c .before .before .before .wide5 .ensures .1) in
+    let g1 : getD (a .t2) 1 0 < 256 = omega (arith, c .before .before .wide6 .ensures .0, c .before .before .wide6 .ensures .1) in
+    let g2 : getD (a .t2) 2 0 < 256 = omega (arith, c .before .wide7 .ensures .0, c .before .wide7 .ensures .1) in
+    let g3 : getD (a .t2) 3 0 < 256 = omega (arith, c .wide8 .ensures .0, c .wide8 .ensures .1) in
+    rw (c .before .before .before .before .before .before .before .wide .ensures .0, c .before .before .before .before .before .before .wide2 .ensures .0, c .before .before .before .before .before .wide3 .ensures .0, c .before .before .before .before .wide4 .ensures .0, c .before .before .before .wide5 .ensures .0, c .before .before .wide6 .ensures .0, c .before .wide7 .ensures .0, c .wide8 .ensures .0) (same-four (a .t1) (a .t2) p q f0 f1 f2 f3 g0 g1 g2 g3)
 
 pub is-same-spec : {M : Type 1} → statement M
 is-same-spec =
     tie.close
     (tie.spec
     array-read-wide
-    array-read-wide-2
     wide-requires
-    array-read-wide-3
-    array-read-wide-4
+    array-read-wide-2
     wide-requires-2
-    add-d
-    array-read-wide-5
-    array-read-wide-6
+    mul-x
+    add-x
+    array-read-wide-3
     wide-requires-3
-    add-d-2
-    array-read-wide-7
-    array-read-wide-8
+    mul-x-2
+    add-x-2
+    array-read-wide-4
     wide-requires-4
-    add-d-3
+    mul-x-3
+    add-x-3
+    array-read-wide-5
+    wide-requires-5
+    array-read-wide-6
+    wide-requires-6
+    mul-y
+    add-y
+    array-read-wide-7
+    wide-requires-7
+    mul-y-2
+    add-y-2
+    array-read-wide-8
+    wide-requires-8
+    mul-y-3
+    add-y-3
     returns)
