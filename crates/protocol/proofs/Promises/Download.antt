@@ -11,20 +11,19 @@ use lib.Seq.{take-all, length-take-le}
 use Rattle.protocol.specs.Numbers.{pageBytes, fourBytes, dataPacket, lastPacket, done}
 use Rattle.protocol.specs.Bytes.{lay, follow}
 use Rattle.protocol.specs.Packet.{packet, lengthOf, accepts}
-use Rattle.protocol.specs.Reader.{Transfer, closed, opened, Plain, Buffer, Guarded, Reader, sizeOf, bufferOf, filledWith, emptied, locked, withTransfer, withBuffer, contents, reader}
+use Rattle.protocol.specs.Reader.{Transfer, closed, opened, unfit, Plain, Buffer, Guarded, Reader, sizeOf, bufferOf, filledWith, emptied, locked, withTransfer, withBuffer, contents, reader}
 use Rattle.protocol.specs.Commands.{barred, downChar, command}
 use Rattle.protocol.specs.Data.{acknowledge, packets}
 use Rattle.protocol.specs.Table.{await, apply, isBuffer, second, rule}
-use Rattle.protocol.specs.Step.{order, hearAs, hearAt, hear, silence, carryAs, rested, fits, takeAs, takeIn, answer, stepOf}
+use Rattle.protocol.specs.Step.{order, hearAs, hearAt, hear, silence, carryAs, ended, rested, fits, takeAs, takeIn, answer, stepOf}
 use Rattle.protocol.specs.Call.{Shape, fitRoom, fitTransfer, replyOf, carried, callOf, Ended}
 use Rattle.protocol.specs.Dialogue.{Event, received, on, finally, Exchange, exchanges}
 use Rattle.protocol.proofs.Laws.Logic.{and-i, eqb-same}
 use Rattle.protocol.proofs.Laws.Lists.{length-lay, head-lay, last-lay, take-lay}
 use Rattle.protocol.proofs.Laws.Finder.{heard-at}
 use Rattle.protocol.proofs.Laws.Effects.{buffer-same}
-use Rattle.protocol.proofs.Laws.Answers.{call-legal, obeyed}
+use Rattle.protocol.proofs.Laws.Answers.{spared, call-legal, obeyed}
 use Rattle.protocol.proofs.Laws.Legal.{buffer-long, Good, Moving, moving}
-use Rattle.protocol.proofs.Laws.Locked.{rested-still}
 use Rattle.protocol.proofs.Laws.Sizes.{Size}
 use Rattle.protocol.proofs.Promises.ReadBack.{ReadsAs, packet-reads}
 use Rattle.protocol.proofs.Promises.ReplyFits.{size-of}
@@ -175,6 +174,15 @@ unfolding bufferOf withBuffer
 buffer-own true g e = ap (λ (f : Bool). contents (g .templates) (g .index) (g .notepad) (g .buffer1) record { bytes = g .buffer2 .bytes; filled = f }) (sym e)
 buffer-own false g e = ap (λ (f : Bool). contents (g .templates) (g .index) (g .notepad) record { bytes = g .buffer1 .bytes; filled = f } (g .buffer2)) (sym e)
 
+rested-closed : (r : Reader) → withTransfer closed (rested r .plain) ≡ withTransfer closed (r .plain)
+unfolding rested ended withTransfer
+rested-closed r = go (r .plain .transfer)
+  where
+    go : (t : Transfer) → withTransfer closed (ended r t .plain) ≡ withTransfer closed (r .plain)
+    go closed = refl
+    go (opened w got) = refl
+    go (unfit b k) = refl
+
 module _ (σ : Shape) (ok : σ .most ≤ 8 * σ .indexed) (room : ℕ → List ℕ) (f : (n : ℕ) → T (fitRoom (room n))) where
   -- the data packets of s in the size in force, to the reader r
   abbrev pub template : Reader → List ℕ → List Event
@@ -208,26 +216,25 @@ module _ (σ : Shape) (ok : σ .most ≤ 8 * σ .indexed) (room : ℕ → List �
             (feeding-silent p g w (k .typed .address) σ ok z room f (z .more) 0 s b (omega (arith, z .whole)) (m ∙ sym (z .whole)) (buffer-long w g (k .buffers)) legal));
       }
 
-  -- DownChar of a buffer that there is, answered 00h, and then the data packets
+  -- DownChar of a buffer that there is, answered 00h, and then the data packets. An open transfer is ended first: `rested`
   pub record Download (r : Reader) (b : ℕ) (d lent s : List ℕ) : Type 0 where
     pub reply : replyOf (callOf σ r d lent .told) ≡ acknowledge (r .plain .address) done []
     pub silent : Silent (exchanges σ (callOf σ r d lent .after) (template (callOf σ r d lent .after) s))
     pub ends :
         finally σ (callOf σ r d lent .after) (template (callOf σ r d lent .after) s)
-        ≡ reader (withTransfer closed (r .plain)) (withBuffer (second b) (filledWith s) (r .guarded))
+        ≡ reader (withTransfer closed (r .plain)) (withBuffer (second b) (filledWith s) (rested r .guarded))
 
-  pub download : (r : Reader) → Legal σ ok r → locked (r .plain) ≡ false → r .plain .transfer ≡ closed → (b : ℕ) → T (isBuffer b) → (d lent : List ℕ) → T (fitRoom lent)
+  pub download : (r : Reader) → Legal σ ok r → locked (r .plain) ≡ false → (b : ℕ) → T (isBuffer b) → (d lent : List ℕ) → T (fitRoom lent)
       → hear (r .plain .address) d ≡ order (command (barred (downChar b))) → (s : List ℕ) → length s ≡ pageBytes → Download r b d lent s
   unfolding on carried replyOf carryAs follow rule apply withTransfer
-  download r l u c b i d lent v h s m =
+  download r l u b i d lent v h s m =
       let w : Bool = second b in
       let call = obeyed σ r d lent (l .legal) v u (downChar b) h (and-i (isBuffer b) true i tt) in
-      let still : rested r ≡ r = rested-still r c in
-      let t : Reader = apply (await w) r in
-      let e : callOf σ r d lent .after ≡ t = ap (λ (x : Ended). x .after) call ∙ ap (apply (await w)) still in
+      let t : Reader = apply (await w) (rested r) in
+      let e : callOf σ r d lent .after ≡ t = ap (λ (x : Ended). x .after) call in
       let sent : Downloads t w s = downloaded t (subst (Legal σ ok) e (stays-legal σ ok r l (received d lent))) w refl s m in
       record {
-        reply = rw (call, take-lay) (ap (λ (x : Reader). acknowledge (x .plain .address) done []) still);
+        reply = rw (call, take-lay) (ap (λ (a : List ℕ). acknowledge a done []) (spared r .address));
         silent = rw e (sent .silent);
-        ends = rw e (sent .ends ∙ ap (reader (withTransfer closed (r .plain))) (buffer-twice w emptied (filledWith s) (r .guarded)));
+        ends = rw e (sent .ends ∙ ap₂ reader (rested-closed r) (buffer-twice w emptied (filledWith s) (rested r .guarded)));
       }
