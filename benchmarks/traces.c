@@ -83,15 +83,15 @@ enum call {
     LAST_DATA_PACKET,
     NOISE,
     WRONG_PASSWORD,
-    LINE_SWITCH,
     LOCKED_CALLS,
-    RIGHT_PASSWORD = LOCKED_CALLS,
+    LINE_SWITCH = LOCKED_CALLS,
+    RIGHT_PASSWORD,
     LOAD_FIRST_PAGE,
     NO_CALL
 };
 
 /* The calls that one pair gets before the right password; the next pairs of its kind get others. */
-enum { CALLS_EACH = LOCKED_CALLS / 6 };
+enum { CALLS_EACH = (LOCKED_CALLS + 5) / 6 };
 
 static void append_command(struct command command, enum shape shape) {
     if (shape == NOISY) append_noise(16);
@@ -170,9 +170,10 @@ static int paths_differ(enum call call) {
     return step_count != first_count || memcmp(first_trace, step_trace, step_count * sizeof *step_trace) != 0;
 }
 
-/* Some of the calls, and then the right password. The first call whose paths differ. */
+/* Some of the calls with a line switch among them, and then the right password. The first call whose paths differ. */
 static enum call first_difference(size_t number) {
     for (size_t i = 0; i < CALLS_EACH; i++) {
+        if (i == CALLS_EACH / 2 && paths_differ(LINE_SWITCH)) return LINE_SWITCH;
         enum call call = (enum call)((CALLS_EACH * (number / KINDS) + i) % LOCKED_CALLS);
         if (paths_differ(call)) return call;
     }

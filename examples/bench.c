@@ -1,7 +1,7 @@
 /*
  * bench.c: the bench program in C, an example for firmware: a reader of 64 pages that takes packets from standard input and
  * writes replies to standard output. On a board, read and write are those of the serial port, and the memory is where
- * the board keeps it. The loop is all that a board has to add.
+ * the board keeps it. A board adds the line switch, the port's speed, and the keeping of settings and memory over power-off.
  *
  *     rt staticlib board && cc -I include examples/bench.c target/staticlib/libboard.a -o bench
  */
@@ -38,28 +38,33 @@ static int send_all(const uint8_t *bytes, size_t length) {
     return 1;
 }
 
-/* Answers every whole packet of the line, and keeps what is left at its front. Returns 0, or what went wrong. */
-static const char *answer_line(void) {
+/* Answers every whole packet of the line, and keeps what is left at its front. Returns whether it could, and says what not. */
+static int answer_line(void) {
     size_t from = 0;
     for (;;) {
         struct bystrodol_answer answer =
             bystrodol_step(&settings, templates, sizeof templates, stored, sizeof stored, notepad, sizeof notepad, buffer1,
                            sizeof buffer1, buffer2, sizeof buffer2, line + from, held - from, reply, sizeof reply);
         /* A reader that starts fresh stays legal, so this tells of memory that something else has written to. */
-        if (answer.refusal != BYSTRODOL_ACCEPTED) return "the reader is not legal";
+        if (answer.refusal != BYSTRODOL_ACCEPTED) {
+            dprintf(STDERR_FILENO, "the reader refuses with %d\n", answer.refusal);
+            return 0;
+        }
         if (answer.used == 0) break;
         from += answer.used;
-        if (!send_all(reply, answer.length)) return "write";
+        if (!send_all(reply, answer.length)) {
+            perror("write");
+            return 0;
+        }
     }
     held -= from;
     memmove(line, line + from, held);
-    return NULL;
+    return 1;
 }
 
 int main(void) {
     settings = bystrodol_fresh();
     for (;;) {
-        const char *wrong;
         ssize_t got = read(STDIN_FILENO, line + held, sizeof line - held);
         if (got < 0) {
             perror("read");
@@ -67,10 +72,6 @@ int main(void) {
         }
         if (got == 0) return 0;
         held += (size_t)got;
-        wrong = answer_line();
-        if (wrong) {
-            perror(wrong);
-            return 1;
-        }
+        if (!answer_line()) return 1;
     }
 }

@@ -10,9 +10,11 @@
  *   - Where the length is 0 nothing is read or written, and the pointer may be NULL. No other pointer may be NULL.
  *   - Bytes need no alignment.
  *   - No two arguments of a call share a byte, but two that are both const.
- *   - No other thread changes the bytes during the call, nor reads those that are not const.
+ *   - No other thread or interrupt handler changes the bytes during the call, nor reads those that are not const.
  *
- * Settings. The pointer leads to a whole, aligned struct bystrodol_settings; its three marks are 0 or 1, nothing else.
+ * Settings. The pointer leads to a whole, aligned struct bystrodol_settings; its three marks are 0 or 1, nothing else. It
+ * shares no byte with another argument, and no other thread or interrupt handler touches it during the call; it may be
+ * written with what it has, even when the call is refused.
  *
  * Each function has an answer for every number, every length and every setting, bad ones included, and that answer is
  * proved (crates/board/src/lib.rt). No proof covers a C caller that breaks the rules above: what then happens is
@@ -31,25 +33,31 @@
 /* The least bytes of a reply room. No reply is longer. */
 #define BYSTRODOL_REPLY_BYTES 700u
 
-/* Why a call was refused; 0 is carried out. Refused, it uses and replies nothing, and changes nothing. */
+/* Why a call was refused, tested in this order; 0 is carried out. Refused, it uses, replies and changes nothing. */
 #define BYSTRODOL_ACCEPTED 0u
 #define BYSTRODOL_BAD_LENGTH 1u  /* a lent length, the reply room's apart, is not as it must be */
 #define BYSTRODOL_BAD_ROOM 2u    /* the reply room is too small */
 #define BYSTRODOL_BAD_SETTING 3u /* a setting or the transfer is not legal, or an index bit at or above the capacity is set */
 
-/* A reader's settings, 20 bytes. They hold no pointer: they may be copied, stored and moved. */
+/*
+ * A reader's settings, 20 bytes; the last is padding and means nothing. Numbers are in the machine's byte order. They hold
+ * no pointer: they may be copied, stored and moved.
+ *
+ * A transfer is legal if got is a multiple of the size and below 512, its buffer's filled mark is 0, and the reader is not
+ * locked: password 0, or verified 1. No transfer is transfer 0 and got 0.
+ */
 struct bystrodol_settings {
     uint8_t password[4]; /* high byte first; 0 is no password */
     uint8_t address[4];  /* high byte first; FFFFFFFFh is a fresh reader's */
     uint8_t level;       /* security level, 1 to 5 */
     uint8_t size;        /* size code of data packets: 0, 1, 2 mean 32, 64, 128 bytes */
-    uint8_t baud;        /* baud factor, 1 to 12 */
+    uint8_t baud;        /* baud factor, 1 to 12; a host changes it here, and the caller the port's speed */
     uint8_t transfer;    /* 0: no transfer; 1 or 2: bytes are being received into that buffer */
     uint16_t sensor;     /* sensor type, any number */
     uint16_t got;        /* bytes of the transfer received so far; 0 where there is none */
     uint8_t verified;    /* 1 once the right password was given */
-    uint8_t filled1;     /* 1 if character buffer 1 holds a template */
-    uint8_t filled2;     /* 1 if character buffer 2 holds a template */
+    uint8_t filled1;     /* 1 if character buffer 1 holds a template, received or put there by the firmware */
+    uint8_t filled2;     /* the same of character buffer 2 */
 };
 
 /* What a call answers, 24 bytes. */
@@ -83,7 +91,11 @@ struct bystrodol_settings bystrodol_fresh(void);
 
 /*
  * A call of the reader: finds the first packet in a run of received bytes, carries it out, and writes the reply. It deals
- * with at most one packet. Call again with what is left until 0 bytes are used; then receive more.
+ * with at most one packet. After each call:
+ *   - If refusal is not 0, stop: the same call will be refused again, and receiving more does not help.
+ *   - Send length bytes of the reply room, and no more: behind them lie bytes of earlier replies, templates among them.
+ *   - Drop used bytes of the run. If used is 0, receive more. An unfinished packet has at most 264 bytes, so that a line of
+ *     265 or more never fills up.
  *
  *   settings                      the reader's; changed where they lie
  *   templates, templates_length   512 bytes for each page, 1 to 256 pages; the length says how many
@@ -101,7 +113,9 @@ struct bystrodol_answer bystrodol_step(struct bystrodol_settings *settings, uint
                                        size_t reply_length);
 
 /*
- * The line switch: verified mark and filled marks cleared, transfer closed, both buffers zeroed. It takes any settings.
+ * The line switch: verified mark and filled marks cleared, transfer closed, both buffers zeroed. It takes any settings whose
+ * marks are 0 or 1, illegal ones too. Call it whenever the line goes to another host, and at power-on: without it the next
+ * host finds the reader as the last one left it, open and with its buffers.
  * Returns 0, or BYSTRODOL_BAD_LENGTH if a buffer is not 512 bytes long; then nothing changes.
  */
 uint8_t bystrodol_line_switch(struct bystrodol_settings *settings, uint8_t *buffer1, size_t buffer1_length,

@@ -10,6 +10,7 @@ no_kit() {
 }
 rt=$(command -v rt) || no_kit "rt, the Rattle kit's command, is not on the PATH"
 kit=${RATTLE_HOME:-$(dirname "$(dirname "$(readlink -f "$rt")")")}
+case $kit in *[[:space:]]*) no_kit "the kit's folder has a space in its name: $kit" ;; esac
 own=$kit/on/$(uname -m)
 tools=$own/toolchain
 on_x86="$tools/lib/ld-linux-x86-64.so.2 --library-path $tools/lib"

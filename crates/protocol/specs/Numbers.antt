@@ -1,4 +1,4 @@
--- The numbers of document 01, each named once.
+-- Numbers of document 01, by name.
 use Prim.Native.Nat.{ℕ}
 
 -- ---- lent memory
