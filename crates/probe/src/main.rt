@@ -19,7 +19,7 @@ const MOST_INDEX: usize = 2 * numbers::INDEX;
 
 const MOST_BYTES: usize = 2 * numbers::PAGE;
 
-// Writes a line to standard error. It is false, as the answer of who calls it.
+// Writes a line to standard error, and returns false for its caller to return.
 fn complain(what: &[u8]) -> bool {
     io::write_all(STDERR_FILENO, what);
     false
