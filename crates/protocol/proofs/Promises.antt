@@ -1,8 +1,10 @@
+pub mod Told
 pub mod ReadBack
 pub mod ZeroUsed
 pub mod StaysLegal
 pub mod Refused
 pub mod LegalMeans
+pub mod Rows
 pub mod Examples
 pub mod Lock
 pub mod Opens

@@ -15,11 +15,12 @@ use Rattle.protocol.specs.Call.{Shape, fitLengths, fitRoom, sound, legal
 use Rattle.protocol.proofs.Laws.Logic.{T→true, and-l, and-r, and-i, passed, verdict-passed, passed-verdict}
 use Rattle.protocol.proofs.Laws.Commands.{tests-numbered}
 
--- ---- a reader whose transfer is ended keeps its library, its address and its lock
+-- ---- a reader whose transfer is ended keeps its library, its notepad, its address and its lock
 
 pub record Spared (r t : Reader) : Type 0 where
   pub index : t .guarded .index ≡ r .guarded .index
   pub templates : t .guarded .templates ≡ r .guarded .templates
+  pub notepad : t .guarded .notepad ≡ r .guarded .notepad
   pub address : t .plain .address ≡ r .plain .address
   pub lock : locked (t .plain) ≡ locked (r .plain)
 
@@ -28,9 +29,9 @@ unfolding rested ended withTransfer withBuffer locked keyed
 spared r = go (r .plain .transfer)
   where
     go : (t : Transfer) → Spared r (ended r t)
-    go closed = record { index = refl; templates = refl; address = refl; lock = refl }
-    go (opened w got) = record { index = refl; templates = refl; address = refl; lock = refl }
-    go (unfit b k) = record { index = refl; templates = refl; address = refl; lock = refl }
+    go closed = record { index = refl; templates = refl; notepad = refl; address = refl; lock = refl }
+    go (opened w got) = record { index = refl; templates = refl; notepad = refl; address = refl; lock = refl }
+    go (unfit b k) = record { index = refl; templates = refl; notepad = refl; address = refl; lock = refl }
 
 -- ---- an answer, by its kind
 
@@ -83,6 +84,17 @@ module _ (P : Said → Type 0) (r : Reader) where
       go false e = row-kinds c k e
   answer-kinds (piece last right content) k = take-kinds last right content k (r .plain .transfer) refl
 
+-- ---- a command of a reader that is not locked: its row is carried out, by the verdict of its tests
+
+pub row-answer : (r : Reader) (s : List ℕ) → locked (r .plain) ≡ false → (c : Barred) → hear (r .plain .address) s ≡ order (command (barred c)) → (k : ℕ)
+    → verdict (rule (rested r) c .tests) ≡ k → answer r (hear (r .plain .address) s) ≡ carryAs (rested r) (rule (rested r) c) k
+unfolding answer heed obey carry
+row-answer r s l c h k v = rw (h, spared r .lock ∙ l, v) refl
+
+pub obeys : (r : Reader) (s : List ℕ) → locked (r .plain) ≡ false → (c : Barred) → hear (r .plain .address) s ≡ order (command (barred c))
+    → T (passed (rule (rested r) c .tests)) → answer r (hear (r .plain .address) s) ≡ carryAs (rested r) (rule (rested r) c) zero
+obeys r s l c h p = row-answer r s l c h zero (passed-verdict (rule (rested r) c .tests) p)
+
 -- ---- a call: refused with nothing changed, or a legal reader's step with a fit reply room
 
 module _ (σ : Shape) (r : Reader) (s room : List ℕ) where
@@ -118,6 +130,5 @@ module _ (σ : Shape) (r : Reader) (s room : List ℕ) where
       → T (passed (rule (rested r) c .tests))
       → callOf σ r s room
       ≡ carried record { used = usedOf (findOf s); reply = carryAs (rested r) (rule (rested r) c) zero .reply; after = carryAs (rested r) (rule (rested r) c) zero .after } room
-  unfolding stepOf answer heed obey carry
-  obeyed t u l c h p =
-      rw (call-legal t u, h, spared r .lock ∙ l, passed-verdict (rule (rested r) c .tests) p) refl
+  unfolding stepOf
+  obeyed t u l c h p = rw (call-legal t u, obeys r s l c h p) refl

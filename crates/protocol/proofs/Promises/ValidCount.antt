@@ -1,7 +1,7 @@
 -- Demand 2: "From an empty library, the valid count always equals the pages stored and not deleted since."
 -- The host knows what it sent and what it was answered: a Store, DeletChar or Empty that was answered 00h counts.
 use mathlib.Core.Bool.{Bool, true, false, _&&_, _||_, not, cond}
-use mathlib.Core.Path.{_≡_, refl, ap, _∙_, subst}
+use mathlib.Core.Path.{_≡_, refl, ap, ap₂, _∙_, subst}
 use mathlib.Core.Logic.{_⊎_, inl, inr}
 use mathlib.Core.List.{List, [], _∷_, _++_}
 use Prim.Native.Nat.{ℕ, zero, suc, _+_, _*_, _≤_, _<_}
@@ -27,9 +27,11 @@ use Rattle.protocol.proofs.Laws.Logic.{and-l, and-r, passed}
 use Rattle.protocol.proofs.Laws.Lists.{same-refl, same-eq, same-front, take-lay}
 use Rattle.protocol.proofs.Laws.Index.{Fine, stored-with, stored-span, stored-zeros, fine-with, fine-span, fine-zeros}
 use Rattle.protocol.proofs.Laws.Count.{count-ext}
-use Rattle.protocol.proofs.Laws.Answers.{spared, answer-kinds, call-kinds, obeyed}
+use Rattle.protocol.proofs.Laws.Answers.{spared, answer-kinds, call-kinds}
 use Rattle.protocol.proofs.Laws.Legal.{shelf}
+use Rattle.protocol.proofs.Promises.Told.{Gives, word}
 use Rattle.protocol.proofs.Promises.StaysLegal.{Legal, ever-legal}
+use Rattle.protocol.proofs.Promises.Settings.{tells-number}
 
 -- an index of m bytes tells of the same pages as the acts so far
 pub record Tells (m : ℕ) (x : List ℕ) (acts : List Act) : Type 0 where
@@ -205,16 +207,11 @@ module _ (σ : Shape) (ok : σ .most ≤ 8 * σ .indexed) where
       in
       ap (λ (n : ℕ). countBelow (stored x) (8 * n)) (k .fine .long) ∙ count-ext (stored x) (live (history (exchanges σ r es) [])) (8 * σ .indexed) (λ q l. k .pages q)
 
-  -- TempleteNum answers the set bits
-  pub number-told : (r : Reader) (s room : List ℕ) → T (legal σ r) → T (fitRoom room) → locked (r .plain) ≡ false → hear (r .plain .address) s ≡ order (command (barred templeteNum))
-      → replyOf (callOf σ r s room .told) ≡ acknowledge (r .plain .address) done (two (setBits (r .guarded .index)))
-  unfolding carried replyOf carryAs rule apply follow
-  number-told r s room t u l h = rw (obeyed σ r s room t u l templeteNum h tt, take-lay, spared r .address, spared r .index) refl
-
-  -- and so, at any time, the pages stored and not deleted since
+  -- and TempleteNum answers them, at any time that the reader is not locked
   pub count-told : (r : Reader) → Legal σ ok r → r .guarded .index ≡ zeros (σ .indexed) → (es : List Event) (s room : List ℕ) → T (fitRoom room)
       → locked (finally σ r es .plain) ≡ false → hear (finally σ r es .plain .address) s ≡ order (command (barred templeteNum))
-      → replyOf (callOf σ (finally σ r es) s room .told) ≡ acknowledge (finally σ r es .plain .address) done (two (livePages r es))
+      → Gives (acknowledge (finally σ r es .plain .address) 0x00 (word (livePages r es))) (rested (finally σ r es)) s room (callOf σ (finally σ r es) s room)
   count-told r f z es s room u l h =
-      number-told (finally σ r es) s room (ever-legal σ ok r f es .legal) u l h
-      ∙ ap (λ (n : ℕ). acknowledge (finally σ r es .plain .address) done (two n)) (valid-count r z es)
+      let t : Reader = finally σ r es in
+      let same = ap₂ (λ (a : List ℕ) (n : ℕ). acknowledge a 0x00 (word n)) (spared t .address) (ap setBits (spared t .index) ∙ valid-count r z es) in
+      subst (λ (x : List ℕ). Gives x (rested t) s room (callOf σ t s room)) same (tells-number σ t s room (ever-legal σ ok r f es .legal) u l h)

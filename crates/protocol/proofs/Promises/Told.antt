@@ -1,0 +1,103 @@
+-- The words in which the promises tell of a call that is carried out: what all such calls have in common, and the parts of a reader in document 01's
+-- own numbers. None of them cites a definition of the reader, so that a promise says its sentence a second time.
+use mathlib.Core.Bool.{Bool, not}
+use mathlib.Core.Path.{_≡_, refl, ap, _∙_}
+use mathlib.Core.Logic.{_⊎_, inl, inr, _↔_}
+use mathlib.Core.List.{List, [], _∷_, _++_}
+use Prim.Native.Nat.{ℕ, zero, suc, _+_, _*_, _/_, _%_, _^_}
+use native.Mathlib.Omega.{arith}
+use lib.Dec.{T, eqb, eqb→eq}
+use lib.ListN.{length, take, drop, getD}
+use Rattle.protocol.specs.declared.Found.the-variants.{Whole}
+use Rattle.protocol.specs.Finder.{findOf, usedOf}
+use Rattle.protocol.specs.Bytes.{lay}
+use Rattle.protocol.specs.Reader.{Buffer, Guarded, Reader, bufferOf}
+use Rattle.protocol.specs.Table.{isBuffer, second}
+use Rattle.protocol.specs.Step.{hear, Said, answer, stepOf}
+use Rattle.protocol.specs.Call.{Shape, fitRoom, legal, Ended, carried, callOf}
+use Rattle.protocol.proofs.Laws.Logic.{or-either}
+use Rattle.protocol.proofs.Laws.Answers.{call-legal}
+
+-- ---- what every call that is carried out has in common
+
+-- no refusal; the packet's bytes and those before it used; the reply at the front of the room, and its length; the room behind it as it was
+pub record Replies (reply s lent : List ℕ) (e : Ended) : Type 0 where
+  pub refusal : e .told .refusal ≡ 0
+  pub used : (p n : ℕ) → findOf s ≡ Whole p n → e .told .used ≡ p + 9 + n
+  pub long : e .told .length ≡ length reply
+  pub room : e .told .room ≡ reply ++ drop (length reply) lent
+
+-- such a call, and the reader that it leaves
+pub record Gives (reply : List ℕ) (t : Reader) (s lent : List ℕ) (e : Ended) : Type 0 where
+  pub told : Replies reply s lent e
+  pub after : e .after ≡ t
+
+lay-front : (s d : List ℕ) → lay 0 s d ≡ s ++ drop (length s) d
+unfolding lay
+lay-front s d = let e : 0 + length s ≡ length s = omega arith in ap (λ (n : ℕ). s ++ drop n d) e
+
+-- a legal reader with a fit reply room gives its answer to what it heard
+pub answered : (σ : Shape) (r : Reader) (s room : List ℕ) → T (legal σ r) → T (fitRoom room) → (a : Said) → answer r (hear (r .plain .address) s) ≡ a
+    → Gives (a .reply) (a .after) s room (callOf σ r s room)
+unfolding carried stepOf usedOf
+answered σ r s room f u a e =
+    rw (call-legal σ r s room f u, e)
+    record {
+      told = record { refusal = refl; used = λ p n h. ap usedOf h; long = refl; room = lay-front (a .reply) room };
+      after = refl;
+    }
+
+-- ---- a number as two bytes, high byte first
+
+abbrev pub word : ℕ → List ℕ
+word n = (n / 256 % 256) ∷ (n % 256) ∷ []
+
+-- ---- a reader's parts
+
+-- C, read off the templates' length
+abbrev pub pages : Reader → ℕ
+pages r = length (r .guarded .templates) / 512
+
+-- page q: the 512 bytes that start at 512 × q; and its bit, that of weight 2^(q mod 8) in byte q / 8
+abbrev pub page : Reader → ℕ → List ℕ
+page r q = take 512 (drop (512 * q) (r .guarded .templates))
+
+abbrev pub has : Reader → ℕ → Bool
+has r q = eqb (getD (r .guarded .index) (q / 8) 0 / 2 ^ (q % 8) % 2) 1
+
+-- a buffer's number; the buffer, and the other one
+abbrev pub Numbered : ℕ → Type 0
+Numbered b = (b ≡ 1) ⊎ (b ≡ 2)
+
+abbrev pub buffer : ℕ → Guarded → Buffer
+buffer zero g = g .buffer1
+buffer (suc zero) g = g .buffer1
+buffer (suc (suc k)) g = g .buffer2
+
+abbrev pub other : ℕ → Guarded → Buffer
+other zero g = g .buffer2
+other (suc zero) g = g .buffer2
+other (suc (suc k)) g = g .buffer1
+
+-- the table's own tests and choices of a buffer say the same
+pub numbered : (b : ℕ) → T (isBuffer b) ↔ Numbered b
+unfolding isBuffer
+numbered b = (λ t. there (or-either (eqb b 1) (eqb b 2) t), back)
+  where
+    there : T (eqb b 1) ⊎ T (eqb b 2) → Numbered b
+    there (inl x) = inl (eqb→eq b 1 x)
+    there (inr x) = inr (eqb→eq b 2 x)
+
+    back : Numbered b → T (isBuffer b)
+    back (inl e) = rw e tt
+    back (inr e) = rw e tt
+
+pub buffer-is : (b : ℕ) → Numbered b → (g : Guarded) → bufferOf (second b) g ≡ buffer b g
+unfolding bufferOf
+buffer-is b (inl e) g = rw e refl
+buffer-is b (inr e) g = rw e refl
+
+pub other-is : (b : ℕ) → Numbered b → (g : Guarded) → bufferOf (not (second b)) g ≡ other b g
+unfolding bufferOf
+other-is b (inl e) g = rw e refl
+other-is b (inr e) g = rw e refl
