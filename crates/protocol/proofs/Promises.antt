@@ -18,6 +18,6 @@ pub mod Switch
 pub mod Order
 pub mod OneResult
 pub mod Silent
-pub mod Broken
+pub mod Pieces
 pub mod Settings
 pub mod Parameters

@@ -2,7 +2,7 @@
 use mathlib.Core.Bool.{Bool, true, false, not, cond}
 use mathlib.Core.Path.{_≡_, refl, sym, ap, _∙_, subst}
 use mathlib.Core.List.{List}
-use Prim.Native.Nat.{ℕ, _+_, _-_, _*_, _/_, _%_, _≤_, _<_}
+use Prim.Native.Nat.{ℕ, _+_, _*_, _/_, _%_, _≤_, _<_}
 use native.Mathlib.Nat.{zero-mod}
 use native.Mathlib.Omega.{arith}
 use lib.Dec.{T, eqb, ltb, eqb→eq, leb→le, le→leb, ltb→lt}
@@ -61,6 +61,10 @@ moving p g w got t =
       unfilled = T→false (bufferOf w g .filled) (search (and-l, and-r));
       free = T→false (locked p) (search (and-l, and-r));
     }
+
+pub legal-transfer : (σ : Shape) (r : Reader) → T (legal σ r) → T (fitTransfer (r .plain) (r .guarded) (r .plain .transfer))
+unfolding legal sound
+legal-transfer σ r t = search (and-l, and-r)
 
 -- what a data packet that goes in says
 pub record Fitting (p : Plain) (got : ℕ) (last : Bool) (content : List ℕ) : Type 0 where

@@ -1,6 +1,7 @@
 -- Lists of bytes: comparison, parts, one list laid over another, split and joined.
-use mathlib.Core.Bool.{true}
+use mathlib.Core.Bool.{Bool, true, false}
 use mathlib.Core.Path.{_≡_, refl, sym, ap, ap₂, _∙_}
+use mathlib.Core.Logic.{_≢_}
 use mathlib.Core.List.{List, [], _∷_, _++_, append-assoc, append-nil}
 use Prim.Native.Nat.{ℕ, zero, suc, _+_, _-_, _*_, _/_, _%_, _≤_, _<_}
 use native.Mathlib.Nat.{suc-mul, add-zero, add-assoc}
@@ -27,6 +28,13 @@ same-eq (x ∷ s) [] e = cc
 same-eq (x ∷ s) (y ∷ t) e =
     ap₂ (λ (n : ℕ) (u : List ℕ). n ∷ u) (eqb→eq x y (and-l (eqb x y) (same s t) (rw e tt)))
     (same-eq s t (T→true (same s t) (and-r (eqb x y) (same s t) (rw e tt))))
+
+pub differ : (s t : List ℕ) → s ≢ t → same s t ≡ false
+differ s t d = go (same s t) refl
+  where
+    go : (b : Bool) → same s t ≡ b → same s t ≡ false
+    go true e = absurd (d (same-eq s t e))
+    go false e = e
 
 pub same-front : (s t u : List ℕ) → same (s ++ t) (s ++ u) ≡ same t u
 unfolding same

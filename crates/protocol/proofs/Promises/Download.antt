@@ -2,29 +2,30 @@
 use mathlib.Core.Bool.{Bool, true, false, cond}
 use mathlib.Core.Path.{_≡_, refl, sym, ap, ap₂, _∙_, subst}
 use mathlib.Core.List.{List, [], _∷_, _++_, append-assoc}
-use Prim.Native.Nat.{ℕ, zero, suc, _+_, _-_, _*_, _/_, _≤_, _<_}
+use Prim.Native.Nat.{ℕ, zero, suc, _+_, _*_, _/_, _≤_, _<_}
 use native.Mathlib.Omega.{arith}
 use lib.Dec.{T, eqb, eqb·suc-zero}
 use borrow.Author.Tests.{lt-ltb}
 use lib.ListN.{length, take, drop, length-drop, take-append-drop}
 use lib.Seq.{take-all, length-take-le}
-use Rattle.protocol.specs.Numbers.{pageBytes, fourBytes, dataPacket, lastPacket, done}
-use Rattle.protocol.specs.Bytes.{lay, follow}
+use Rattle.protocol.specs.Numbers.{pageBytes, fourBytes, dataPacket, lastPacket}
+use Rattle.protocol.specs.Bytes.{lay}
 use Rattle.protocol.specs.Packet.{packet, lengthOf, accepts}
-use Rattle.protocol.specs.Reader.{Transfer, closed, opened, unfit, Plain, Buffer, Guarded, Reader, sizeOf, bufferOf, filledWith, emptied, locked, withTransfer, withBuffer, contents, reader}
+use Rattle.protocol.specs.Reader.{Transfer, closed, opened, Plain, Buffer, Guarded, Reader, sizeOf, bufferOf, filledWith, locked, withTransfer, withBuffer, contents, reader}
 use Rattle.protocol.specs.Commands.{barred, downChar, command}
 use Rattle.protocol.specs.Data.{acknowledge, packets}
-use Rattle.protocol.specs.Table.{await, apply, isBuffer, second, rule}
-use Rattle.protocol.specs.Step.{order, hearAs, hearAt, hear, silence, carryAs, ended, rested, fits, takeAs, takeIn, answer, stepOf}
+use Rattle.protocol.specs.Step.{order, hearAs, hearAt, hear, silence, rested, fits, takeAs, takeIn, answer, stepOf}
 use Rattle.protocol.specs.Call.{Shape, fitRoom, fitTransfer, replyOf, carried, callOf, Ended}
 use Rattle.protocol.specs.Dialogue.{Event, received, on, finally, Exchange, exchanges}
-use Rattle.protocol.proofs.Laws.Logic.{and-i, eqb-same}
-use Rattle.protocol.proofs.Laws.Lists.{length-lay, head-lay, last-lay, take-lay}
+use Rattle.protocol.proofs.Laws.Logic.{eqb-same}
+use Rattle.protocol.proofs.Laws.Lists.{length-lay, head-lay, last-lay}
 use Rattle.protocol.proofs.Laws.Finder.{heard-at}
 use Rattle.protocol.proofs.Laws.Effects.{buffer-same}
-use Rattle.protocol.proofs.Laws.Answers.{spared, call-legal, obeyed}
+use Rattle.protocol.proofs.Laws.Answers.{call-legal}
 use Rattle.protocol.proofs.Laws.Legal.{buffer-long, Good, Moving, moving}
 use Rattle.protocol.proofs.Laws.Sizes.{Size}
+use Rattle.protocol.proofs.Promises.Told.{Leaves, Numbered, number, blank, WithBuffer, with-buffer, number-is}
+use Rattle.protocol.proofs.Promises.Moves.{down-awaits}
 use Rattle.protocol.proofs.Promises.ReadBack.{ReadsAs, packet-reads}
 use Rattle.protocol.proofs.Promises.ReplyFits.{size-of}
 use Rattle.protocol.proofs.Promises.StaysLegal.{Legal, good, stays-legal}
@@ -174,26 +175,18 @@ unfolding bufferOf withBuffer
 buffer-own true g e = ap (λ (f : Bool). contents (g .templates) (g .index) (g .notepad) (g .buffer1) record { bytes = g .buffer2 .bytes; filled = f }) (sym e)
 buffer-own false g e = ap (λ (f : Bool). contents (g .templates) (g .index) (g .notepad) record { bytes = g .buffer1 .bytes; filled = f } (g .buffer2)) (sym e)
 
-rested-closed : (r : Reader) → withTransfer closed (rested r .plain) ≡ withTransfer closed (r .plain)
-unfolding rested ended withTransfer
-rested-closed r = go (r .plain .transfer)
-  where
-    go : (t : Transfer) → withTransfer closed (ended r t .plain) ≡ withTransfer closed (r .plain)
-    go closed = refl
-    go (opened w got) = refl
-    go (unfit b k) = refl
-
 module _ (σ : Shape) (ok : σ .most ≤ 8 * σ .indexed) (room : ℕ → List ℕ) (f : (n : ℕ) → T (fitRoom (room n))) where
   -- the data packets of s in the size in force, to the reader r
   abbrev pub template : Reader → List ℕ → List Event
   template r s = deliver room (packets (r .plain .address) (pageBytes / sizeOf (r .plain .size)) (sizeOf (r .plain .size)) s)
 
   -- the buffer has the template and its mark, the transfer is closed, all else is as it was; and no packet was answered
-  pub record Downloads (r : Reader) (w : Bool) (s : List ℕ) : Type 0 where
-    pub ends : finally σ r (template r s) ≡ reader (withTransfer closed (r .plain)) (withBuffer w (filledWith s) (r .guarded))
+  pub record Downloads (r : Reader) (b : ℕ) (s : List ℕ) : Type 0 where
+    pub ends : WithBuffer b record { bytes = s; filled = true } closed r (finally σ r (template r s))
     pub silent : Silent (exchanges σ r (template r s))
 
-  pub downloaded : (r : Reader) → Legal σ ok r → (w : Bool) → r .plain .transfer ≡ opened w 0 → (s : List ℕ) → length s ≡ pageBytes → Downloads r w s
+  pub downloaded : (r : Reader) → Legal σ ok r → (w : Bool) → r .plain .transfer ≡ opened w 0 → (s : List ℕ) → length s ≡ 512 → Downloads r (number w) s
+  unfolding filledWith
   downloaded r l w e s m =
       let p : Plain = r .plain in
       let g : Guarded = r .guarded in
@@ -205,36 +198,31 @@ module _ (σ : Shape) (ok : σ .most ≤ 8 * σ .indexed) (room : ℕ → List �
       let own : now ≡ r = ap₂ reader (transfer-own p (opened w 0) e) (buffer-own w g (moves .unfilled)) in
       let legal : Legal σ ok now = subst (Legal σ ok) (sym own) l in
       let sent : ℕ → List Event = λ n. deliver room (packets (p .address) n (sizeOf (p .size)) s) in
+      let last : finally σ r (template r s) ≡ reader (withTransfer closed p) (withBuffer w (filledWith s) g) =
+      ap (λ (x : Reader). finally σ x (template r s)) (sym own)
+      ∙ ap (λ (n : ℕ). finally σ now (sent n)) (z .count)
+      ∙ feeding p g w (k .typed .address) σ ok z room f (z .more) 0 s b (omega (arith, z .whole)) (m ∙ sym (z .whole)) (buffer-long w g (k .buffers)) legal
+      in
       record {
-        ends =
-            ap (λ (x : Reader). finally σ x (template r s)) (sym own)
-            ∙ ap (λ (n : ℕ). finally σ now (sent n)) (z .count)
-            ∙ feeding p g w (k .typed .address) σ ok z room f (z .more) 0 s b (omega (arith, z .whole)) (m ∙ sym (z .whole)) (buffer-long w g (k .buffers)) legal;
+        ends = subst (WithBuffer (number w) (filledWith s) closed r) (sym last) (with-buffer w (filledWith s) closed r);
         silent =
             subst (λ (x : Reader). Silent (exchanges σ x (template r s))) own
             (rw (z .count)
             (feeding-silent p g w (k .typed .address) σ ok z room f (z .more) 0 s b (omega (arith, z .whole)) (m ∙ sym (z .whole)) (buffer-long w g (k .buffers)) legal));
       }
 
-  -- DownChar of a buffer that there is, answered 00h, and then the data packets. An open transfer is ended first: `rested`
+  -- so DownChar, answered 00h, and then the data packets
   pub record Download (r : Reader) (b : ℕ) (d lent s : List ℕ) : Type 0 where
-    pub reply : replyOf (callOf σ r d lent .told) ≡ acknowledge (r .plain .address) done []
-    pub silent : Silent (exchanges σ (callOf σ r d lent .after) (template (callOf σ r d lent .after) s))
-    pub ends :
-        finally σ (callOf σ r d lent .after) (template (callOf σ r d lent .after) s)
-        ≡ reader (withTransfer closed (r .plain)) (withBuffer (second b) (filledWith s) (rested r .guarded))
+    pub opens : Leaves (acknowledge (rested r .plain .address) 0x00 []) (WithBuffer b blank (opened (eqb b 2) 0) (rested r)) d lent (callOf σ r d lent)
+    pub fills : Downloads (callOf σ r d lent .after) b s
 
-  pub download : (r : Reader) → Legal σ ok r → locked (r .plain) ≡ false → (b : ℕ) → T (isBuffer b) → (d lent : List ℕ) → T (fitRoom lent)
-      → hear (r .plain .address) d ≡ order (command (barred (downChar b))) → (s : List ℕ) → length s ≡ pageBytes → Download r b d lent s
-  unfolding on carried replyOf carryAs follow rule apply withTransfer
+  pub download : (r : Reader) → Legal σ ok r → locked (r .plain) ≡ false → (b : ℕ) → Numbered b → (d lent : List ℕ) → T (fitRoom lent)
+      → hear (r .plain .address) d ≡ order (command (barred (downChar b))) → (s : List ℕ) → length s ≡ 512 → Download r b d lent s
+  unfolding on
   download r l u b i d lent v h s m =
-      let w : Bool = second b in
-      let call = obeyed σ r d lent (l .legal) v u (downChar b) h (and-i (isBuffer b) true i tt) in
-      let t : Reader = apply (await w) (rested r) in
-      let e : callOf σ r d lent .after ≡ t = ap (λ (x : Ended). x .after) call in
-      let sent : Downloads t w s = downloaded t (subst (Legal σ ok) e (stays-legal σ ok r l (received d lent))) w refl s m in
+      let o = down-awaits σ ok r l u d lent v b h i in
+      let t : Reader = callOf σ r d lent .after in
       record {
-        reply = rw (call, take-lay) (ap (λ (a : List ℕ). acknowledge a done []) (spared r .address));
-        silent = rw e (sent .silent);
-        ends = rw e (sent .ends ∙ ap₂ reader (rested-closed r) (buffer-twice w emptied (filledWith s) (rested r .guarded)));
+        opens = o;
+        fills = subst (λ (n : ℕ). Downloads t n s) (number-is b i) (downloaded t (stays-legal σ ok r l (received d lent)) (eqb b 2) (ap (λ (x : Plain). x .transfer) (o .after .settings)) s m);
       }

@@ -1,16 +1,16 @@
 -- What Store, LoadChar, DownChar, DeletChar and Empty do once their row's tests pass: the reply, every page's bytes and bit, both buffers, the
 -- notepad and the settings.
-use mathlib.Core.Bool.{Bool, true, false, _&&_, _||_, not}
-use mathlib.Core.Path.{_≡_, refl, sym, ap, _∙_}
+use mathlib.Core.Bool.{true, false, _&&_, _||_, not}
+use mathlib.Core.Path.{_≡_, sym, ap, _∙_, subst}
 use mathlib.Core.Logic.{_≢_}
 use mathlib.Core.List.{List, []}
-use Prim.Native.Nat.{ℕ, zero, _+_, _-_, _*_, _≤_, _<_}
+use Prim.Native.Nat.{ℕ, zero, _+_, _*_, _≤_, _<_}
 use native.Mathlib.Omega.{arith}
 use lib.Dec.{T, eqb, ltb, leb, lt→ltb, le→leb, ltb→lt}
 use lib.ListN.{length, replicate}
 use Rattle.protocol.specs.Bytes.{part, zeros, lay, follow}
 use Rattle.protocol.specs.Index.{bit, stored, setBit, clearBits}
-use Rattle.protocol.specs.Reader.{opened, Buffer, Guarded, Reader, capacity, locked, bufferOf, emptied, filledWith, withTransfer, withLibrary, withBuffer, reader}
+use Rattle.protocol.specs.Reader.{opened, Buffer, Guarded, Reader, capacity, locked, bufferOf, emptied, filledWith, withTransfer, withLibrary, reader}
 use Rattle.protocol.specs.Commands.{Barred, store, loadChar, downChar, deletChar, empty, barred, command}
 use Rattle.protocol.specs.Data.{acknowledge}
 use Rattle.protocol.specs.Table.{isBuffer, second, rule, apply}
@@ -19,16 +19,11 @@ use Rattle.protocol.specs.Call.{Shape, fitRoom, Ended, callOf}
 use Rattle.protocol.proofs.Laws.Logic.{and-i, passed}
 use Rattle.protocol.proofs.Laws.Lists.{part-zeros}
 use Rattle.protocol.proofs.Laws.Index.{stored-with, stored-span, stored-zeros}
-use Rattle.protocol.proofs.Laws.Effects.{buffer-same, Filled, fill-page, Erased, erase-pages}
+use Rattle.protocol.proofs.Laws.Effects.{Filled, fill-page, Erased, erase-pages}
 use Rattle.protocol.proofs.Laws.Answers.{spared, obeys}
 use Rattle.protocol.proofs.Laws.Legal.{buffer-long, Good, fine-of}
-use Rattle.protocol.proofs.Promises.Told.{Replies, Gives, answered, pages, page, has, Numbered, buffer, other, numbered, buffer-is, other-is}
+use Rattle.protocol.proofs.Promises.Told.{Replies, Leaves, Gives, answered, pages, page, has, Numbered, buffer, blank, WithBuffer, numbered, buffer-is, by-number}
 use Rattle.protocol.proofs.Promises.StaysLegal.{Legal, good, good-rested}
-
-other-buffer : (w : Bool) (b : Buffer) (g : Guarded) → bufferOf (not w) (withBuffer w b g) ≡ bufferOf (not w) g
-unfolding bufferOf withBuffer
-other-buffer true b g = refl
-other-buffer false b g = refl
 
 -- a legal reader that is not locked, a fit reply room, and the reader t that it is once an open transfer has ended
 module _ (σ : Shape) (ok : σ .most ≤ 8 * σ .indexed) (r : Reader) (l : Legal σ ok r) (u : locked (r .plain) ≡ false) (s room : List ℕ) (v : T (fitRoom room)) where
@@ -106,75 +101,27 @@ module _ (σ : Shape) (ok : σ .most ≤ 8 * σ .indexed) (r : Reader) (l : Lega
 
   -- ---- LoadChar: the buffer has the page's bytes and its mark; all else stays
 
-  pub record Loaded (b p : ℕ) : Type 0 where
-    pub told : Done
-    pub buffer : buffer b (called .after .guarded) ≡ record { bytes = page r p; filled = true }
-    pub other : other b (called .after .guarded) ≡ other b (t .guarded)
-    pub settings : called .after .plain ≡ t .plain
-    pub notepad : called .after .guarded .notepad ≡ t .guarded .notepad
-    pub templates : called .after .guarded .templates ≡ r .guarded .templates
-    pub index : called .after .guarded .index ≡ r .guarded .index
-
-  pub load-moves : (b p : ℕ) → Asks (loadChar b p) → Numbered b → p < pages r → has r p ≡ true → Loaded b p
-  unfolding rule apply withBuffer carryAs follow stored bit filledWith
+  pub load-moves : (b p : ℕ) → Asks (loadChar b p) → Numbered b → p < pages r → has r p ≡ true
+      → Leaves (acknowledge (t .plain .address) 0x00 []) (WithBuffer b record { bytes = page r p; filled = true } (t .plain .transfer) t) s room called
+  unfolding rule apply carryAs follow stored bit filledWith withTransfer
   load-moves b p h i m f =
       let g : Guarded = t .guarded in
       let y : T (stored (g .index) p) = rw (spared r .index, f) tt in
       let d : T (passed (rule t (loadChar b p) .tests)) = and-i (isBuffer b) (ltb p (capacity g) && (stored (g .index) p && true)) (numbered b .1 i) (and-i (ltb p (capacity g)) (stored (g .index) p && true) (below p m) (and-i (stored (g .index) p) true y tt)) in
       let a = carried (loadChar b p) h d in
-      let c : Buffer = filledWith (page t p) in
+      let now = subst (WithBuffer b (filledWith (page t p)) (t .plain .transfer) t) (sym (a .after)) (by-number b i (filledWith (page t p)) (t .plain .transfer) t) in
       record {
         told = a .told;
-        buffer =
-            sym (buffer-is b i (called .after .guarded)) ∙ ap (λ (z : Reader). bufferOf (second b) (z .guarded)) (a .after) ∙ buffer-same (second b) c g
-            ∙ ap (λ (z : List ℕ). filledWith (part (512 * p) 512 z)) (spared r .templates);
-        other =
-            sym (other-is b i (called .after .guarded)) ∙ ap (λ (z : Reader). bufferOf (not (second b)) (z .guarded)) (a .after) ∙ other-buffer (second b) c g
-            ∙ other-is b i g;
-        settings = ap (λ (z : Reader). z .plain) (a .after);
-        notepad = ap (λ (z : Reader). z .guarded .notepad) (a .after);
-        templates = ap (λ (z : Reader). z .guarded .templates) (a .after) ∙ spared r .templates;
-        index = ap (λ (z : Reader). z .guarded .index) (a .after) ∙ spared r .index;
+        after = subst (λ (z : List ℕ). WithBuffer b (filledWith (part (512 * p) 512 z)) (t .plain .transfer) t (called .after)) (spared r .templates) now;
       }
 
-  -- ---- DownChar: the buffer is zero, its mark clear, and a transfer into it open with no byte got; all else stays
+  -- ---- DownChar: the buffer is zeroed, its mark clear, and a transfer into it open with no byte got; all else stays
 
-  pub record Awaits (b : ℕ) : Type 0 where
-    pub told : Done
-    pub buffer : buffer b (called .after .guarded) ≡ record { bytes = replicate 512 0; filled = false }
-    pub other : other b (called .after .guarded) ≡ other b (t .guarded)
-    pub settings :
-        called .after .plain
-        ≡ record {
-          password = t .plain .password;
-          address = t .plain .address;
-          level = t .plain .level;
-          size = t .plain .size;
-          baud = t .plain .baud;
-          sensor = t .plain .sensor;
-          verified = t .plain .verified;
-          transfer = opened (eqb b 2) 0;
-        }
-    pub notepad : called .after .guarded .notepad ≡ t .guarded .notepad
-    pub templates : called .after .guarded .templates ≡ t .guarded .templates
-    pub index : called .after .guarded .index ≡ t .guarded .index
-
-  pub down-awaits : (b : ℕ) → Asks (downChar b) → Numbered b → Awaits b
-  unfolding rule apply withBuffer withTransfer carryAs follow emptied
+  pub down-awaits : (b : ℕ) → Asks (downChar b) → Numbered b → Leaves (acknowledge (t .plain .address) 0x00 []) (WithBuffer b blank (opened (eqb b 2) 0) t) s room called
+  unfolding rule apply carryAs follow emptied withTransfer
   down-awaits b h i =
-      let g : Guarded = t .guarded in
       let a = carried (downChar b) h (and-i (isBuffer b) true (numbered b .1 i) tt) in
-      record {
-        told = a .told;
-        buffer = sym (buffer-is b i (called .after .guarded)) ∙ ap (λ (z : Reader). bufferOf (second b) (z .guarded)) (a .after) ∙ buffer-same (second b) emptied g;
-        other =
-            sym (other-is b i (called .after .guarded)) ∙ ap (λ (z : Reader). bufferOf (not (second b)) (z .guarded)) (a .after) ∙ other-buffer (second b) emptied g
-            ∙ other-is b i g;
-        settings = ap (λ (z : Reader). z .plain) (a .after);
-        notepad = ap (λ (z : Reader). z .guarded .notepad) (a .after);
-        templates = ap (λ (z : Reader). z .guarded .templates) (a .after);
-        index = ap (λ (z : Reader). z .guarded .index) (a .after);
-      }
+      record { told = a .told; after = subst (WithBuffer b blank (opened (eqb b 2) 0) t) (sym (a .after)) (by-number b i blank (opened (eqb b 2) 0) t) }
 
   -- ---- DeletChar: the n pages from p on are zero and vacant; every other page keeps its bytes and its bit
 

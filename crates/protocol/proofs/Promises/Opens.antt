@@ -2,6 +2,7 @@
 -- at the first accepted password.
 use mathlib.Core.Bool.{Bool, true, false, true≢false, _&&_, cond}
 use mathlib.Core.Path.{_≡_, refl, sym, ap, _∙_, subst}
+use mathlib.Core.Logic.{_≢_}
 use mathlib.Core.List.{List, [], _∷_, _++_}
 use Prim.Native.Nat.{ℕ}
 use lib.Dec.{T}
@@ -11,54 +12,57 @@ use Rattle.protocol.specs.Reader.{Plain, Guarded, Reader, keyed, locked,
 use Rattle.protocol.specs.Commands.{verifyPassword, handShake, free, barred, damaged, unknown, misfit, command}
 use Rattle.protocol.specs.Data.{acknowledge}
 use Rattle.protocol.specs.Table.{freeRule, publicOf}
-use Rattle.protocol.specs.Step.{Heard, nothing, order, piece, hear, carryFree, obey, heed, rested, answer, stepOf, wiped}
-use Rattle.protocol.specs.Call.{Shape, fitRoom, legal, Told, Ended, replyOf, carried, callOf, switchOf}
+use Rattle.protocol.specs.Step.{Heard, nothing, order, piece, hear, carryFree, obey, heed, rested, answer, wiped}
+use Rattle.protocol.specs.Call.{Shape, fitRoom, legal, Told, Ended, replyOf, callOf, switchOf}
 use Rattle.protocol.specs.Dialogue.{Event, received, switch, on, Dialogue, over, first, dialogue, kept}
 use Rattle.protocol.proofs.Laws.Logic.{T→true, and-l, and-i}
-use Rattle.protocol.proofs.Laws.Lists.{take-lay, same-eq, same-refl}
-use Rattle.protocol.proofs.Laws.Answers.{spared, call-legal}
+use Rattle.protocol.proofs.Laws.Lists.{take-lay, same-eq, same-refl, differ}
+use Rattle.protocol.proofs.Promises.Told.{Gives, answered}
 use Rattle.protocol.proofs.Laws.Locked.{tells, turns, toldBy, plainBy, shut-of, locked-call, plain-or, locked-switch, wiped-legal}
 
--- ---- VfyPwd, locked or not
+-- ---- VfyPwd and HandShake, locked or not
 
--- the reply, and the mark after it; all else as it was
-pub record Verifies (r : Reader) (code : ℕ) (mark : Bool) (e : Ended) : Type 0 where
-  pub reply : replyOf (e .told) ≡ acknowledge (r .plain .address) code []
-  pub after : e .after ≡ reader (withMark mark (rested r .plain)) (rested r .guarded)
+-- p and g: settings and contents of the reader once an open transfer has ended
+module _ (σ : Shape) (r : Reader) (s room : List ℕ) (f : T (legal σ r)) (u : T (fitRoom room)) where
+  abbrev p : Plain
+  p = rested r .plain
 
-module _ (σ : Shape) (r : Reader) (s room : List ℕ) (f : T (legal σ r)) (u : T (fitRoom room)) (w : List ℕ)
-    (h : hear (r .plain .address) s ≡ order (command (free (verifyPassword w)))) where
-  verified : (b : Bool) → same w (rested r .plain .password) ≡ b → Verifies r (cond b done wrongPassword) b (callOf σ r s room)
-  unfolding carried replyOf stepOf answer heed obey carryFree freeRule publicOf withMark
-  verified b e =
-      rw (call-legal σ r s room f u, h, e)
-      record { reply = take-lay (acknowledge (rested r .plain .address) (cond b done wrongPassword) []) room ∙ ap (λ (a : List ℕ). acknowledge a (cond b done wrongPassword) []) (spared r .address); after = refl }
+  abbrev g : Guarded
+  g = rested r .guarded
+
+  -- the call gave a code alone, and left the settings with this mark and all else as it was
+  abbrev pub Marks : ℕ → Bool → Type 0
+  Marks code mark =
+      Gives (acknowledge (p .address) code [])
+      record {
+        plain = record { password = p .password; address = p .address; level = p .level; size = p .size; baud = p .baud; sensor = p .sensor; verified = mark; transfer = p .transfer };
+        guarded = g;
+      }
+      s room (callOf σ r s room)
+
+  verified : (w : List ℕ) → hear (r .plain .address) s ≡ order (command (free (verifyPassword w))) → (b : Bool) → same w (p .password) ≡ b → Marks (cond b 0x00 0x13) b
+  unfolding answer heed obey carryFree freeRule publicOf withMark
+  verified w h b e = answered σ r s room f u _ (rw (h, e) refl)
 
   -- equal: 00h, the mark set
-  pub right-password : w ≡ rested r .plain .password → Verifies r done true (callOf σ r s room)
-  right-password e = verified true (ap (λ (x : List ℕ). same x (rested r .plain .password)) e ∙ same-refl (rested r .plain .password))
+  pub right-password : (w : List ℕ) → hear (r .plain .address) s ≡ order (command (free (verifyPassword w))) → w ≡ p .password → Marks 0x00 true
+  right-password w h e = verified w h true (ap (λ (x : List ℕ). same x (p .password)) e ∙ same-refl (p .password))
 
   -- differs: 13h, the mark cleared
-  pub wrong-password : same w (rested r .plain .password) ≡ false → Verifies r wrongPassword false (callOf σ r s room)
-  wrong-password e = verified false e
+  pub wrong-password : (w : List ℕ) → hear (r .plain .address) s ≡ order (command (free (verifyPassword w))) → w ≢ p .password → Marks 0x13 false
+  wrong-password w h d = verified w h false (differ w (p .password) d)
 
--- HandShake, locked or not: 00h; nothing changes but that an open transfer is ended
-pub record Greets (r : Reader) (e : Ended) : Type 0 where
-  pub reply : replyOf (e .told) ≡ acknowledge (r .plain .address) done []
-  pub after : e .after ≡ rested r
-
-pub shakes-hands : (σ : Shape) (r : Reader) (s room : List ℕ) → T (legal σ r) → T (fitRoom room) → hear (r .plain .address) s ≡ order (command (free handShake)) → Greets r (callOf σ r s room)
-unfolding carried replyOf stepOf answer heed obey carryFree freeRule publicOf
-shakes-hands σ r s room f u h =
-    rw (call-legal σ r s room f u, h)
-    record { reply = take-lay (acknowledge (rested r .plain .address) done []) room ∙ ap (λ (a : List ℕ). acknowledge a done []) (spared r .address); after = refl }
+  -- HandShake: 00h; nothing changes
+  pub shakes-hands : hear (r .plain .address) s ≡ order (command (free handShake)) → Gives (acknowledge (p .address) 0x00 []) (rested r) s room (callOf σ r s room)
+  unfolding answer heed obey carryFree freeRule publicOf
+  shakes-hands h = answered σ r s room f u _ (rw h refl)
 
 -- ---- nothing else opens a locked reader
 
 -- the run asked for VfyPwd with the reader's password, and was answered 00h
 pub record Accepted (r : Reader) (s : List ℕ) (e : Ended) : Type 0 where
   pub asked : hear (r .plain .address) s ≡ order (command (free (verifyPassword (r .plain .password))))
-  pub reply : replyOf (e .told) ≡ acknowledge (r .plain .address) done []
+  pub reply : replyOf (e .told) ≡ acknowledge (r .plain .address) 0x00 []
 
 keyed-locked : (p : Plain) → T (locked p) → T (keyed p)
 unfolding locked

@@ -21,7 +21,7 @@ use Rattle.protocol.proofs.Laws.Logic.{T→true, and-l, and-r, and-i}
 use Rattle.protocol.proofs.Laws.Lists.{follow-append}
 use Rattle.protocol.proofs.Laws.Lines.{Line, unless, Follows, Matches, follows}
 use Rattle.protocol.proofs.Laws.Answers.{spared, row-answer}
-use Rattle.protocol.proofs.Promises.LegalMeans.{Means, legal-means, core-holds}
+use Rattle.protocol.proofs.Promises.LegalMeans.{legal-means, core-holds}
 use Rattle.protocol.proofs.Promises.Told.{Replies, Gives, answered, pages, has, Numbered, buffer, numbered, buffer-is}
 
 -- the range of a parameter: 4 is the baud factor, 5 the level, 6 the size code
@@ -57,9 +57,10 @@ filled : (t : Reader) (b : ℕ) → Numbered b → T (bufferOf (second b) (t .gu
 filled t b i = rw (buffer-is b i (t .guarded)) (truth (buffer b (t .guarded) .filled))
 
 inside : (p n c : ℕ) → T (ltb p c && leb (p + n) c) ↔ ((p < c) × (p + n ≤ c))
-inside p n c =
-    (λ t. (ltb→lt p c (and-l (ltb p c) (leb (p + n) c) t), leb→le (p + n) c (and-r (ltb p c) (leb (p + n) c) t)),
-    λ h. and-i (ltb p c) (leb (p + n) c) (lt→ltb p c (h .0)) (le→leb (p + n) c (h .1)))
+inside p n c = (
+  λ t. (ltb→lt p c (and-l (ltb p c) (leb (p + n) c) t), leb→le (p + n) c (and-r (ltb p c) (leb (p + n) c) t)),
+  λ h. and-i (ltb p c) (leb (p + n) c) (lt→ltb p c (h .0)) (le→leb (p + n) c (h .1)),
+)
 
 between : (a v b : ℕ) → T (within a v b) ↔ ((a ≤ v) × (v ≤ b))
 unfolding within

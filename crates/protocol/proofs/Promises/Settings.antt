@@ -1,8 +1,8 @@
 -- The rows of the table that change or tell settings, notepad, index and count, once their tests pass: the reply, and every field of the reader after it.
 use mathlib.Core.Bool.{true, false, _&&_, cond}
-use mathlib.Core.Path.{_≡_, refl, ap, _∙_}
-use mathlib.Core.List.{List, [], _∷_, _++_}
-use Prim.Native.Nat.{ℕ, zero, _+_, _-_, _*_, _/_, _≤_, _<_}
+use mathlib.Core.Path.{_≡_, ap, _∙_}
+use mathlib.Core.List.{List, [], _++_}
+use Prim.Native.Nat.{ℕ, zero, _+_, _*_, _/_, _≤_, _<_}
 use native.Mathlib.Omega.{arith}
 use lib.Dec.{T, ltb, leb, lt→ltb, le→leb}
 use lib.ListN.{length, take, drop}

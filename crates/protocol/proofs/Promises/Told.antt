@@ -1,17 +1,17 @@
 -- The words in which the promises tell of a call that is carried out: what all such calls have in common, and the parts of a reader in document 01's
 -- own numbers. None of them cites a definition of the reader, so that a promise says its sentence a second time.
-use mathlib.Core.Bool.{Bool, not}
-use mathlib.Core.Path.{_≡_, refl, ap, _∙_}
+use mathlib.Core.Bool.{Bool, true, false}
+use mathlib.Core.Path.{_≡_, refl, ap, subst}
 use mathlib.Core.Logic.{_⊎_, inl, inr, _↔_}
 use mathlib.Core.List.{List, [], _∷_, _++_}
 use Prim.Native.Nat.{ℕ, zero, suc, _+_, _*_, _/_, _%_, _^_}
 use native.Mathlib.Omega.{arith}
 use lib.Dec.{T, eqb, eqb→eq}
-use lib.ListN.{length, take, drop, getD}
+use lib.ListN.{length, take, drop, getD, replicate}
 use Rattle.protocol.specs.declared.Found.the-variants.{Whole}
 use Rattle.protocol.specs.Finder.{findOf, usedOf}
 use Rattle.protocol.specs.Bytes.{lay}
-use Rattle.protocol.specs.Reader.{Buffer, Guarded, Reader, bufferOf}
+use Rattle.protocol.specs.Reader.{Transfer, Buffer, Guarded, Reader, bufferOf, withTransfer, withBuffer, reader}
 use Rattle.protocol.specs.Table.{isBuffer, second}
 use Rattle.protocol.specs.Step.{hear, Said, answer, stepOf}
 use Rattle.protocol.specs.Call.{Shape, fitRoom, legal, Ended, carried, callOf}
@@ -27,10 +27,14 @@ pub record Replies (reply s lent : List ℕ) (e : Ended) : Type 0 where
   pub long : e .told .length ≡ length reply
   pub room : e .told .room ≡ reply ++ drop (length reply) lent
 
--- such a call, and the reader that it leaves
-pub record Gives (reply : List ℕ) (t : Reader) (s lent : List ℕ) (e : Ended) : Type 0 where
+-- such a call, and what the reader is that it leaves
+pub record Leaves (reply : List ℕ) (Left : Reader → Type 0) (s lent : List ℕ) (e : Ended) : Type 0 where
   pub told : Replies reply s lent e
-  pub after : e .after ≡ t
+  pub after : Left (e .after)
+
+-- it leaves the reader t
+abbrev pub Gives : List ℕ → Reader → List ℕ → List ℕ → Ended → Type 0
+Gives reply t s lent e = Leaves reply (λ (x : Reader). x ≡ t) s lent e
 
 lay-front : (s d : List ℕ) → lay 0 s d ≡ s ++ drop (length s) d
 unfolding lay
@@ -79,6 +83,40 @@ other zero g = g .buffer2
 other (suc zero) g = g .buffer2
 other (suc (suc k)) g = g .buffer1
 
+-- the number of a transfer's buffer (the second?)
+abbrev pub number : Bool → ℕ
+number false = 1
+number true = 2
+
+-- zeroed, its mark clear
+abbrev pub blank : Buffer
+blank = record { bytes = replicate 512 0; filled = false }
+
+-- the reader x is t with this transfer, and c in the place of its buffer b
+pub record WithBuffer (b : ℕ) (c : Buffer) (m : Transfer) (t x : Reader) : Type 0 where
+  pub settings :
+      x .plain
+      ≡ record {
+        password = t .plain .password;
+        address = t .plain .address;
+        level = t .plain .level;
+        size = t .plain .size;
+        baud = t .plain .baud;
+        sensor = t .plain .sensor;
+        verified = t .plain .verified;
+        transfer = m;
+      }
+  pub chosen : buffer b (x .guarded) ≡ c
+  pub spare : other b (x .guarded) ≡ other b (t .guarded)
+  pub templates : x .guarded .templates ≡ t .guarded .templates
+  pub index : x .guarded .index ≡ t .guarded .index
+  pub notepad : x .guarded .notepad ≡ t .guarded .notepad
+
+pub with-buffer : (w : Bool) (c : Buffer) (m : Transfer) (t : Reader) → WithBuffer (number w) c m t (reader (withTransfer m (t .plain)) (withBuffer w c (t .guarded)))
+unfolding withTransfer withBuffer
+with-buffer true c m t = record { settings = refl; chosen = refl; spare = refl; templates = refl; index = refl; notepad = refl }
+with-buffer false c m t = record { settings = refl; chosen = refl; spare = refl; templates = refl; index = refl; notepad = refl }
+
 -- the table's own tests and choices of a buffer say the same
 pub numbered : (b : ℕ) → T (isBuffer b) ↔ Numbered b
 unfolding isBuffer
@@ -97,7 +135,11 @@ unfolding bufferOf
 buffer-is b (inl e) g = rw e refl
 buffer-is b (inr e) g = rw e refl
 
-pub other-is : (b : ℕ) → Numbered b → (g : Guarded) → bufferOf (not (second b)) g ≡ other b g
-unfolding bufferOf
-other-is b (inl e) g = rw e refl
-other-is b (inr e) g = rw e refl
+pub number-is : (b : ℕ) → Numbered b → number (second b) ≡ b
+number-is b (inl e) = rw e refl
+number-is b (inr e) = rw e refl
+
+pub by-number : (b : ℕ) → Numbered b → (c : Buffer) (m : Transfer) (t : Reader)
+    → WithBuffer b c m t (reader (withTransfer m (t .plain)) (withBuffer (second b) c (t .guarded)))
+by-number b i c m t =
+    subst (λ (n : ℕ). WithBuffer n c m t (reader (withTransfer m (t .plain)) (withBuffer (second b) c (t .guarded)))) (number-is b i) (with-buffer (second b) c m t)
