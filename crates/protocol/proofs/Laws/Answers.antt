@@ -6,7 +6,6 @@ use Prim.Native.Nat.{ℕ, zero, suc, _-_}
 use lib.Dec.{T}
 use Rattle.protocol.specs.Numbers.{badRoom, badPacket, transferFailed, unknownCommand, passwordFirst}
 use Rattle.protocol.specs.Tests.{verdict}
-use Rattle.protocol.specs.Finder.{findOf, usedOf}
 use Rattle.protocol.specs.Reader.{Transfer, closed, opened, unfit, Reader, keyed, locked, withTransfer, withBuffer}
 use Rattle.protocol.specs.Commands.{Free, Barred, free, barred, damaged, unknown, misfit, command}
 use Rattle.protocol.specs.Table.{rule, freeRule, publicOf}
@@ -124,11 +123,3 @@ module _ (σ : Shape) (r : Reader) (s room : List ℕ) where
   pub call-short : T (legal σ r) → fitRoom room ≡ false → callOf σ r s room ≡ refused badRoom r room
   unfolding callOf callAs refusalOf legal verdict
   call-short t u = simp (T→true (fitLengths σ (r .guarded)) (search (and-l)), T→true (sound r) (search (and-r)), u) refl
-
-  -- a command of a reader that is not locked, its tests passed, is carried out
-  pub obeyed : T (legal σ r) → T (fitRoom room) → locked (r .plain) ≡ false → (c : Barred) → hear (r .plain .address) s ≡ order (command (barred c))
-      → T (passed (rule (rested r) c .tests))
-      → callOf σ r s room
-      ≡ carried record { used = usedOf (findOf s); reply = carryAs (rested r) (rule (rested r) c) zero .reply; after = carryAs (rested r) (rule (rested r) c) zero .after } room
-  unfolding stepOf
-  obeyed t u l c h p = rw (call-legal t u, obeys r s l c h p) refl
