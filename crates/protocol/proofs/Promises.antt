@@ -1,3 +1,5 @@
+pub mod Words
+pub mod Finding
 pub mod ReadBack
 pub mod ZeroUsed
 pub mod StaysLegal

@@ -1,0 +1,135 @@
+-- Document 01, "Finding a packet", steps 1 to 4 over the bytes of a run: which place, how many bytes used, and silence; then what a whole
+-- packet says to the reader of an address (steps 5 to 7).
+use mathlib.Core.Bool.{Bool, true, false, true≢false, _&&_, cond}
+use mathlib.Core.Path.{_≡_, refl, sym, ap, _∙_}
+use mathlib.Core.Logic.{_⊎_, inl, inr, _≢_}
+use mathlib.Core.List.{List, [], _∷_}
+use Prim.Native.Nat.{ℕ, zero, suc, _+_, _-_, _*_, _≤_, _<_}
+use native.Mathlib.Numerals.{add-one}
+use native.Mathlib.Omega.{arith}
+use lib.Dec.{T, eqb, ltb, eqb→eq}
+use borrow.Author.Tests.{ltb-true, ltb-false, eqb-true, eqb-false, lt-ltb, le-ltb, eq-eqb, ne-eqb}
+use lib.ListN.{length, getD}
+use Rattle.protocol.specs.declared.Start.{Start}
+use Rattle.protocol.specs.declared.Start.the-variants.{Nowhere, At}
+use Rattle.protocol.specs.declared.Found.{Found}
+use Rattle.protocol.specs.declared.Found.the-variants.{Noise, Unfinished, Unfit, Whole}
+use Rattle.protocol.specs.Bytes.{byteAt, wordAt}
+use Rattle.protocol.specs.Packet.{accepts, identifierAt, lengthAt, endAt}
+use Rattle.protocol.specs.Finder.{marksAt, startOf, allBut, findFrom, findOf, usedOf}
+use Rattle.protocol.proofs.Laws.Logic.{T→true, and-l, and-r}
+use Rattle.protocol.proofs.Laws.Finder.{FirstStart, start-first, start-nowhere, start-at, marks-in, found-at}
+use Rattle.protocol.proofs.Promises.Words.{Accepted, accepted, accepting, refusing}
+
+-- EF followed by 01 at the place p
+pub record Marks (s : List ℕ) (p : ℕ) : Type 0 where
+  pub inside : p + 1 < length s
+  pub first : getD s p 0 ≡ 0xef
+  pub second : getD s (p + 1) 0 ≡ 0x01
+
+-- p is the first place with EF followed by 01
+pub record First (s : List ℕ) (p : ℕ) : Type 0 where
+  pub here : Marks s p
+  pub before : (q : ℕ) → q < p → Marks s q → ⊥
+
+-- the length field of a packet that starts at p
+abbrev pub lengthField : List ℕ → ℕ → ℕ
+lengthField s p = getD s (p + 7) 0 * 256 + getD s (p + 8) 0
+
+-- a whole packet starts at p, n its length field
+pub record WholeAt (s : List ℕ) (p n : ℕ) : Type 0 where
+  pub first : First s p
+  pub field : lengthField s p ≡ n
+  pub accepted : Accepted (getD s (p + 6) 0) n
+  pub inside : p + 9 + n ≤ length s
+
+-- steps 1 to 4: what is found in the run s, and how many bytes are used
+pub data Finds (s : List ℕ) : Found → ℕ → Type 0 where
+  -- 1. no place has EF followed by 01: the whole run is used, less one if it ends in EF
+  noise : ((q : ℕ) → Marks s q → ⊥) → getD s (length s - 1) 0 ≢ 0xef → Finds s (Noise (length s)) (length s)
+  noise-but-one : ((q : ℕ) → Marks s q → ⊥) → getD s (length s - 1) 0 ≡ 0xef → Finds s (Noise (length s - 1)) (length s - 1)
+  -- 2. fewer than 9 bytes from p: p used
+  headless : {p : ℕ} → First s p → length s < p + 9 → Finds s (Unfinished p) p
+  -- 3. identifier not 1, 2, 7, 8, or length not 3 to 256: p + 2 used
+  unfit : {p : ℕ} → First s p → p + 9 ≤ length s → (Accepted (getD s (p + 6) 0) (lengthField s p) → ⊥) → Finds s (Unfit p) (p + 2)
+  -- 4. fewer than 9 + length bytes from p: p used; otherwise p + 9 + length
+  unfinished : {p : ℕ} → First s p → p + 9 ≤ length s → Accepted (getD s (p + 6) 0) (lengthField s p) → length s < p + 9 + lengthField s p → Finds s (Unfinished p) p
+  whole : {p n : ℕ} → WholeAt s p n → Finds s (Whole p n) (p + 9 + n)
+
+-- ---- the definition's tests
+
+marks-of : (s : List ℕ) (p : ℕ) → marksAt s p ≡ true → Marks s p
+unfolding marksAt
+marks-of s p e =
+    let t : T (marksAt s p) = rw e tt in
+    record {
+      inside = rw add-one (marks-in s p e);
+      first = eqb→eq (byteAt s p) 0xef (search (and-l));
+      second = rw add-one (eqb→eq (byteAt s (suc p)) 0x01 (search (and-r)));
+    }
+
+of-marks : (s : List ℕ) (p : ℕ) → Marks s p → marksAt s p ≡ true
+unfolding marksAt
+of-marks s p m = let e : getD s (suc p) 0 ≡ 0x01 = rw add-one at (m .second) in rw (m .first, e) refl
+
+unmarked : (s : List ℕ) (p : ℕ) → (Marks s p → ⊥) → marksAt s p ≡ false
+unmarked s p f = go (marksAt s p) refl
+  where
+    go : (b : Bool) → marksAt s p ≡ b → b ≡ false
+    go true e = absurd (f (marks-of s p e))
+    go false e = refl
+
+no-marks : (s : List ℕ) (p : ℕ) → marksAt s p ≡ false → Marks s p → ⊥
+no-marks s p e m = true≢false (sym (of-marks s p m) ∙ e)
+
+field-at : (s : List ℕ) (p : ℕ) → lengthAt s p ≡ lengthField s p
+unfolding wordAt
+field-at s p = let e : p + 7 + 1 ≡ p + 8 = omega arith in rw e refl
+
+started : (s : List ℕ) (p : ℕ) → First s p → startOf s ≡ At p
+started s p f = start-at s p (of-marks s p (f .here)) (λ q l. unmarked s q (f .before q l))
+
+-- ---- every run, and every case of it
+
+pub finds : (s : List ℕ) → Finds s (findOf s) (usedOf (findOf s))
+unfolding findOf findFrom usedOf allBut
+finds s = go (startOf s) (start-first s)
+  where
+    none : ((q : ℕ) → Marks s q → ⊥) → (b : Bool) → eqb (getD s (length s - 1) 0) 0xef ≡ b → Finds s (Noise (cond b (length s - 1) (length s))) (cond b (length s - 1) (length s))
+    none h true e = noise-but-one h (eqb-true (getD s (length s - 1) 0) 0xef e)
+    none h false e = noise h (eqb-false (getD s (length s - 1) 0) 0xef e)
+
+    at : (p : ℕ) → First s p → (n : ℕ) → lengthField s p ≡ n → (a b c : Bool) → ltb (length s) (p + 9) ≡ a → accepts (getD s (p + 6) 0) n ≡ b → ltb (length s) (p + 9 + n) ≡ c
+        → Finds s (cond a (Unfinished p) (cond b (cond c (Unfinished p) (Whole p n)) (Unfit p))) (usedOf (cond a (Unfinished p) (cond b (cond c (Unfinished p) (Whole p n)) (Unfit p))))
+    at p f n w true b c ea eb ec = headless f (ltb-true (length s) (p + 9) ea)
+    at p f n w false false c ea eb ec = unfit f (ltb-false (length s) (p + 9) ea) (λ k. true≢false (sym (T→true (accepts (getD s (p + 6) 0) n) (accepting (getD s (p + 6) 0) n (rw w at k))) ∙ eb))
+    at p f n w false true true ea eb ec = unfinished f (ltb-false (length s) (p + 9) ea) (rw w (accepted (getD s (p + 6) 0) n (rw eb tt))) (rw w (ltb-true (length s) (p + 9 + n) ec))
+    at p f n w false true false ea eb ec = whole record { first = f; field = w; accepted = accepted (getD s (p + 6) 0) n (rw eb tt); inside = ltb-false (length s) (p + 9 + n) ec }
+
+    go : (r : Start) → FirstStart s r → Finds s (findFrom s r) (usedOf (findFrom s r))
+    go Nowhere h = none (λ q. no-marks s q (h q)) (eqb (getD s (length s - 1) 0) 0xef) refl
+    go (At p) h =
+        at p record { here = marks-of s p (h .0); before = λ q l. no-marks s q (h .1 q l) } (lengthAt s p) (sym (field-at s p)) _ _ _ refl refl refl
+
+pub found : {s : List ℕ} {f : Found} {n : ℕ} → Finds s f n → (findOf s ≡ f) × (usedOf (findOf s) ≡ n)
+unfolding findOf findFrom usedOf allBut
+found {s} (noise h d) = rw (start-nowhere s (λ q. unmarked s q (h q)), ne-eqb (getD s (length s - 1) 0) 0xef d) (refl, refl)
+found {s} (noise-but-one h e) = rw (start-nowhere s (λ q. unmarked s q (h q)), eq-eqb (getD s (length s - 1) 0) 0xef e) (refl, refl)
+found {s} (headless {p} f l) = rw (started s p f, lt-ltb (length s) (p + 9) l) (refl, refl)
+found {s} (unfit {p} f l k) = rw (started s p f, le-ltb (length s) (p + 9) l, field-at s p, refusing (getD s (p + 6) 0) (lengthField s p) k) (refl, refl)
+found {s} (unfinished {p} f l a m) =
+    rw (started s p f, le-ltb (length s) (p + 9) l, field-at s p, T→true (accepts (getD s (p + 6) 0) (lengthField s p)) (accepting (getD s (p + 6) 0) (lengthField s p) a), lt-ltb (length s) (p + 9 + lengthField s p) m) (refl, refl)
+found {s} (whole {p} {n} w) =
+    let e : findFrom s (At p) ≡ Whole p n = found-at s p n (field-at s p ∙ w .field) (accepting (getD s (p + 6) 0) n (w .accepted)) (w .inside) in
+    rw (started s p (w .first), e) (refl, refl)
+
+pub whole-at : (s : List ℕ) (p n : ℕ) → findOf s ≡ Whole p n → WholeAt s p n
+whole-at s p n e = go (findOf s) (usedOf (findOf s)) (finds s) e
+  where
+    go : (f : Found) (m : ℕ) → Finds s f m → f ≡ Whole p n → WholeAt s p n
+    go f m (noise h d) q = let z : _≡_ {A = ℕ} 0 1 = cc in absurd (omega arith)
+    go f m (noise-but-one h d) q = let z : _≡_ {A = ℕ} 0 1 = cc in absurd (omega arith)
+    go f m (headless h l) q = let z : _≡_ {A = ℕ} 0 1 = cc in absurd (omega arith)
+    go f m (unfit h l k) q = let z : _≡_ {A = ℕ} 0 1 = cc in absurd (omega arith)
+    go f m (unfinished h l a k) q = let z : _≡_ {A = ℕ} 0 1 = cc in absurd (omega arith)
+    go f m (whole {p = x} {n = y} w) q = let a : x ≡ p = cc in let b : y ≡ n = cc in rw (a, b) at w
