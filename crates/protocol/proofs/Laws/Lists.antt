@@ -1,7 +1,7 @@
 -- Lists of bytes: comparison, parts, one list laid over another, split and joined.
 use mathlib.Core.Bool.{true}
 use mathlib.Core.Path.{_≡_, refl, sym, ap, ap₂, _∙_}
-use mathlib.Core.List.{List, [], _∷_, _++_, append-assoc, append-nil}
+use mathlib.Core.List.{List, [], _∷_, _++_, foldr, append-assoc, append-nil}
 use Prim.Native.Nat.{ℕ, zero, suc, _+_, _-_, _*_, _/_, _%_, _≤_, _<_}
 use native.Mathlib.Nat.{suc-mul, add-zero, add-assoc}
 use native.Mathlib.Numerals.{add-one}
@@ -9,7 +9,7 @@ use native.Mathlib.Omega.{arith}
 use lib.Dec.{eqb, eqb→eq}
 use lib.ListN.{length, take, drop, length-append, length-take, length-drop, take-append-drop, drop-of-length-le, getD, set}
 use lib.Seq.{take-at, take-append-le, take-append-seam, drop-append-seam, drop-append-le, drop-append-add, drop-drop, length-take-le, take-suc, drop-cons, set-at}
-use Rattle.protocol.specs.Bytes.{part, zeros, same, lay, follow, joined, split}
+use Rattle.protocol.specs.Bytes.{part, zeros, total, same, lay, follow, joined, split}
 use Rattle.protocol.proofs.Laws.Logic.{T→true, and-l, and-r, eqb-same}
 
 -- ---- comparison
@@ -32,6 +32,13 @@ pub same-front : (s t u : List ℕ) → same (s ++ t) (s ++ u) ≡ same t u
 unfolding same
 same-front [] t u = refl
 same-front (x ∷ s) t u = rw (eqb-same x) (same-front s t u)
+
+-- ---- all bytes added
+
+pub total-added : (s : List ℕ) → total s ≡ foldr _+_ 0 s
+unfolding total
+total-added [] = refl
+total-added (b ∷ s) = ap (λ (n : ℕ). b + n) (total-added s)
 
 -- ---- one behind the other
 

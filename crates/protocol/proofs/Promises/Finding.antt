@@ -2,24 +2,31 @@
 -- packet says to the reader of an address (steps 5 to 7).
 use mathlib.Core.Bool.{Bool, true, false, true≢false, _&&_, cond}
 use mathlib.Core.Path.{_≡_, refl, sym, ap, _∙_}
-use mathlib.Core.Logic.{_⊎_, inl, inr, _≢_}
-use mathlib.Core.List.{List, [], _∷_}
-use Prim.Native.Nat.{ℕ, zero, suc, _+_, _-_, _*_, _≤_, _<_}
+use mathlib.Core.Logic.{_⊎_, inl, inr, _≢_, _↔_}
+use mathlib.Core.List.{List, [], _∷_, foldr}
+use Prim.Native.Nat.{ℕ, zero, suc, _+_, _-_, _*_, _/_, _%_, _≤_, _<_}
 use native.Mathlib.Numerals.{add-one}
 use native.Mathlib.Omega.{arith}
 use lib.Dec.{T, eqb, ltb, eqb→eq}
 use borrow.Author.Tests.{ltb-true, ltb-false, eqb-true, eqb-false, lt-ltb, le-ltb, eq-eqb, ne-eqb}
-use lib.ListN.{length, getD}
+use lib.ListN.{length, getD, take, drop, length-take, length-drop}
 use Rattle.protocol.specs.declared.Start.{Start}
 use Rattle.protocol.specs.declared.Start.the-variants.{Nowhere, At}
 use Rattle.protocol.specs.declared.Found.{Found}
 use Rattle.protocol.specs.declared.Found.the-variants.{Noise, Unfinished, Unfit, Whole}
-use Rattle.protocol.specs.Bytes.{byteAt, wordAt}
-use Rattle.protocol.specs.Packet.{accepts, identifierAt, lengthAt, endAt}
+use Rattle.protocol.specs.Bytes.{two, byteAt, wordAt, total, same}
+use Rattle.protocol.specs.Packet.{sumOf, accepts, addressAt, lengthAt, rightAt}
 use Rattle.protocol.specs.Finder.{marksAt, startOf, allBut, findFrom, findOf, usedOf}
+use Rattle.protocol.specs.Reader.{Reader}
+use Rattle.protocol.specs.Commands.{orderOf}
+use Rattle.protocol.specs.Step.{Heard, nothing, order, piece, hearAs, hearAt, hear, silence, answer, stepOf}
+use Rattle.protocol.specs.Call.{Shape, fitRoom, legal, carried, callOf}
 use Rattle.protocol.proofs.Laws.Logic.{T→true, and-l, and-r}
-use Rattle.protocol.proofs.Laws.Finder.{FirstStart, start-first, start-nowhere, start-at, marks-in, found-at}
-use Rattle.protocol.proofs.Promises.Words.{Accepted, accepted, accepting, refusing}
+use Rattle.protocol.proofs.Laws.Finder.{FirstStart, start-first, start-nowhere, start-at, marks-in, found-at, heard-at}
+use Rattle.protocol.proofs.Laws.Lists.{total-added, same-refl, same-eq, lay-nothing}
+use Rattle.protocol.proofs.Laws.Answers.{call-legal}
+use Rattle.protocol.proofs.Promises.Words.{Identifier, Accepted, accepted, accepting, refusing, different}
+use Rattle.protocol.proofs.Promises.Silent.{silently}
 
 -- EF followed by 01 at the place p
 pub record Marks (s : List ℕ) (p : ℕ) : Type 0 where
@@ -133,3 +140,98 @@ whole-at s p n e = go (findOf s) (usedOf (findOf s)) (finds s) e
     go f m (unfit h l k) q = let z : _≡_ {A = ℕ} 0 1 = cc in absurd (omega arith)
     go f m (unfinished h l a k) q = let z : _≡_ {A = ℕ} 0 1 = cc in absurd (omega arith)
     go f m (whole {p = x} {n = y} w) q = let a : x ≡ p = cc in let b : y ≡ n = cc in rw (a, b) at w
+
+-- ---- a call
+
+module _ (σ : Shape) (r : Reader) (s room : List ℕ) (l : T (legal σ r)) (u : T (fitRoom room)) where
+  -- it uses so many bytes, whatever a whole packet says
+  pub uses : {f : Found} {n : ℕ} → Finds s f n → callOf σ r s room .told .used ≡ n
+  unfolding carried stepOf
+  uses h = rw (call-legal σ r s room l u) (found h .1)
+
+  -- without a whole packet it is silent: nothing changes, not the reply room either
+  pub silent-without : {f : Found} {n : ℕ} → Finds s f n → ((p m : ℕ) → f ≢ Whole p m) → callOf σ r s room ≡ silently r n room
+  unfolding carried stepOf answer silence hear hearAt
+  silent-without {f} {n} h d =
+      rw (call-legal σ r s room l u, found h .1, found h .0) (go f d)
+    where
+      go : (f : Found) → ((p m : ℕ) → f ≢ Whole p m) → carried record { used = n; reply = answer r (hearAt (r .plain .address) s f) .reply; after = answer r (hearAt (r .plain .address) s f) .after } room ≡ silently r n room
+      go (Noise k) d = ap (silently r n) (lay-nothing 0 room)
+      go (Unfinished k) d = ap (silently r n) (lay-nothing 0 room)
+      go (Unfit k) d = ap (silently r n) (lay-nothing 0 room)
+      go (Whole p m) d = absurd (d p m refl)
+
+-- ---- the parts of a whole packet
+
+-- its content, n - 2 bytes from p + 9 on
+abbrev pub contentOf : List ℕ → ℕ → ℕ → List ℕ
+contentOf s p n = take (n - 2) (drop (p + 9) s)
+
+module _ (s : List ℕ) (p n : ℕ) (w : WholeAt s p n) where
+  pub content-long : length (contentOf s p n) + 2 ≡ n
+  content-long = simp (length-take, length-drop) (omega (arith, w .inside, w .accepted .least))
+
+  -- "The sum is identifier, both length bytes and every content byte added, modulo 65536"; it stands behind the content
+  pub right-means : ((i : ℕ) → getD s i 0 < 256)
+      → (rightAt s p n ≡ true) ↔ (getD s (p + 7 + n) 0 * 256 + getD s (p + 8 + n) 0 ≡ (getD s (p + 6) 0 + getD s (p + 7) 0 + getD s (p + 8) 0 + foldr _+_ 0 (contentOf s p n)) % 65536)
+  unfolding wordAt sumOf two total
+  right-means b =
+      let word : wordAt s (p + 7 + n) ≡ getD s (p + 7 + n) 0 * 256 + getD s (p + 8 + n) 0 = let e : p + 7 + n + 1 ≡ p + 8 + n = omega arith in rw e refl in
+      let sum : sumOf (getD s (p + 6) 0) (contentOf s p n) ≡ (getD s (p + 6) 0 + getD s (p + 7) 0 + getD s (p + 8) 0 + foldr _+_ 0 (contentOf s p n)) % 65536 =
+      rw (content-long, total-added (contentOf s p n)) (ap (λ (m : ℕ). m % 65536) (omega (arith, b (p + 8), w .field, w .accepted .most)))
+      in
+      (λ e. sym word ∙ eqb-true (wordAt s (p + 7 + n)) (sumOf (getD s (p + 6) 0) (contentOf s p n)) e ∙ sum, λ e. eq-eqb (wordAt s (p + 7 + n)) (sumOf (getD s (p + 6) 0) (contentOf s p n)) (word ∙ e ∙ sym sum))
+
+-- ---- steps 5 to 7: what a run says to the reader of the address a
+
+pub data Hears (a s : List ℕ) : Heard → Type 0 where
+  no-packet : ((p n : ℕ) → WholeAt s p n → ⊥) → Hears a s nothing
+  -- 5. address (bytes p + 2 to p + 5) not ours; identifier (byte p + 6) 7
+  another : {p n : ℕ} → WholeAt s p n → take 4 (drop (p + 2) s) ≢ a → Hears a s nothing
+  answered : {p n : ℕ} → WholeAt s p n → getD s (p + 6) 0 ≡ 7 → Hears a s nothing
+  -- 6. identifier 1: an order, by sum, code and length
+  ordered : {p n : ℕ} → WholeAt s p n → take 4 (drop (p + 2) s) ≡ a → getD s (p + 6) 0 ≡ 1 → Hears a s (order (orderOf (rightAt s p n) (contentOf s p n)))
+  -- 7. identifier 2 or 8: a piece, 8 the last
+  more : {p n : ℕ} → WholeAt s p n → take 4 (drop (p + 2) s) ≡ a → getD s (p + 6) 0 ≡ 2 → Hears a s (piece false (rightAt s p n) (contentOf s p n))
+  last : {p n : ℕ} → WholeAt s p n → take 4 (drop (p + 2) s) ≡ a → getD s (p + 6) 0 ≡ 8 → Hears a s (piece true (rightAt s p n) (contentOf s p n))
+
+pub heard : {a s : List ℕ} {h : Heard} → Hears a s h → hear a s ≡ h
+unfolding hear hearAt hearAs
+heard {a} {s} (no-packet d) = go (findOf s) refl
+  where
+    go : (f : Found) → findOf s ≡ f → hearAt a s f ≡ nothing
+    go (Noise k) e = refl
+    go (Unfinished k) e = refl
+    go (Unfit k) e = refl
+    go (Whole p m) e = absurd (d p m (whole-at s p m e))
+heard {a} {s} (another {p} {n} w d) = rw (found (whole w) .0, different (addressAt s p) a d) refl
+heard {a} {s} (answered {p} {n} w e) = rw (found (whole w) .0, e) (go (same (addressAt s p) a))
+  where
+    go : (b : Bool) → cond {A = Heard} b nothing nothing ≡ nothing
+    go true = refl
+    go false = refl
+heard {a} {s} (ordered {p} {n} w e i) = ap (hearAt a s) (found (whole w) .0) ∙ heard-at a s p n e ∙ rw i refl
+heard {a} {s} (more {p} {n} w e i) = ap (hearAt a s) (found (whole w) .0) ∙ heard-at a s p n e ∙ rw i refl
+heard {a} {s} (last {p} {n} w e i) = ap (hearAt a s) (found (whole w) .0) ∙ heard-at a s p n e ∙ rw i refl
+
+pub hears : (a s : List ℕ) → Hears a s (hear a s)
+hears a s = go (findOf s) refl
+  where
+    so : {h : Heard} → Hears a s h → Hears a s (hear a s)
+    so c = rw (heard c) c
+
+    by : (p n : ℕ) → WholeAt s p n → (b : Bool) → same (addressAt s p) a ≡ b → Identifier (getD s (p + 6) 0) → Hears a s (hear a s)
+    by p n w false e i = so (another w (λ c. true≢false (sym (rw c (same-refl a)) ∙ e)))
+    by p n w true e (inl i) = so (ordered w (same-eq (addressAt s p) a e) i)
+    by p n w true e (inr (inl i)) = so (more w (same-eq (addressAt s p) a e) i)
+    by p n w true e (inr (inr (inl i))) = so (answered w i)
+    by p n w true e (inr (inr (inr i))) = so (last w (same-eq (addressAt s p) a e) i)
+
+    none : (f : Found) → findOf s ≡ f → ((p n : ℕ) → f ≢ Whole p n) → Hears a s (hear a s)
+    none f e d = so (no-packet (λ p n w. d p n (sym e ∙ found (whole w) .0)))
+
+    go : (f : Found) → findOf s ≡ f → Hears a s (hear a s)
+    go (Noise k) e = none (Noise k) e (λ p n q. let z : _≡_ {A = ℕ} 0 1 = cc in omega arith)
+    go (Unfinished k) e = none (Unfinished k) e (λ p n q. let z : _≡_ {A = ℕ} 0 1 = cc in omega arith)
+    go (Unfit k) e = none (Unfit k) e (λ p n q. let z : _≡_ {A = ℕ} 0 1 = cc in omega arith)
+    go (Whole p n) e = let w : WholeAt s p n = whole-at s p n e in by p n w (same (addressAt s p) a) refl (w .accepted .identifier)

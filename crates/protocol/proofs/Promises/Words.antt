@@ -8,8 +8,10 @@ use native.Mathlib.Omega.{arith}
 use lib.Dec.{T, eqb, leb, eqb→eq, leb→le}
 use borrow.Author.Tests.{eqb-true}
 use Rattle.protocol.specs.Numbers.{longest}
+use Rattle.protocol.specs.Bytes.{same}
 use Rattle.protocol.specs.Packet.{isIdentifier, limit, accepts}
 use Rattle.protocol.proofs.Laws.Logic.{T→true, and-l, and-r}
+use Rattle.protocol.proofs.Laws.Lists.{same-eq}
 use Rattle.protocol.proofs.Laws.Finder.{accepts-of}
 
 -- identifier 1, 2, 7 or 8
@@ -52,4 +54,11 @@ refusing i n k = go (accepts i n) refl
   where
     go : (b : Bool) → accepts i n ≡ b → b ≡ false
     go true e = absurd (k (accepted i n (rw e tt)))
+    go false e = refl
+
+pub different : (s t : List ℕ) → s ≢ t → same s t ≡ false
+different s t d = go (same s t) refl
+  where
+    go : (b : Bool) → same s t ≡ b → b ≡ false
+    go true e = absurd (d (same-eq s t e))
     go false e = refl
