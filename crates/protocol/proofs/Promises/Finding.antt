@@ -23,9 +23,9 @@ use Rattle.protocol.specs.Step.{Heard, nothing, order, piece, hearAs, he
 use Rattle.protocol.specs.Call.{Shape, fitRoom, legal, carried, callOf}
 use Rattle.protocol.proofs.Laws.Logic.{T→true, and-l, and-r}
 use Rattle.protocol.proofs.Laws.Finder.{FirstStart, start-first, start-nowhere, start-at, marks-in, found-at, heard-at}
-use Rattle.protocol.proofs.Laws.Lists.{total-added, same-refl, same-eq, lay-nothing}
+use Rattle.protocol.proofs.Laws.Lists.{total-added, same-refl, same-eq, same-no, lay-nothing}
 use Rattle.protocol.proofs.Laws.Answers.{call-legal}
-use Rattle.protocol.proofs.Promises.Words.{Identifier, Accepted, accepted, accepting, refusing, different}
+use Rattle.protocol.proofs.Promises.Words.{Identifier, Accepted, accepts-means, refuses-other, parts}
 use Rattle.protocol.proofs.Promises.Silent.{silently}
 
 -- EF followed by 01 at the place p
@@ -90,8 +90,7 @@ no-marks : (s : List ℕ) (p : ℕ) → marksAt s p ≡ false → Marks s p → 
 no-marks s p e m = true≢false (sym (of-marks s p m) ∙ e)
 
 field-at : (s : List ℕ) (p : ℕ) → lengthAt s p ≡ lengthField s p
-unfolding wordAt
-field-at s p = let e : p + 7 + 1 ≡ p + 8 = omega arith in rw e refl
+field-at s p = parts s p 0 .length-at
 
 started : (s : List ℕ) (p : ℕ) → First s p → startOf s ≡ At p
 started s p f = start-at s p (of-marks s p (f .here)) (λ q l. unmarked s q (f .before q l))
@@ -109,9 +108,9 @@ finds s = go (startOf s) (start-first s)
     at : (p : ℕ) → First s p → (n : ℕ) → lengthField s p ≡ n → (a b c : Bool) → ltb (length s) (p + 9) ≡ a → accepts (getD s (p + 6) 0) n ≡ b → ltb (length s) (p + 9 + n) ≡ c
         → Finds s (cond a (Unfinished p) (cond b (cond c (Unfinished p) (Whole p n)) (Unfit p))) (usedOf (cond a (Unfinished p) (cond b (cond c (Unfinished p) (Whole p n)) (Unfit p))))
     at p f n w true b c ea eb ec = headless f (ltb-true (length s) (p + 9) ea)
-    at p f n w false false c ea eb ec = unfit f (ltb-false (length s) (p + 9) ea) (λ k. true≢false (sym (T→true (accepts (getD s (p + 6) 0) n) (accepting (getD s (p + 6) 0) n (rw w at k))) ∙ eb))
-    at p f n w false true true ea eb ec = unfinished f (ltb-false (length s) (p + 9) ea) (rw w (accepted (getD s (p + 6) 0) n (rw eb tt))) (rw w (ltb-true (length s) (p + 9 + n) ec))
-    at p f n w false true false ea eb ec = whole record { first = f; field = w; accepted = accepted (getD s (p + 6) 0) n (rw eb tt); inside = ltb-false (length s) (p + 9 + n) ec }
+    at p f n w false false c ea eb ec = unfit f (ltb-false (length s) (p + 9) ea) (λ k. true≢false (sym (T→true (accepts (getD s (p + 6) 0) n) (accepts-means (getD s (p + 6) 0) n .1 (rw w at k))) ∙ eb))
+    at p f n w false true true ea eb ec = unfinished f (ltb-false (length s) (p + 9) ea) (rw w (accepts-means (getD s (p + 6) 0) n .0 (rw eb tt))) (rw w (ltb-true (length s) (p + 9 + n) ec))
+    at p f n w false true false ea eb ec = whole record { first = f; field = w; accepted = accepts-means (getD s (p + 6) 0) n .0 (rw eb tt); inside = ltb-false (length s) (p + 9 + n) ec }
 
     go : (r : Start) → FirstStart s r → Finds s (findFrom s r) (usedOf (findFrom s r))
     go Nowhere h = none (λ q. no-marks s q (h q)) (eqb (getD s (length s - 1) 0) 0xef) refl
@@ -123,11 +122,11 @@ unfolding findOf findFrom usedOf allBut
 found {s} (noise h d) = rw (start-nowhere s (λ q. unmarked s q (h q)), ne-eqb (getD s (length s - 1) 0) 0xef d) (refl, refl)
 found {s} (noise-but-one h e) = rw (start-nowhere s (λ q. unmarked s q (h q)), eq-eqb (getD s (length s - 1) 0) 0xef e) (refl, refl)
 found {s} (headless {p} f l) = rw (started s p f, lt-ltb (length s) (p + 9) l) (refl, refl)
-found {s} (unfit {p} f l k) = rw (started s p f, le-ltb (length s) (p + 9) l, field-at s p, refusing (getD s (p + 6) 0) (lengthField s p) k) (refl, refl)
+found {s} (unfit {p} f l k) = rw (started s p f, le-ltb (length s) (p + 9) l, field-at s p, refuses-other (getD s (p + 6) 0) (lengthField s p) k) (refl, refl)
 found {s} (unfinished {p} f l a m) =
-    rw (started s p f, le-ltb (length s) (p + 9) l, field-at s p, T→true (accepts (getD s (p + 6) 0) (lengthField s p)) (accepting (getD s (p + 6) 0) (lengthField s p) a), lt-ltb (length s) (p + 9 + lengthField s p) m) (refl, refl)
+    rw (started s p f, le-ltb (length s) (p + 9) l, field-at s p, T→true (accepts (getD s (p + 6) 0) (lengthField s p)) (accepts-means (getD s (p + 6) 0) (lengthField s p) .1 a), lt-ltb (length s) (p + 9 + lengthField s p) m) (refl, refl)
 found {s} (whole {p} {n} w) =
-    let e : findFrom s (At p) ≡ Whole p n = found-at s p n (field-at s p ∙ w .field) (accepting (getD s (p + 6) 0) n (w .accepted)) (w .inside) in
+    let e : findFrom s (At p) ≡ Whole p n = found-at s p n (field-at s p ∙ w .field) (accepts-means (getD s (p + 6) 0) n .1 (w .accepted)) (w .inside) in
     rw (started s p (w .first), e) (refl, refl)
 
 pub whole-at : (s : List ℕ) (p n : ℕ) → findOf s ≡ Whole p n → WholeAt s p n
@@ -204,7 +203,7 @@ heard {a} {s} (no-packet d) = go (findOf s) refl
     go (Unfinished k) e = refl
     go (Unfit k) e = refl
     go (Whole p m) e = absurd (d p m (whole-at s p m e))
-heard {a} {s} (another {p} {n} w d) = rw (found (whole w) .0, different (addressAt s p) a d) refl
+heard {a} {s} (another {p} {n} w d) = rw (found (whole w) .0, same-no (addressAt s p) a d) refl
 heard {a} {s} (answered {p} {n} w e) = rw (found (whole w) .0, e) (go (same (addressAt s p) a))
   where
     go : (b : Bool) → cond {A = Heard} b nothing nothing ≡ nothing
