@@ -21,3 +21,4 @@ pub mod Silent
 pub mod Broken
 pub mod Settings
 pub mod Parameters
+pub mod Codes
