@@ -1,4 +1,6 @@
 pub mod Words
+pub mod Records
+pub mod Packets
 pub mod Finding
 pub mod ReadBack
 pub mod ZeroUsed
@@ -22,3 +24,4 @@ pub mod Broken
 pub mod Settings
 pub mod Parameters
 pub mod Codes
+pub mod Services

@@ -5,13 +5,13 @@ use mathlib.Core.Bool.{true}
 use mathlib.Core.Path.{_≡_, refl, sym, ap, _∙_}
 use mathlib.Core.Logic.{_≢_}
 use mathlib.Core.List.{List, [], _∷_, map}
-use Prim.Native.Nat.{ℕ, zero, suc, _+_, _-_, _<_}
+use Prim.Native.Nat.{ℕ, _+_, _-_}
 use native.Mathlib.Omega.{arith}
-use lib.Dec.{T, eqb}
+use lib.Dec.{T}
 use borrow.Author.Tests.{ne-eqb}
-use lib.ListN.{length, getD, take, drop}
+use lib.ListN.{length, getD, drop}
 use lib.Seq.{getD-take, getD-drop}
-use Rattle.protocol.specs.Packet.{lengthOf, contentAt, rightAt}
+use Rattle.protocol.specs.Packet.{contentAt, rightAt}
 use Rattle.protocol.specs.Reader.{Reader}
 use Rattle.protocol.specs.Commands.{Entry, commands, Known, none, some, rowOf}
 use Rattle.protocol.specs.Call.{Shape, fitRoom, legal, callOf}
