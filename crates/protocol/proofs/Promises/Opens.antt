@@ -16,7 +16,7 @@ use Rattle.protocol.specs.Step.{Heard, nothing, order, piece, hear, carr
 use Rattle.protocol.specs.Call.{Shape, fitRoom, legal, Told, Ended, replyOf, callOf, switchOf}
 use Rattle.protocol.specs.Dialogue.{Event, received, switch, on, Dialogue, over, first, dialogue, kept}
 use Rattle.protocol.proofs.Laws.Logic.{T→true, and-l, and-i}
-use Rattle.protocol.proofs.Laws.Lists.{take-lay, same-eq, same-refl, differ}
+use Rattle.protocol.proofs.Laws.Lists.{take-lay, same-eq, same-refl, same-no}
 use Rattle.protocol.proofs.Promises.Told.{Gives, answered}
 use Rattle.protocol.proofs.Laws.Locked.{tells, turns, toldBy, plainBy, shut-of, locked-call, plain-or, locked-switch, wiped-legal}
 
@@ -48,9 +48,9 @@ module _ (σ : Shape) (r : Reader) (s room : List ℕ) (f : T (legal σ r)) (u :
   pub right-password : (w : List ℕ) → hear (r .plain .address) s ≡ order (command (free (verifyPassword w))) → w ≡ p .password → Marks 0x00 true
   right-password w h e = verified w h true (ap (λ (x : List ℕ). same x (p .password)) e ∙ same-refl (p .password))
 
-  -- differs: 13h, the mark cleared
+  -- same-nos: 13h, the mark cleared
   pub wrong-password : (w : List ℕ) → hear (r .plain .address) s ≡ order (command (free (verifyPassword w))) → w ≢ p .password → Marks 0x13 false
-  wrong-password w h d = verified w h false (differ w (p .password) d)
+  wrong-password w h d = verified w h false (same-no w (p .password) d)
 
   -- HandShake: 00h; nothing changes
   pub shakes-hands : hear (r .plain .address) s ≡ order (command (free handShake)) → Gives (acknowledge (p .address) 0x00 []) (rested r) s room (callOf σ r s room)

@@ -12,7 +12,7 @@ use Rattle.protocol.specs.Finder.{findOf}
 use Rattle.protocol.specs.Reader.{Reader}
 use Rattle.protocol.specs.Step.{Heard, nothing, hearAs, hearAt, hear, silence, answer}
 use Rattle.protocol.specs.Call.{Shape, fitRoom, legal, callOf}
-use Rattle.protocol.proofs.Laws.Lists.{differ}
+use Rattle.protocol.proofs.Laws.Lists.{same-no}
 use Rattle.protocol.proofs.Promises.Told.{Gives, answered}
 
 either : (b : Bool) → cond {A = Heard} b nothing nothing ≡ nothing
@@ -30,7 +30,7 @@ module _ (σ : Shape) (r : Reader) (s room : List ℕ) (f : T (legal σ r)) (u :
 
   pub others-silent : addressAt s p ≢ r .plain .address → Silence
   unfolding hear hearAt
-  others-silent d = unheard (rw (w, differ (addressAt s p) (r .plain .address) d) refl)
+  others-silent d = unheard (rw (w, same-no (addressAt s p) (r .plain .address) d) refl)
 
   pub acknowledges-silent : identifierAt s p ≡ 7 → Silence
   unfolding hear hearAt hearAs
