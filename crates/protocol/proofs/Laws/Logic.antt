@@ -47,10 +47,6 @@ pub and-true : (a b : Bool) → b ≡ true → (a && b) ≡ a
 and-true true b q = q
 and-true false b q = refl
 
-pub or-either : (a b : Bool) → T (a || b) → T a ⊎ T b
-or-either true b t = inl tt
-or-either false b t = inr t
-
 pub or-false : (a b : Bool) → a ≡ false → b ≡ false → (a || b) ≡ false
 or-false a b p q = rw (p, q) refl
 

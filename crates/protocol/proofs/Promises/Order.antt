@@ -4,7 +4,7 @@
 use mathlib.Core.Bool.{Bool, true, false, cond}
 use mathlib.Core.Path.{_≡_, refl, ap, _∙_}
 use mathlib.Core.Logic.{_≢_}
-use mathlib.Core.List.{List, []}
+use mathlib.Core.List.{List}
 use Prim.Native.Nat.{ℕ, _+_}
 use lib.Dec.{T}
 use lib.ListN.{length}
@@ -15,13 +15,12 @@ use Rattle.protocol.specs.Packet.{lengthOf, addressAt, identifierAt, con
 use Rattle.protocol.specs.Finder.{findOf}
 use Rattle.protocol.specs.Reader.{Reader, locked}
 use Rattle.protocol.specs.Commands.{Barred, barred, Entry, commands, none, some, rowOf, Order, damaged, unknown, misfit, command, orderAs, orderOf}
-use Rattle.protocol.specs.Data.{acknowledge}
 use Rattle.protocol.specs.Table.{rule}
 use Rattle.protocol.specs.Step.{order, hearAs, hearAt, hear, says, carry, obey, heed, rested, answer}
 use Rattle.protocol.specs.Call.{Shape, fitRoom, legal, callOf}
 use Rattle.protocol.proofs.Laws.Finder.{heard-at}
 use Rattle.protocol.proofs.Laws.Answers.{spared}
-use Rattle.protocol.proofs.Promises.Told.{Gives, answered}
+use Rattle.protocol.proofs.Promises.Told.{Says, answered}
 
 -- the run s has a whole packet with identifier 1 for the reader r at p, n its length field
 pub record Ordered (r : Reader) (s : List ℕ) (p n : ℕ) : Type 0 where
@@ -38,27 +37,27 @@ module _ (σ : Shape) (r : Reader) (s room : List ℕ) (f : T (legal σ r)) (u :
   heard = ap (hearAt (r .plain .address) s) (k .found) ∙ heard-at (r .plain .address) s p n (k .address) ∙ ap (λ (i : ℕ). hearAs i (rightAt s p n) (contentAt s p n)) (k .identifier)
 
   -- the call is answered a code alone, and changes nothing but an open transfer, which is ended
-  abbrev pub Says : ℕ → Type 0
-  Says code = Gives (acknowledge (rested r .plain .address) code []) (rested r) s room (callOf σ r s room)
+  abbrev pub Tells : ℕ → Type 0
+  Tells code = Says (rested r) code s room (callOf σ r s room)
 
-  said : (o : Order) (code : ℕ) → orderOf (rightAt s p n) content ≡ o → heed (rested r) o ≡ says (rested r) code → Says code
+  said : (o : Order) (code : ℕ) → orderOf (rightAt s p n) content ≡ o → heed (rested r) o ≡ says (rested r) code → Tells code
   unfolding answer says
   said o code h e = answered σ r s room f u (says (rested r) code) (rw (heard, h, e) refl)
 
   -- the sum is wrong: 01h
-  pub damaged-first : rightAt s p n ≡ false → Says 0x01
+  pub damaged-first : rightAt s p n ≡ false → Tells 0x01
   unfolding orderOf heed
   damaged-first e = said damaged 0x01 (rw e refl) refl
 
   module _ (right : rightAt s p n ≡ true) where
     -- no command has the code: 19h
-    pub unknown-next : rowOf commands (byteAt content 0) ≡ none → Says 0x19
+    pub unknown-next : rowOf commands (byteAt content 0) ≡ none → Tells 0x19
     unfolding orderOf orderAs heed
     unknown-next e = said unknown 0x19 (rw (right, e) refl) refl
 
     module _ (e : Entry) (row : rowOf commands (byteAt content 0) ≡ some e) where
       -- its length is another: 01h
-      pub misfit-next : e .len ≢ length content + 2 → Says 0x01
+      pub misfit-next : e .len ≢ length content + 2 → Tells 0x01
       unfolding orderOf orderAs heed
       misfit-next d = said misfit 0x01 (rw (right, row, ne-eqb (e .len) (lengthOf content) d) refl) refl
 
@@ -68,6 +67,6 @@ module _ (σ : Shape) (r : Reader) (s room : List ℕ) (f : T (legal σ r)) (u :
         ordered = rw (right, row, eq-eqb (e .len) (lengthOf content) fit, is) refl
 
         -- the reader is locked: 21h
-        pub locked-next : locked (r .plain) ≡ true → Says 0x21
+        pub locked-next : locked (r .plain) ≡ true → Tells 0x21
         unfolding heed obey
         locked-next l = said (command (barred c)) 0x21 ordered (ap (λ (b : Bool). cond b (says (rested r) 0x21) (carry (rested r) (rule (rested r) c))) (spared r .lock ∙ l))

@@ -2,7 +2,7 @@
 -- Document 01's "Numbers a caller gets back", each as a table of lines: the first that does not hold gives its number, and where all hold the
 -- call is carried out.
 use mathlib.Core.Bool.{Bool, true, false}
-use mathlib.Core.Path.{_≡_, refl, _∙_}
+use mathlib.Core.Path.{_≡_, refl}
 use mathlib.Core.Logic.{_⊎_, inl, inr, _↔_}
 use mathlib.Core.List.{List, [], _∷_}
 use Prim.Native.Nat.{ℕ, zero, suc, _+_, _≤_}

@@ -21,8 +21,8 @@ use Rattle.protocol.proofs.Laws.Logic.{T→true, and-l, and-r, and-i}
 use Rattle.protocol.proofs.Laws.Lists.{follow-append}
 use Rattle.protocol.proofs.Laws.Lines.{Line, unless, Follows, Matches, follows}
 use Rattle.protocol.proofs.Laws.Answers.{spared, row-answer}
-use Rattle.protocol.proofs.Promises.LegalMeans.{legal-means, core-holds}
-use Rattle.protocol.proofs.Promises.Told.{Replies, Gives, answered, pages, has, Numbered, buffer, numbered, buffer-is}
+use Rattle.protocol.proofs.Promises.LegalMeans.{legal-means}
+use Rattle.protocol.proofs.Promises.Told.{Replies, Says, answered, pages, has, Numbered, buffer, numbered, buffer-is}
 
 -- the range of a parameter: 4 is the baud factor, 5 the level, 6 the size code
 abbrev pub InRange : ℕ → ℕ → Type 0
@@ -99,11 +99,11 @@ module _ (r : Reader) (s room : List ℕ) (f : T (legal core r)) (u : T (fitRoom
   -- 16 pages of the notepad, and one of the index
   noted : (p : ℕ) → T (ltb p (length (t .guarded .notepad) / 32)) ↔ (p ≤ 15)
   unfolding core
-  noted p = rw (spared r .notepad, legal-means core core-holds r f .notepad) (λ x. (let h = ltb→lt p 16 x in omega arith), λ h. lt→ltb p 16 (omega arith))
+  noted p = rw (spared r .notepad, legal-means r f .lengths .notepad) (λ x. (let h = ltb→lt p 16 x in omega arith), λ h. lt→ltb p 16 (omega arith))
 
   indexed : (p : ℕ) → T (ltb p (length (t .guarded .index) / 32)) ↔ (p ≡ 0)
   unfolding core
-  indexed p = rw (spared r .index, legal-means core core-holds r f .index) (λ x. (let h = ltb→lt p 1 x in omega arith), λ h. lt→ltb p 1 (omega arith))
+  indexed p = rw (spared r .index, legal-means r f .lengths .index) (λ x. (let h = ltb→lt p 1 x in omega arith), λ h. lt→ltb p 1 (omega arith))
 
   matches : (c : Barred) → Matches (rule t c .tests) (lines t c)
   unfolding rule capacity stored bit
@@ -131,7 +131,7 @@ module _ (r : Reader) (s room : List ℕ) (f : T (legal core r)) (u : T (fitRoom
   -- or another code alone, and nothing changes
   abbrev pub Answers : ℕ → Type 0
   Answers zero = Done
-  Answers (suc k) = Gives (acknowledge (t .plain .address) (suc k) []) t s room called
+  Answers (suc k) = Says t (suc k) s room called
 
   pub rows : (c : Barred) → hear (r .plain .address) s ≡ order (command (barred c)) → Follows (lines t c) Answers
   unfolding carryAs says

@@ -6,17 +6,18 @@ use mathlib.Core.Logic.{_⊎_, inl, inr, _↔_}
 use mathlib.Core.List.{List, [], _∷_, _++_}
 use Prim.Native.Nat.{ℕ, zero, suc, _+_, _*_, _/_, _%_, _^_}
 use native.Mathlib.Omega.{arith}
-use lib.Dec.{T, eqb, eqb→eq}
+use lib.Dec.{T, eqb}
 use lib.ListN.{length, take, drop, getD, replicate}
 use Rattle.protocol.specs.declared.Found.the-variants.{Whole}
 use Rattle.protocol.specs.Finder.{findOf, usedOf}
 use Rattle.protocol.specs.Bytes.{lay}
 use Rattle.protocol.specs.Reader.{Transfer, Buffer, Guarded, Reader, bufferOf, withTransfer, withBuffer, reader}
+use Rattle.protocol.specs.Data.{acknowledge}
 use Rattle.protocol.specs.Table.{isBuffer, second}
 use Rattle.protocol.specs.Step.{hear, Said, answer, stepOf}
 use Rattle.protocol.specs.Call.{Shape, fitRoom, legal, Ended, carried, callOf}
-use Rattle.protocol.proofs.Laws.Logic.{or-either}
 use Rattle.protocol.proofs.Laws.Answers.{call-legal}
+use Rattle.protocol.proofs.Promises.Words.{kept}
 
 -- ---- what every call that is carried out has in common
 
@@ -35,6 +36,10 @@ pub record Leaves (reply : List ℕ) (Left : Reader → Type 0) (s lent : List �
 -- it leaves the reader t
 abbrev pub Gives : List ℕ → Reader → List ℕ → List ℕ → Ended → Type 0
 Gives reply t s lent e = Leaves reply (λ (x : Reader). x ≡ t) s lent e
+
+-- a code alone, from the reader t, which stays as it is
+abbrev pub Says : Reader → ℕ → List ℕ → List ℕ → Ended → Type 0
+Says t code s lent e = Gives (acknowledge (t .plain .address) code []) t s lent e
 
 lay-front : (s d : List ℕ) → lay 0 s d ≡ s ++ drop (length s) d
 unfolding lay
@@ -119,16 +124,7 @@ with-buffer false c m t = record { settings = refl; chosen = refl; spare = refl;
 
 -- the table's own tests and choices of a buffer say the same
 pub numbered : (b : ℕ) → T (isBuffer b) ↔ Numbered b
-unfolding isBuffer
-numbered b = (λ t. there (or-either (eqb b 1) (eqb b 2) t), back)
-  where
-    there : T (eqb b 1) ⊎ T (eqb b 2) → Numbered b
-    there (inl x) = inl (eqb→eq b 1 x)
-    there (inr x) = inr (eqb→eq b 2 x)
-
-    back : Numbered b → T (isBuffer b)
-    back (inl e) = rw e tt
-    back (inr e) = rw e tt
+numbered = kept .buffer-means
 
 pub buffer-is : (b : ℕ) → Numbered b → (g : Guarded) → bufferOf (second b) g ≡ buffer b g
 unfolding bufferOf
