@@ -5,7 +5,7 @@ use mathlib.Core.List.{List, [], _∷_}
 use Prim.Native.Nat.{ℕ, zero, suc, _*_, _%_}
 use lib.Dec.{eqb, ltb, leb}
 use lib.ListN.{length, take}
-use Rattle.protocol.specs.Numbers.{pageBytes, fourBytes, replyRoom, lowestLevel, highestLevel, lowestBaud, highestBaud, highestSize, badLength, badRoom, badSetting}
+use Rattle.protocol.specs.Numbers.{pageBytes, leastPages, mostPages, indexBytes, notepadBytes, fourBytes, replyRoom, lowestLevel, highestLevel, lowestBaud, highestBaud, highestSize, badLength, badRoom, badSetting}
 use Rattle.protocol.specs.Bytes.{Bytes, lay}
 use Rattle.protocol.specs.Tests.{verdict, within}
 use Rattle.protocol.specs.Index.{clearFrom}
@@ -23,7 +23,7 @@ pub record Shape : Type 0 where
 
 -- document 01's reader
 unfoldable pub core : Shape
-core = record { least = 1; most = 256; indexed = 32; noted = 512 }
+core = record { least = leastPages; most = mostPages; indexed = indexBytes; noted = notepadBytes }
 
 unfoldable pub fitLibrary : Shape → Guarded → Bool
 fitLibrary σ g =

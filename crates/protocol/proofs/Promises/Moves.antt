@@ -87,7 +87,7 @@ module _ (σ : Shape) (ok : σ .most ≤ 8 * σ .indexed) (r : Reader) (l : Lega
       let f : T (c .filled) = rw (buffer-is b i g, e) tt in
       let d : T (passed (rule t (store b p) .tests)) = and-i (isBuffer b) (ltb p (capacity g) && (c .filled && true)) (numbered b .1 i) (and-i (ltb p (capacity g)) (c .filled && true) x (and-i (c .filled) true f tt)) in
       let n : p < capacity g = ltb→lt p (capacity g) x in
-      let w : Filled t p (c .bytes) = fill-page t p (c .bytes) (buffer-long (second b) g (k .buffers)) (omega (arith, k .shelf .long)) in
+      let w : Filled t (second b) p = fill-page t (second b) p (buffer-long (second b) g (k .buffers)) (omega (arith, k .shelf .long)) in
       let a = carried (store b p) h d in
       record {
         quiet = quietly (lay (512 * p) (c .bytes) (g .templates)) (setBit (g .index) p) a;

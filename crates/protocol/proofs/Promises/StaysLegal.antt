@@ -57,10 +57,8 @@ module _ (σ : Shape) (ok : σ .most ≤ 8 * σ .indexed) where
   module _ (r : Reader) (z : r .plain .transfer ≡ closed) (k : Good σ ok r) (u : locked (r .plain) ≡ false) where
     row-proper : (c : Barred) → Long c → T (passed (rule r c .tests)) → Proper σ ok r (rule r c .effect)
     unfolding rule withPassword withAddress fitPlain
-    row-proper (store b p) l t = (ltb→lt p (capacity (r .guarded)) (search (and-l, and-r)), buffer-long (second b) (r .guarded) (k .buffers))
-    row-proper (loadChar b p) l t =
-        let h : p < capacity (r .guarded) = ltb→lt p (capacity (r .guarded)) (search (and-l, and-r)) in
-        simp (length-take, length-drop) (omega (arith, k .shelf .long))
+    row-proper (store b p) l t = ltb→lt p (capacity (r .guarded)) (search (and-l, and-r))
+    row-proper (loadChar b p) l t = ltb→lt p (capacity (r .guarded)) (search (and-l, and-r))
     row-proper (upChar b) l t = tt
     row-proper (downChar b) l t = u
     row-proper (deletChar p n) l t = leb→le (p + n) (capacity (r .guarded)) (search (and-l, and-r))
