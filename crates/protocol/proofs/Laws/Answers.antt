@@ -10,7 +10,7 @@ use Rattle.protocol.specs.Reader.{Transfer, closed, opened, unfit, Reade
 use Rattle.protocol.specs.Commands.{Free, Barred, free, barred, damaged, unknown, misfit, command}
 use Rattle.protocol.specs.Table.{rule, freeRule, publicOf}
 use Rattle.protocol.specs.Step.{Heard, nothing, order, piece, hear, Said, silence, says, carryAs, carry, carryFree, obey, heed, ended, rested, fits, takeAs, takeIn, answer, stepOf}
-use Rattle.protocol.specs.Call.{Shape, fitLengths, fitRoom, sound, legal, Ended, refusalOf, refused, carried, callAs, callOf}
+use Rattle.protocol.specs.Call.{Shape, Lent, fitLengths, fitLent, sound, legal, Ended, refusalOf, refused, carried, callAs, callOf}
 use Rattle.protocol.proofs.Laws.Logic.{T→true, and-l, and-r, and-i, passed, verdict-passed, passed-verdict}
 use Rattle.protocol.proofs.Laws.Commands.{tests-numbered}
 
@@ -96,30 +96,30 @@ obeys r s l c h p = row-answer r s l c h zero (passed-verdict (rule (rested r) c
 
 -- ---- a call: refused with nothing changed, or a legal reader's step with a fit reply room
 
-module _ (σ : Shape) (r : Reader) (s room : List ℕ) where
-  pub call-kinds : (P : Ended → Type 0) → ((k : ℕ) → P (refused (suc k) r room)) → (T (legal σ r) → T (fitRoom room) → P (carried (stepOf r s) room))
-      → P (callOf σ r s room)
+module _ (σ : Shape) (r : Reader) (s : List ℕ) (lent : Lent) where
+  pub call-kinds : (P : Ended → Type 0) → ((k : ℕ) → P (refused (suc k) r (lent .room))) → (T (legal σ r) → T (fitLent lent) → P (carried (stepOf r s) (lent .room)))
+      → P (callOf σ r s lent)
   unfolding callOf callAs refusalOf legal
-  call-kinds P f g = go (refusalOf σ r room) refl
+  call-kinds P f g = go (refusalOf σ r lent) refl
     where
-      go : (k : ℕ) → refusalOf σ r room ≡ k → P (callAs r s room k)
+      go : (k : ℕ) → refusalOf σ r lent ≡ k → P (callAs r s lent k)
       go zero e =
           let t = verdict-passed _ tt e in
           let a : T (fitLengths σ (r .guarded)) = search (and-l) in
-          let b : T (fitRoom room) = search (and-l, and-r) in
+          let b : T (fitLent lent) = search (and-l, and-r) in
           let c : T (sound r) = search (and-l, and-r) in
           g (and-i (fitLengths σ (r .guarded)) (sound r) a c) b
       go (suc k) e = f k
 
   -- a legal reader with a fit reply room gets no refusal
-  pub call-legal : T (legal σ r) → T (fitRoom room) → callOf σ r s room ≡ carried (stepOf r s) room
+  pub call-legal : T (legal σ r) → T (fitLent lent) → callOf σ r s lent ≡ carried (stepOf r s) (lent .room)
   unfolding callOf callAs refusalOf legal
   call-legal t u =
       let a : T (fitLengths σ (r .guarded)) = search (and-l) in
       let c : T (sound r) = search (and-r) in
-      ap (callAs r s room) (passed-verdict _ (search (and-i)))
+      ap (callAs r s lent) (passed-verdict _ (search (and-i)))
 
   -- and with a short one, refusal 2
-  pub call-short : T (legal σ r) → fitRoom room ≡ false → callOf σ r s room ≡ refused badRoom r room
+  pub call-short : T (legal σ r) → fitLent lent ≡ false → callOf σ r s lent ≡ refused badRoom r (lent .room)
   unfolding callOf callAs refusalOf legal verdict
   call-short t u = simp (T→true (fitLengths σ (r .guarded)) (search (and-l)), T→true (sound r) (search (and-r)), u) refl

@@ -20,7 +20,7 @@ use Rattle.protocol.specs.Commands.{Barred, store, loadChar, upChar, dow
 use Rattle.protocol.specs.Data.{acknowledge}
 use Rattle.protocol.specs.Table.{second, rule, apply}
 use Rattle.protocol.specs.Step.{Heard, nothing, order, hearAs, hearAt, hear, Said, silence, says, carryAs, carryFree, ended, rested, takeAs, answer, stepOf, switched, wiped}
-use Rattle.protocol.specs.Call.{Shape, fitBuffers, fitLengths, legal, Ended, replyOf, refused, carried, callOf, switchRefusal, switchAs, switchOf}
+use Rattle.protocol.specs.Call.{Shape, Lent, fitBuffers, fitLengths, legal, Ended, replyOf, refused, carried, callOf, switchRefusal, switchAs, switchOf}
 use Rattle.protocol.specs.Dialogue.{Event, received, switch, on, finally, exchanges, Act, put, cut, cutAll, actsOf, actsIn, addressee, asks, grants, actsSeen, history}
 use Rattle.protocol.proofs.Laws.Logic.{and-l, and-r, passed}
 use Rattle.protocol.proofs.Laws.Lists.{same-refl, same-eq, same-front, take-lay}
@@ -163,13 +163,13 @@ module _ (σ : Shape) (ok : σ .most ≤ 8 * σ .indexed) (P : List ℕ → List
   abbrev pub Kept : Reader → List Act → Type 0
   Kept r acts = P (r .guarded .templates) (r .guarded .index) acts
 
-  call-keeps : (r : Reader) (s room : List ℕ) (old : List Act) → Kept r old
-      → Kept (callOf σ r s room .after) (actsSeen record { run = s; reply = replyOf (callOf σ r s room .told) } ++ old)
+  call-keeps : (r : Reader) (s : List ℕ) (lent : Lent) (old : List Act) → Kept r old
+      → Kept (callOf σ r s lent .after) (actsSeen record { run = s; reply = replyOf (callOf σ r s lent .told) } ++ old)
   unfolding actsSeen asks refused carried stepOf replyOf answer silence legal fitLengths
-  call-keeps r s room old k =
-      call-kinds σ r s room (λ (e : Ended). Kept (e .after) (actsSeen record { run = s; reply = replyOf (e .told) } ++ old))
+  call-keeps r s lent old k =
+      call-kinds σ r s lent (λ (e : Ended). Kept (e .after) (actsSeen record { run = s; reply = replyOf (e .told) } ++ old))
       (λ n. rw (grants-nothing (addressee s (findOf s))) k)
-      (λ t u. rw (take-lay (o .reply) room) (heard (shelf σ ok (r .guarded) (search (and-l, and-r))) (search (and-l, and-r)) (for-us (r .plain .address) s)))
+      (λ t u. rw (take-lay (o .reply) (lent .room)) (heard (shelf σ ok (r .guarded) (search (and-l, and-r))) (search (and-l, and-r)) (for-us (r .plain .address) s)))
     where
       o : Said
       o = answer r (hear (r .plain .address) s)
@@ -194,6 +194,6 @@ module _ (σ : Shape) (ok : σ .most ≤ 8 * σ .indexed) (P : List ℕ → List
   pub events-keep : (es : List Event) (r : Reader) (old : List Act) → Kept r old → Kept (finally σ r es) (history (exchanges σ r es) old)
   unfolding finally exchanges history on
   events-keep [] r old k = k
-  events-keep (received s room ∷ es) r old k =
-      events-keep es (callOf σ r s room .after) (actsSeen record { run = s; reply = replyOf (callOf σ r s room .told) } ++ old) (call-keeps r s room old k)
+  events-keep (received s lent ∷ es) r old k =
+      events-keep es (callOf σ r s lent .after) (actsSeen record { run = s; reply = replyOf (callOf σ r s lent .told) } ++ old) (call-keeps r s lent old k)
   events-keep (switch ∷ es) r old k = events-keep es (switchOf r .after) old (switch-keeps r old k)

@@ -20,7 +20,7 @@ use Rattle.protocol.specs.Finder.{marksAt, startOf, allBut, findFrom, fi
 use Rattle.protocol.specs.Reader.{Reader}
 use Rattle.protocol.specs.Commands.{orderOf}
 use Rattle.protocol.specs.Step.{Heard, nothing, order, piece, hearAs, hearAt, hear, silence, answer, stepOf}
-use Rattle.protocol.specs.Call.{Shape, fitRoom, legal, Ended, carried, callOf}
+use Rattle.protocol.specs.Call.{Shape, Lent, fitLent, legal, Ended, carried, callOf}
 use Rattle.protocol.proofs.Laws.Logic.{T→true, and-l, and-r}
 use Rattle.protocol.proofs.Laws.Finder.{FirstStart, start-first, start-nowhere, start-at, marks-in, found-at, heard-at}
 use Rattle.protocol.proofs.Laws.Lists.{total-added, same-refl, same-eq, same-no, lay-nothing}
@@ -28,8 +28,8 @@ use Rattle.protocol.proofs.Laws.Answers.{call-legal}
 use Rattle.protocol.proofs.Promises.Packets.{Identifier, Accepted, accepts-means, refuses-other, parts}
 
 -- silent: so many bytes used, and nothing changes, not the reply room either
-abbrev pub silently : Reader → ℕ → List ℕ → Ended
-silently r n room = record { told = record { refusal = 0; used = n; length = 0; room = room }; after = r }
+abbrev pub silently : Reader → ℕ → Lent → Ended
+silently r n lent = record { told = record { refusal = 0; used = n; length = 0; room = lent .room }; after = r }
 
 -- EF followed by 01 at the place p
 pub record Marks (s : List ℕ) (p : ℕ) : Type 0 where
@@ -145,22 +145,22 @@ whole-at s p n e = go (findOf s) (usedOf (findOf s)) (finds s) e
 
 -- ---- a call
 
-module _ (σ : Shape) (r : Reader) (s room : List ℕ) (l : T (legal σ r)) (u : T (fitRoom room)) where
+module _ (σ : Shape) (r : Reader) (s : List ℕ) (lent : Lent) (l : T (legal σ r)) (u : T (fitLent lent)) where
   -- it uses so many bytes, whatever a whole packet says
-  pub uses : {f : Found} {n : ℕ} → Finds s f n → callOf σ r s room .told .used ≡ n
+  pub uses : {f : Found} {n : ℕ} → Finds s f n → callOf σ r s lent .told .used ≡ n
   unfolding carried stepOf
-  uses h = rw (call-legal σ r s room l u) (found h .1)
+  uses h = rw (call-legal σ r s lent l u) (found h .1)
 
   -- without a whole packet it is silent
-  pub silent-without : {f : Found} {n : ℕ} → Finds s f n → ((p m : ℕ) → f ≢ Whole p m) → callOf σ r s room ≡ silently r n room
+  pub silent-without : {f : Found} {n : ℕ} → Finds s f n → ((p m : ℕ) → f ≢ Whole p m) → callOf σ r s lent ≡ silently r n lent
   unfolding carried stepOf answer silence hear hearAt
   silent-without {f} {n} h d =
-      rw (call-legal σ r s room l u, found h .1, found h .0) (go f d)
+      rw (call-legal σ r s lent l u, found h .1, found h .0) (go f d)
     where
-      go : (f : Found) → ((p m : ℕ) → f ≢ Whole p m) → carried record { used = n; reply = answer r (hearAt (r .plain .address) s f) .reply; after = answer r (hearAt (r .plain .address) s f) .after } room ≡ silently r n room
-      go (Noise k) d = ap (silently r n) (lay-nothing 0 room)
-      go (Unfinished k) d = ap (silently r n) (lay-nothing 0 room)
-      go (Unfit k) d = ap (silently r n) (lay-nothing 0 room)
+      go : (f : Found) → ((p m : ℕ) → f ≢ Whole p m) → carried record { used = n; reply = answer r (hearAt (r .plain .address) s f) .reply; after = answer r (hearAt (r .plain .address) s f) .after } (lent .room) ≡ silently r n lent
+      go (Noise k) d = ap (λ (x : List ℕ). record { told = record { refusal = 0; used = n; length = 0; room = x }; after = r }) (lay-nothing 0 (lent .room))
+      go (Unfinished k) d = ap (λ (x : List ℕ). record { told = record { refusal = 0; used = n; length = 0; room = x }; after = r }) (lay-nothing 0 (lent .room))
+      go (Unfit k) d = ap (λ (x : List ℕ). record { told = record { refusal = 0; used = n; length = 0; room = x }; after = r }) (lay-nothing 0 (lent .room))
       go (Whole p m) d = absurd (d p m refl)
 
 -- ---- the parts of a whole packet

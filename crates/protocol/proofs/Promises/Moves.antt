@@ -15,7 +15,7 @@ use Rattle.protocol.specs.Commands.{Barred, store, loadChar, downChar, d
 use Rattle.protocol.specs.Data.{acknowledge}
 use Rattle.protocol.specs.Table.{isBuffer, second, rule, apply}
 use Rattle.protocol.specs.Step.{order, hear, carryAs, rested}
-use Rattle.protocol.specs.Call.{Shape, fitRoom, Ended, callOf}
+use Rattle.protocol.specs.Call.{Shape, Lent, fitLent, Ended, callOf}
 use Rattle.protocol.proofs.Laws.Logic.{and-i, passed}
 use Rattle.protocol.proofs.Laws.Lists.{part-zeros}
 use Rattle.protocol.proofs.Laws.Index.{stored-with, stored-span, stored-zeros}
@@ -26,7 +26,7 @@ use Rattle.protocol.proofs.Promises.Told.{Replies, Leaves, Gives, answe
 use Rattle.protocol.proofs.Promises.StaysLegal.{Legal, good, good-rested}
 
 -- a legal reader that is not locked, a fit reply room, and the reader t that it is once an open transfer has ended
-module _ (σ : Shape) (ok : σ .most ≤ 8 * σ .indexed) (r : Reader) (l : Legal σ ok r) (u : locked (r .plain) ≡ false) (s room : List ℕ) (v : T (fitRoom room)) where
+module _ (σ : Shape) (ok : σ .most ≤ 8 * σ .indexed) (r : Reader) (l : Legal σ ok r) (u : locked (r .plain) ≡ false) (s : List ℕ) (lent : Lent) (v : T (fitLent lent)) where
   abbrev t : Reader
   t = rested r
 
@@ -38,14 +38,14 @@ module _ (σ : Shape) (ok : σ .most ≤ 8 * σ .indexed) (r : Reader) (l : Lega
   Asks c = hear (r .plain .address) s ≡ order (command (barred c))
 
   abbrev called : Ended
-  called = callOf σ r s room
+  called = callOf σ r s lent
 
   -- 00h alone
   abbrev pub Done : Type 0
-  Done = Replies (acknowledge (t .plain .address) 0x00 []) s room called
+  Done = Replies (acknowledge (t .plain .address) 0x00 []) s lent called
 
-  carried : (c : Barred) → Asks c → T (passed (rule t c .tests)) → Gives (carryAs t (rule t c) zero .reply) (carryAs t (rule t c) zero .after) s room called
-  carried c h d = answered σ r s room (l .legal) v (carryAs t (rule t c) zero) (obeys r s u c h d)
+  carried : (c : Barred) → Asks c → T (passed (rule t c .tests)) → Gives (carryAs t (rule t c) zero .reply) (carryAs t (rule t c) zero .after) s lent called
+  carried c h d = answered σ r s lent (l .legal) v (carryAs t (rule t c) zero) (obeys r s u c h d)
 
   below : (p : ℕ) → p < pages r → T (ltb p (capacity (t .guarded)))
   unfolding capacity
@@ -59,7 +59,7 @@ module _ (σ : Shape) (ok : σ .most ≤ 8 * σ .indexed) (r : Reader) (l : Lega
     pub buffer1 : called .after .guarded .buffer1 ≡ t .guarded .buffer1
     pub buffer2 : called .after .guarded .buffer2 ≡ t .guarded .buffer2
 
-  quietly : (x y : List ℕ) → Gives (acknowledge (t .plain .address) 0x00 []) (reader (t .plain) (withLibrary x y (t .guarded))) s room called → Quiet
+  quietly : (x y : List ℕ) → Gives (acknowledge (t .plain .address) 0x00 []) (reader (t .plain) (withLibrary x y (t .guarded))) s lent called → Quiet
   unfolding withLibrary
   quietly x y a =
       record {
@@ -102,7 +102,7 @@ module _ (σ : Shape) (ok : σ .most ≤ 8 * σ .indexed) (r : Reader) (l : Lega
   -- ---- LoadChar: the buffer has the page's bytes and its mark; all else stays
 
   pub load-moves : (b p : ℕ) → Asks (loadChar b p) → Numbered b → p < pages r → has r p ≡ true
-      → Leaves (acknowledge (t .plain .address) 0x00 []) (WithBuffer b record { bytes = page r p; filled = true } (t .plain .transfer) t) s room called
+      → Leaves (acknowledge (t .plain .address) 0x00 []) (WithBuffer b record { bytes = page r p; filled = true } (t .plain .transfer) t) s lent called
   unfolding rule apply carryAs follow stored bit filledWith withTransfer
   load-moves b p h i m f =
       let g : Guarded = t .guarded in
@@ -117,7 +117,7 @@ module _ (σ : Shape) (ok : σ .most ≤ 8 * σ .indexed) (r : Reader) (l : Lega
 
   -- ---- DownChar: the buffer is zeroed, its mark clear, and a transfer into it open with no byte got; all else stays
 
-  pub down-awaits : (b : ℕ) → Asks (downChar b) → Numbered b → Leaves (acknowledge (t .plain .address) 0x00 []) (WithBuffer b blank (opened (eqb b 2) 0) t) s room called
+  pub down-awaits : (b : ℕ) → Asks (downChar b) → Numbered b → Leaves (acknowledge (t .plain .address) 0x00 []) (WithBuffer b blank (opened (eqb b 2) 0) t) s lent called
   unfolding rule apply carryAs follow emptied withTransfer
   down-awaits b h i =
       let a = carried (downChar b) h (and-i (isBuffer b) true (numbered b .1 i) tt) in

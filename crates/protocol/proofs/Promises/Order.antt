@@ -17,7 +17,7 @@ use Rattle.protocol.specs.Reader.{Reader, locked}
 use Rattle.protocol.specs.Commands.{Barred, barred, Entry, commands, none, some, rowOf, Order, damaged, unknown, misfit, command, orderAs, orderOf}
 use Rattle.protocol.specs.Table.{rule}
 use Rattle.protocol.specs.Step.{order, hearAs, hearAt, hear, says, carry, obey, heed, rested, answer}
-use Rattle.protocol.specs.Call.{Shape, fitRoom, legal, callOf}
+use Rattle.protocol.specs.Call.{Shape, Lent, fitLent, legal, callOf}
 use Rattle.protocol.proofs.Laws.Finder.{heard-at}
 use Rattle.protocol.proofs.Laws.Answers.{spared}
 use Rattle.protocol.proofs.Promises.Told.{Says, answered}
@@ -28,7 +28,7 @@ pub record Ordered (r : Reader) (s : List ℕ) (p n : ℕ) : Type 0 where
   pub address : addressAt s p ≡ r .plain .address
   pub identifier : identifierAt s p ≡ 1
 
-module _ (σ : Shape) (r : Reader) (s room : List ℕ) (f : T (legal σ r)) (u : T (fitRoom room)) (p n : ℕ) (k : Ordered r s p n) where
+module _ (σ : Shape) (r : Reader) (s : List ℕ) (lent : Lent) (f : T (legal σ r)) (u : T (fitLent lent)) (p n : ℕ) (k : Ordered r s p n) where
   abbrev content : List ℕ
   content = contentAt s p n
 
@@ -38,11 +38,11 @@ module _ (σ : Shape) (r : Reader) (s room : List ℕ) (f : T (legal σ r)) (u :
 
   -- the call is answered a code alone, and changes nothing but an open transfer, which is ended
   abbrev pub Tells : ℕ → Type 0
-  Tells code = Says (rested r) code s room (callOf σ r s room)
+  Tells code = Says (rested r) code s lent (callOf σ r s lent)
 
   said : (o : Order) (code : ℕ) → orderOf (rightAt s p n) content ≡ o → heed (rested r) o ≡ says (rested r) code → Tells code
   unfolding answer says
-  said o code h e = answered σ r s room f u (says (rested r) code) (rw (heard, h, e) refl)
+  said o code h e = answered σ r s lent f u (says (rested r) code) (rw (heard, h, e) refl)
 
   -- the sum is wrong: 01h
   pub damaged-first : rightAt s p n ≡ false → Tells 0x01

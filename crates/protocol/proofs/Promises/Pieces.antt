@@ -10,7 +10,7 @@ use Rattle.protocol.specs.Bytes.{lay}
 use Rattle.protocol.specs.Reader.{Transfer, closed, opened, Plain, Reader, sizeOf, bufferOf, emptied, filledWith, withTransfer, withBuffer, reader}
 use Rattle.protocol.specs.Data.{acknowledge}
 use Rattle.protocol.specs.Step.{piece, hear, silence, says, ended, rested, fits, takeAs, takeIn, answer}
-use Rattle.protocol.specs.Call.{Shape, fitTransfer, fitRoom, legal, callOf}
+use Rattle.protocol.specs.Call.{Shape, Lent, fitTransfer, fitLent, legal, callOf}
 use Rattle.protocol.proofs.Laws.Logic.{T→true, and-l, eqb-same}
 use Rattle.protocol.proofs.Laws.Legal.{fitting, Moving, moving, legal-transfer}
 use Rattle.protocol.proofs.Promises.Told.{Replies, Leaves, Gives, answered, buffer, number, blank, WithBuffer, with-buffer}
@@ -84,7 +84,7 @@ taken r w got content false o f = subst (Taken w got false content r) (sym same)
     go true = with-buffer true _ (opened true (got + length content)) r
     go false = with-buffer false _ (opened false (got + length content)) r
 
-module _ (σ : Shape) (r : Reader) (s room : List ℕ) (f : T (legal σ r)) (u : T (fitRoom room)) (last right : Bool) (content : List ℕ)
+module _ (σ : Shape) (r : Reader) (s : List ℕ) (lent : Lent) (f : T (legal σ r)) (u : T (fitLent lent)) (last right : Bool) (content : List ℕ)
     (h : hear (r .plain .address) s ≡ piece last right content) where
   module _ (w : Bool) (got : ℕ) (e : r .plain .transfer ≡ opened w got) where
     takes : (b : Bool) → fits (r .plain) got last right content ≡ b → answer r (hear (r .plain .address) s) ≡ takeAs r w got content b last
@@ -92,22 +92,22 @@ module _ (σ : Shape) (r : Reader) (s room : List ℕ) (f : T (legal σ r)) (u :
     takes b q = ap (answer r) h ∙ ap (takeIn r last right content) e ∙ ap (λ (x : Bool). takeAs r w got content x last) q
 
     -- a data packet that goes in
-    pub piece-goes-in : GoesIn (r .plain) got last right content → Leaves [] (Taken w got last content r) s room (callOf σ r s room)
+    pub piece-goes-in : GoesIn (r .plain) got last right content → Leaves [] (Taken w got last content r) s lent (callOf σ r s lent)
     unfolding silence takeAs
     piece-goes-in g =
-        let a = answered σ r s room f u (takeAs r w got content true last) (takes true (fits-in (r .plain) got last right content g)) in
+        let a = answered σ r s lent f u (takeAs r w got content true last) (takes true (fits-in (r .plain) got last right content g)) in
         let m : Moving (r .plain) (r .guarded) w got = moving (r .plain) (r .guarded) w got (subst (λ (x : Transfer). T (fitTransfer (r .plain) (r .guarded) x)) e (legal-transfer σ r f)) in
-        record { told = subst (λ (x : List ℕ). Replies x s room (callOf σ r s room)) (quiet last) (a .told); after = subst (Taken w got last content r) (sym (a .after)) (taken r w got content last (g .long) (m .unfilled)) }
+        record { told = subst (λ (x : List ℕ). Replies x s lent (callOf σ r s lent)) (quiet last) (a .told); after = subst (Taken w got last content r) (sym (a .after)) (taken r w got content last (g .long) (m .unfilled)) }
       where
         quiet : (b : Bool) → takeAs r w got content true b .reply ≡ []
         quiet true = refl
         quiet false = refl
 
     -- "Anything else: 0Eh, buffer zeroed, transfer closed."
-    pub piece-fails : (GoesIn (r .plain) got last right content → ⊥) → Leaves (acknowledge (r .plain .address) 0x0e []) (Stopped w r) s room (callOf σ r s room)
+    pub piece-fails : (GoesIn (r .plain) got last right content → ⊥) → Leaves (acknowledge (r .plain .address) 0x0e []) (Stopped w r) s lent (callOf σ r s lent)
     unfolding takeAs says ended withTransfer
     piece-fails d =
-        let a = answered σ r s room f u (takeAs r w got content false last) (takes false (go (fits (r .plain) got last right content) refl)) in
+        let a = answered σ r s lent f u (takeAs r w got content false last) (takes false (go (fits (r .plain) got last right content) refl)) in
         record { told = a .told; after = subst (Stopped w r) (sym (a .after)) (stopped w got r) }
       where
         go : (b : Bool) → fits (r .plain) got last right content ≡ b → fits (r .plain) got last right content ≡ false
@@ -115,6 +115,6 @@ module _ (σ : Shape) (r : Reader) (s room : List ℕ) (f : T (legal σ r)) (u :
         go false q = q
 
   -- "Identifier 2 or 8 without a transfer: silent."
-  pub piece-ignored : r .plain .transfer ≡ closed → Gives [] r s room (callOf σ r s room)
+  pub piece-ignored : r .plain .transfer ≡ closed → Gives [] r s lent (callOf σ r s lent)
   unfolding answer takeIn silence
-  piece-ignored e = answered σ r s room f u (silence r) (ap (answer r) h ∙ ap (takeIn r last right content) e)
+  piece-ignored e = answered σ r s lent f u (silence r) (ap (answer r) h ∙ ap (takeIn r last right content) e)

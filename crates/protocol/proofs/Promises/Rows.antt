@@ -16,7 +16,7 @@ use Rattle.protocol.specs.Commands.{Barred, store, loadChar, upChar, dow
 use Rattle.protocol.specs.Data.{acknowledge}
 use Rattle.protocol.specs.Table.{Row, second, inRange, rule}
 use Rattle.protocol.specs.Step.{order, hear, says, carryAs, rested}
-use Rattle.protocol.specs.Call.{core, fitRoom, legal, Ended, callOf}
+use Rattle.protocol.specs.Call.{core, Lent, fitLent, legal, Ended, callOf}
 use Rattle.protocol.proofs.Laws.Logic.{T→true, and-l, and-r, and-i}
 use Rattle.protocol.proofs.Laws.Lists.{follow-append}
 use Rattle.protocol.proofs.Laws.Lines.{Line, unless, Follows, Matches, follows}
@@ -89,12 +89,12 @@ range k v (inr (inr e)) = rw e (λ t. (λ x. absurd (omega arith), (λ x. absurd
 -- ---- the statement
 
 -- t: the reader once an open transfer has ended
-module _ (r : Reader) (s room : List ℕ) (f : T (legal core r)) (u : T (fitRoom room)) (l : locked (r .plain) ≡ false) where
+module _ (r : Reader) (s : List ℕ) (lent : Lent) (f : T (legal core r)) (u : T (fitLent lent)) (l : locked (r .plain) ≡ false) where
   abbrev t : Reader
   t = rested r
 
   abbrev called : Ended
-  called = callOf core r s room
+  called = callOf core r s lent
 
   -- 16 pages of the notepad, and one of the index
   noted : (p : ℕ) → T (ltb p (length (t .guarded .notepad) / 32)) ↔ (p ≤ 15)
@@ -126,12 +126,12 @@ module _ (r : Reader) (s room : List ℕ) (f : T (legal core r)) (u : T (fitRoom
   pub record Done : Type 0 where
     pub bytes : List ℕ
     pub behind : List ℕ
-    pub told : Replies (acknowledge (called .after .plain .address) 0x00 bytes ++ behind) s room called
+    pub told : Replies (acknowledge (called .after .plain .address) 0x00 bytes ++ behind) s lent called
 
   -- or another code alone, and nothing changes
   abbrev pub Answers : ℕ → Type 0
   Answers zero = Done
-  Answers (suc k) = Says t (suc k) s room called
+  Answers (suc k) = Says t (suc k) s lent called
 
   pub rows : (c : Barred) → hear (r .plain .address) s ≡ order (command (barred c)) → Follows (lines t c) Answers
   unfolding carryAs says
@@ -140,8 +140,8 @@ module _ (r : Reader) (s room : List ℕ) (f : T (legal core r)) (u : T (fitRoom
       go : (k : ℕ) → verdict (rule t c .tests) ≡ k → Answers k
       go zero v =
           let w : Row = rule t c in
-          let g = answered core r s room f u (carryAs t w zero) (row-answer r s l c h zero v) in
+          let g = answered core r s lent f u (carryAs t w zero) (row-answer r s l c h zero v) in
           let same = follow-append (acknowledge (carryAs t w zero .after .plain .address) 0x00 (w .bytes)) (w .behind) in
           let now = ap (λ (x : Reader). acknowledge (x .plain .address) 0x00 (w .bytes) ++ w .behind) (sym (g .after)) in
-          record { bytes = w .bytes; behind = w .behind; told = subst (λ (x : List ℕ). Replies x s room called) (same ∙ now) (g .told) }
-      go (suc k) v = answered core r s room f u (says t (suc k)) (row-answer r s l c h (suc k) v)
+          record { bytes = w .bytes; behind = w .behind; told = subst (λ (x : List ℕ). Replies x s lent called) (same ∙ now) (g .told) }
+      go (suc k) v = answered core r s lent f u (says t (suc k)) (row-answer r s l c h (suc k) v)

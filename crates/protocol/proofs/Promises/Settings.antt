@@ -16,14 +16,14 @@ use Rattle.protocol.specs.Commands.{Barred, setSysPara, readSysPara, set
 use Rattle.protocol.specs.Data.{acknowledge}
 use Rattle.protocol.specs.Table.{inRange, withParameter, statusOf, rule, apply}
 use Rattle.protocol.specs.Step.{order, hear, carryAs, rested}
-use Rattle.protocol.specs.Call.{Shape, fitRoom, legal, callOf}
+use Rattle.protocol.specs.Call.{Shape, Lent, fitLent, legal, callOf}
 use Rattle.protocol.proofs.Laws.Logic.{and-i, passed}
 use Rattle.protocol.proofs.Laws.Lists.{inside-lay}
 use Rattle.protocol.proofs.Laws.Answers.{obeys}
 use Rattle.protocol.proofs.Promises.Told.{Gives, answered, word, pages}
 
 -- p and g: settings and contents of the reader once an open transfer has ended
-module _ (σ : Shape) (r : Reader) (s room : List ℕ) (f : T (legal σ r)) (u : T (fitRoom room)) (l : locked (r .plain) ≡ false) where
+module _ (σ : Shape) (r : Reader) (s : List ℕ) (lent : Lent) (f : T (legal σ r)) (u : T (fitLent lent)) (l : locked (r .plain) ≡ false) where
   abbrev p : Plain
   p = rested r .plain
 
@@ -35,11 +35,11 @@ module _ (σ : Shape) (r : Reader) (s room : List ℕ) (f : T (legal σ r)) (u :
 
   -- the call gave 00h with these bytes, and left these settings and contents
   abbrev Ends : List ℕ → List ℕ → Plain → Guarded → Type 0
-  Ends address bytes q h = Gives (acknowledge address 0x00 bytes) record { plain = q; guarded = h } s room (callOf σ r s room)
+  Ends address bytes q h = Gives (acknowledge address 0x00 bytes) record { plain = q; guarded = h } s lent (callOf σ r s lent)
 
   given : (c : Barred) → Asks c → T (passed (rule (rested r) c .tests))
-      → Gives (carryAs (rested r) (rule (rested r) c) zero .reply) (carryAs (rested r) (rule (rested r) c) zero .after) s room (callOf σ r s room)
-  given c h d = answered σ r s room f u (carryAs (rested r) (rule (rested r) c) zero) (obeys r s l c h d)
+      → Gives (carryAs (rested r) (rule (rested r) c) zero .reply) (carryAs (rested r) (rule (rested r) c) zero .after) s lent (callOf σ r s lent)
+  given c h d = answered σ r s lent f u (carryAs (rested r) (rule (rested r) c) zero) (obeys r s l c h d)
 
   range : (a v b : ℕ) → a ≤ v → v ≤ b → T (within a v b && true)
   unfolding within

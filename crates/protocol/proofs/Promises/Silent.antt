@@ -11,7 +11,7 @@ use Rattle.protocol.specs.Packet.{addressAt, identifierAt}
 use Rattle.protocol.specs.Finder.{findOf}
 use Rattle.protocol.specs.Reader.{Reader}
 use Rattle.protocol.specs.Step.{Heard, nothing, hearAs, hearAt, hear, silence, answer}
-use Rattle.protocol.specs.Call.{Shape, fitRoom, legal, callOf}
+use Rattle.protocol.specs.Call.{Shape, Lent, fitLent, legal, callOf}
 use Rattle.protocol.proofs.Laws.Lists.{same-no}
 use Rattle.protocol.proofs.Promises.Told.{Gives, answered}
 
@@ -19,14 +19,14 @@ either : (b : Bool) → cond {A = Heard} b nothing nothing ≡ nothing
 either true = refl
 either false = refl
 
-module _ (σ : Shape) (r : Reader) (s room : List ℕ) (f : T (legal σ r)) (u : T (fitRoom room)) (p n : ℕ) (w : findOf s ≡ Whole p n) where
+module _ (σ : Shape) (r : Reader) (s : List ℕ) (lent : Lent) (f : T (legal σ r)) (u : T (fitLent lent)) (p n : ℕ) (w : findOf s ≡ Whole p n) where
   -- silent, nothing changes
   abbrev pub Silence : Type 0
-  Silence = Gives [] r s room (callOf σ r s room)
+  Silence = Gives [] r s lent (callOf σ r s lent)
 
   unheard : hear (r .plain .address) s ≡ nothing → Silence
   unfolding answer silence
-  unheard h = answered σ r s room f u (silence r) (rw h refl)
+  unheard h = answered σ r s lent f u (silence r) (rw h refl)
 
   pub others-silent : addressAt s p ≢ r .plain .address → Silence
   unfolding hear hearAt

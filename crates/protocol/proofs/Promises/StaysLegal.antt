@@ -6,15 +6,15 @@ use Prim.Native.Nat.{ℕ, zero, suc, _+_, _*_, _/_, _≤_, _<_}
 use native.Mathlib.Nat.{add-mod-right}
 use native.Mathlib.Omega.{arith}
 use lib.Dec.{T, eqb, leb, eqb→eq, leb→le, ltb→lt}
-use lib.ListN.{length, length-take, length-drop}
+use lib.ListN.{length}
 use Rattle.protocol.specs.Numbers.{pageBytes, noteBytes, highestSize, lowestBaud, highestBaud, lowestLevel, highestLevel, baudParameter, levelParameter}
 use Rattle.protocol.specs.Bytes.{lay}
 use Rattle.protocol.specs.Tests.{within}
 use Rattle.protocol.specs.Reader.{Transfer, closed, opened, unfit, Plain, Buffer, Reader, capacity, sizeOf, keyed, locked, bufferOf, emptied, filledWith, withMark, withTransfer, withPassword, withAddress, withTuning, withBuffer}
 use Rattle.protocol.specs.Commands.{Free, verifyPassword, handShake, Barred, store, loadChar, upChar, downChar, deletChar, empty, setSysPara, readSysPara, setPassword, setAddress, writeNotepad, readNotepad, templeteNum, readIndexTable, free}
-use Rattle.protocol.specs.Table.{second, inRange, withParameter, rule, apply, freeRule, publicOf}
+use Rattle.protocol.specs.Table.{inRange, withParameter, rule, apply, freeRule, publicOf}
 use Rattle.protocol.specs.Step.{Heard, hear, Said, silence, says, carryAs, carryFree, ended, rested, takeAs, answer, stepOf, wiped, switched}
-use Rattle.protocol.specs.Call.{Shape, fitBuffers, fitPlain, fitTransfer, legal, Typed, Ended, refused, carried, callOf, switchRefusal, switchAs, switchOf}
+use Rattle.protocol.specs.Call.{Shape, Lent, fitBuffers, fitPlain, fitTransfer, legal, Typed, Ended, refused, carried, callOf, switchRefusal, switchAs, switchOf}
 use Rattle.protocol.specs.Dialogue.{Event, received, switch, on, finally}
 use Rattle.protocol.proofs.Laws.Logic.{and-l, and-r, and-i, passed}
 use Rattle.protocol.proofs.Laws.Lists.{length-lay}
@@ -162,10 +162,10 @@ module _ (σ : Shape) (ok : σ .most ≤ 8 * σ .indexed) where
   legally : (r : Reader) → Good σ ok r → Legal r
   legally r k = record { typed = k .typed; legal = legal-of σ ok r k }
 
-  call-good : (r : Reader) (s room : List ℕ) → Good σ ok r → Good σ ok (callOf σ r s room .after)
+  call-good : (r : Reader) (s : List ℕ) (lent : Lent) → Good σ ok r → Good σ ok (callOf σ r s lent .after)
   unfolding refused carried stepOf
-  call-good r s room k =
-      call-kinds σ r s room (λ (e : Ended). Good σ ok (e .after)) (λ n. k)
+  call-good r s lent k =
+      call-kinds σ r s lent (λ (e : Ended). Good σ ok (e .after)) (λ n. k)
       (λ t u. answer-good r k (hear (r .plain .address) s) (long-heard (r .plain .address) s))
 
   switch-good : (r : Reader) → Good σ ok r → Good σ ok (switchOf r .after)
@@ -186,7 +186,7 @@ module _ (σ : Shape) (ok : σ .most ≤ 8 * σ .indexed) where
 
   pub stays-legal : (r : Reader) → Legal r → (e : Event) → Legal (on σ r e .after)
   unfolding on
-  stays-legal r l (received s room) = legally (callOf σ r s room .after) (call-good r s room (good r l))
+  stays-legal r l (received s lent) = legally (callOf σ r s lent .after) (call-good r s lent (good r l))
   stays-legal r l switch = legally (switchOf r .after) (switch-good r (good r l))
 
   pub ever-legal : (r : Reader) → Legal r → (es : List Event) → Legal (finally σ r es)

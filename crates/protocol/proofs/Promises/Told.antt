@@ -15,30 +15,30 @@ use Rattle.protocol.specs.Reader.{Transfer, Buffer, Guarded, Reader, buf
 use Rattle.protocol.specs.Data.{acknowledge}
 use Rattle.protocol.specs.Table.{isBuffer, second}
 use Rattle.protocol.specs.Step.{hear, Said, answer, stepOf}
-use Rattle.protocol.specs.Call.{Shape, fitRoom, legal, Ended, carried, callOf}
+use Rattle.protocol.specs.Call.{Shape, Lent, fitLent, legal, Ended, carried, callOf}
 use Rattle.protocol.proofs.Laws.Answers.{call-legal}
 use Rattle.protocol.proofs.Promises.Words.{kept}
 
 -- ---- what every call that is carried out has in common
 
 -- no refusal; the packet's bytes and those before it used; the reply at the front of the room, and its length; the room behind it as it was
-pub record Replies (reply s lent : List ℕ) (e : Ended) : Type 0 where
+pub record Replies (reply s : List ℕ) (lent : Lent) (e : Ended) : Type 0 where
   pub refusal : e .told .refusal ≡ 0
   pub used : (p n : ℕ) → findOf s ≡ Whole p n → e .told .used ≡ p + 9 + n
   pub long : e .told .length ≡ length reply
-  pub room : e .told .room ≡ reply ++ drop (length reply) lent
+  pub room : e .told .room ≡ reply ++ drop (length reply) (lent .room)
 
 -- such a call, and what the reader is that it leaves
-pub record Leaves (reply : List ℕ) (Left : Reader → Type 0) (s lent : List ℕ) (e : Ended) : Type 0 where
+pub record Leaves (reply : List ℕ) (Left : Reader → Type 0) (s : List ℕ) (lent : Lent) (e : Ended) : Type 0 where
   pub told : Replies reply s lent e
   pub after : Left (e .after)
 
 -- it leaves the reader t
-abbrev pub Gives : List ℕ → Reader → List ℕ → List ℕ → Ended → Type 0
+abbrev pub Gives : List ℕ → Reader → List ℕ → Lent → Ended → Type 0
 Gives reply t s lent e = Leaves reply (λ (x : Reader). x ≡ t) s lent e
 
 -- a code alone, from the reader t, which stays as it is
-abbrev pub Says : Reader → ℕ → List ℕ → List ℕ → Ended → Type 0
+abbrev pub Says : Reader → ℕ → List ℕ → Lent → Ended → Type 0
 Says t code s lent e = Gives (acknowledge (t .plain .address) code []) t s lent e
 
 lay-front : (s d : List ℕ) → lay 0 s d ≡ s ++ drop (length s) d
@@ -46,13 +46,13 @@ unfolding lay
 lay-front s d = let e : 0 + length s ≡ length s = omega arith in ap (λ (n : ℕ). s ++ drop n d) e
 
 -- a legal reader with a fit reply room gives its answer to what it heard
-pub answered : (σ : Shape) (r : Reader) (s room : List ℕ) → T (legal σ r) → T (fitRoom room) → (a : Said) → answer r (hear (r .plain .address) s) ≡ a
-    → Gives (a .reply) (a .after) s room (callOf σ r s room)
+pub answered : (σ : Shape) (r : Reader) (s : List ℕ) (lent : Lent) → T (legal σ r) → T (fitLent lent) → (a : Said) → answer r (hear (r .plain .address) s) ≡ a
+    → Gives (a .reply) (a .after) s lent (callOf σ r s lent)
 unfolding carried stepOf usedOf
-answered σ r s room f u a e =
-    rw (call-legal σ r s room f u, e)
+answered σ r s lent f u a e =
+    rw (call-legal σ r s lent f u, e)
     record {
-      told = record { refusal = refl; used = λ p n h. ap usedOf h; long = refl; room = lay-front (a .reply) room };
+      told = record { refusal = refl; used = λ p n h. ap usedOf h; long = refl; room = lay-front (a .reply) (lent .room) };
       after = refl;
     }
 

@@ -20,7 +20,7 @@ use Rattle.protocol.specs.Commands.{barred, upChar, command}
 use Rattle.protocol.specs.Data.{acknowledge, packets, dataPackets}
 use Rattle.protocol.specs.Table.{isBuffer, second, rule, apply}
 use Rattle.protocol.specs.Step.{order, hear, carryAs, rested}
-use Rattle.protocol.specs.Call.{Shape, fitRoom, Ended, callOf}
+use Rattle.protocol.specs.Call.{Shape, Lent, fitLent, Ended, callOf}
 use Rattle.protocol.proofs.Laws.Logic.{and-i}
 use Rattle.protocol.proofs.Laws.Lists.{follow-append, split-joined}
 use Rattle.protocol.proofs.Laws.Finder.{length-packet}
@@ -93,8 +93,8 @@ module _ (a : List ℕ) (h : length a ≡ fourBytes) (n : ℕ) (carries : T (acc
 -- ---- UpChar
 
 -- the reply is 00h and the data packets of the template b in the size in force; they read back as its parts, which joined are b; and nothing changes
-pub record Uploads (r : Reader) (b s room : List ℕ) (e : Ended) : Type 0 where
-  pub told : Replies (acknowledge (r .plain .address) 0x00 [] ++ dataPackets (r .plain .address) (sizeOf (r .plain .size)) b) s room e
+pub record Uploads (r : Reader) (b s : List ℕ) (lent : Lent) (e : Ended) : Type 0 where
+  pub told : Replies (acknowledge (r .plain .address) 0x00 [] ++ dataPackets (r .plain .address) (sizeOf (r .plain .size)) b) s lent e
   pub back :
       readAll (512 / sizeOf (r .plain .size)) (dataPackets (r .plain .address) (sizeOf (r .plain .size)) b)
       ≡ parts (r .plain .address) (512 / sizeOf (r .plain .size)) (sizeOf (r .plain .size)) b
@@ -102,11 +102,11 @@ pub record Uploads (r : Reader) (b s room : List ℕ) (e : Ended) : Type 0 where
   pub after : e .after ≡ r
 
 module _ (σ : Shape) (ok : σ .most ≤ 8 * σ .indexed) where
-  pub upload : (r : Reader) → Legal σ ok r → locked (r .plain) ≡ false → (b : ℕ) → Numbered b → (s room : List ℕ) → T (fitRoom room)
+  pub upload : (r : Reader) → Legal σ ok r → locked (r .plain) ≡ false → (b : ℕ) → Numbered b → (s : List ℕ) (lent : Lent) → T (fitLent lent)
       → hear (r .plain .address) s ≡ order (command (barred (upChar b))) → buffer b (rested r .guarded) .filled ≡ true
-      → Uploads (rested r) (buffer b (rested r .guarded) .bytes) s room (callOf σ r s room)
+      → Uploads (rested r) (buffer b (rested r .guarded) .bytes) s lent (callOf σ r s lent)
   unfolding carryAs rule apply dataPackets
-  upload r l u b i s room v h m =
+  upload r l u b i s lent v h m =
       let t : Reader = rested r in
       let k : Good σ ok t = good-rested σ ok r (good σ ok r l) in
       let a : List ℕ = t .plain .address in
@@ -119,12 +119,12 @@ module _ (σ : Shape) (ok : σ .most ≤ 8 * σ .indexed) where
       let same : c ≡ buffer b (t .guarded) = buffer-is b i (t .guarded) in
       let f : T (c .filled) = rw (same, m) tt in
       let g =
-      answered σ r s room (l .legal) v (carryAs t (rule t (upChar b)) zero)
+      answered σ r s lent (l .legal) v (carryAs t (rule t (upChar b)) zero)
       (obeys r s u (upChar b) h (and-i (isBuffer b) (c .filled && true) (numbered b .1 i) (and-i (c .filled) true f tt)))
       in
-      subst (λ (x : Buffer). Uploads t (x .bytes) s room (callOf σ r s room)) same
+      subst (λ (x : Buffer). Uploads t (x .bytes) s lent (callOf σ r s lent)) same
       record {
-        told = subst (λ (x : List ℕ). Replies x s room (callOf σ r s room)) (follow-append (acknowledge a 0x00 []) sent) (g .told);
+        told = subst (λ (x : List ℕ). Replies x s lent (callOf σ r s lent)) (follow-append (acknowledge a 0x00 []) sent) (g .told);
         back = back;
         whole =
             ap (λ (x : List Read). joined (map (λ (y : Read). y .content) x)) back ∙ ap joined (parts-split a (512 / n) n (c .bytes))

@@ -14,7 +14,7 @@ use Rattle.protocol.specs.Reader.{Reader, locked}
 use Rattle.protocol.specs.Commands.{templeteNum, barred, command}
 use Rattle.protocol.specs.Data.{acknowledge}
 use Rattle.protocol.specs.Step.{order, hear, rested}
-use Rattle.protocol.specs.Call.{Shape, fitRoom, legal, callOf}
+use Rattle.protocol.specs.Call.{Shape, Lent, fitLent, legal, callOf}
 use Rattle.protocol.specs.Dialogue.{Event, finally, exchanges, Act, history, live}
 use Rattle.protocol.proofs.Laws.Index.{Fine, stored-with, stored-span, stored-zeros, fine-with, fine-span, fine-zeros}
 use Rattle.protocol.proofs.Laws.Count.{count-ext}
@@ -67,10 +67,10 @@ module _ (σ : Shape) (ok : σ .most ≤ 8 * σ .indexed) where
       ap (λ (n : ℕ). countBelow (stored x) (8 * n)) (k .fine .long) ∙ count-ext (stored x) (live (history (exchanges σ r es) [])) (8 * σ .indexed) (λ q l. k .pages q)
 
   -- and TempleteNum answers them, at any time that the reader is not locked
-  pub count-told : (r : Reader) → Legal σ ok r → r .guarded .index ≡ zeros (σ .indexed) → (es : List Event) (s room : List ℕ) → T (fitRoom room)
+  pub count-told : (r : Reader) → Legal σ ok r → r .guarded .index ≡ zeros (σ .indexed) → (es : List Event) (s : List ℕ) (lent : Lent) → T (fitLent lent)
       → locked (finally σ r es .plain) ≡ false → hear (finally σ r es .plain .address) s ≡ order (command (barred templeteNum))
-      → Gives (acknowledge (finally σ r es .plain .address) 0x00 (word (livePages r es))) (rested (finally σ r es)) s room (callOf σ (finally σ r es) s room)
-  count-told r f z es s room u l h =
+      → Gives (acknowledge (finally σ r es .plain .address) 0x00 (word (livePages r es))) (rested (finally σ r es)) s lent (callOf σ (finally σ r es) s lent)
+  count-told r f z es s lent u l h =
       let t : Reader = finally σ r es in
       let same = ap₂ (λ (a : List ℕ) (n : ℕ). acknowledge a 0x00 (word n)) (spared t .address) (ap setBits (spared t .index) ∙ valid-count r z es) in
-      subst (λ (x : List ℕ). Gives x (rested t) s room (callOf σ t s room)) same (tells-number σ t s room (ever-legal σ ok r f es .legal) u l h)
+      subst (λ (x : List ℕ). Gives x (rested t) s lent (callOf σ t s lent)) same (tells-number σ t s lent (ever-legal σ ok r f es .legal) u l h)
