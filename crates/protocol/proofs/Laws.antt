@@ -10,4 +10,5 @@ pub mod Commands
 pub mod Answers
 pub mod Legal
 pub mod Locked
+pub mod History
 pub mod Sizes

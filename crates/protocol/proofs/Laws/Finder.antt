@@ -74,6 +74,26 @@ start-first (b ∷ s) = go (marksAt (b ∷ s) 0) refl (startOf s) (start-first s
         at zero l = e
         at (suc q) l = h .1 q (le-of-suc-le-suc l)
 
+-- and there is no other first start
+pub start-nowhere : (s : List ℕ) → ((q : ℕ) → marksAt s q ≡ false) → startOf s ≡ Nowhere
+start-nowhere s h = go (startOf s) (start-first s)
+  where
+    go : (r : Start) → FirstStart s r → r ≡ Nowhere
+    go Nowhere f = refl
+    go (At p) f = absurd (true≢false (sym (f .0) ∙ h p))
+
+pub start-at : (s : List ℕ) (p : ℕ) → marksAt s p ≡ true → ((q : ℕ) → q < p → marksAt s q ≡ false) → startOf s ≡ At p
+start-at s p m h = go (startOf s) (start-first s)
+  where
+    go : (r : Start) → FirstStart s r → r ≡ At p
+    go Nowhere f = absurd (true≢false (sym m ∙ f p))
+    go (At q) f = either (decLt q p) (decLt p q)
+      where
+        either : Dec (q < p) → Dec (p < q) → At q ≡ At p
+        either (yes l) d = absurd (true≢false (sym (f .0) ∙ h q l))
+        either (no k) (yes l) = absurd (true≢false (sym m ∙ f .1 p l))
+        either (no k) (no l) = let e : q ≡ p = omega arith in ap At e
+
 -- both marks lie in the run
 pub marks-in : (s : List ℕ) (p : ℕ) → marksAt s p ≡ true → suc p < length s
 unfolding marksAt

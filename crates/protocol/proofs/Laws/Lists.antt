@@ -1,15 +1,16 @@
 -- Lists of bytes: comparison, parts, one list laid over another, split and joined.
-use mathlib.Core.Bool.{true}
+use mathlib.Core.Bool.{Bool, true, false}
 use mathlib.Core.Path.{_≡_, refl, sym, ap, ap₂, _∙_}
-use mathlib.Core.List.{List, [], _∷_, _++_, append-assoc, append-nil}
+use mathlib.Core.Logic.{_≢_}
+use mathlib.Core.List.{List, [], _∷_, _++_, foldr, append-assoc, append-nil}
 use Prim.Native.Nat.{ℕ, zero, suc, _+_, _-_, _*_, _/_, _%_, _≤_, _<_}
 use native.Mathlib.Nat.{suc-mul, add-zero, add-assoc}
 use native.Mathlib.Numerals.{add-one}
 use native.Mathlib.Omega.{arith}
 use lib.Dec.{eqb, eqb→eq}
-use lib.ListN.{length, take, drop, length-append, length-take, length-drop, take-append-drop, drop-of-length-le, getD, set}
-use lib.Seq.{take-at, take-append-le, take-append-seam, drop-append-seam, drop-append-le, drop-append-add, drop-drop, length-take-le, take-suc, drop-cons, set-at}
-use Rattle.protocol.specs.Bytes.{part, zeros, same, lay, follow, joined, split}
+use lib.ListN.{length, take, drop, length-append, length-take, length-drop, take-append-drop, drop-of-length-le, List·getD-append, getD, set}
+use lib.Seq.{take-at, take-append-le, take-append-seam, drop-append-seam, drop-append-le, drop-append-add, drop-drop, length-take-le, take-suc, drop-cons, set-at, getD-take, getD-drop, getD-append-add}
+use Rattle.protocol.specs.Bytes.{part, zeros, total, same, lay, follow, joined, split}
 use Rattle.protocol.proofs.Laws.Logic.{T→true, and-l, and-r, eqb-same}
 
 -- ---- comparison
@@ -28,10 +29,24 @@ same-eq (x ∷ s) (y ∷ t) e =
     ap₂ (λ (n : ℕ) (u : List ℕ). n ∷ u) (eqb→eq x y (and-l (eqb x y) (same s t) (rw e tt)))
     (same-eq s t (T→true (same s t) (and-r (eqb x y) (same s t) (rw e tt))))
 
+pub same-no : (s t : List ℕ) → s ≢ t → same s t ≡ false
+same-no s t d = go (same s t) refl
+  where
+    go : (b : Bool) → same s t ≡ b → b ≡ false
+    go true e = absurd (d (same-eq s t e))
+    go false e = refl
+
 pub same-front : (s t u : List ℕ) → same (s ++ t) (s ++ u) ≡ same t u
 unfolding same
 same-front [] t u = refl
 same-front (x ∷ s) t u = rw (eqb-same x) (same-front s t u)
+
+-- ---- all bytes added
+
+pub total-added : (s : List ℕ) → total s ≡ foldr _+_ 0 s
+unfolding total
+total-added [] = refl
+total-added (b ∷ s) = ap (λ (n : ℕ). b + n) (total-added s)
 
 -- ---- one behind the other
 
@@ -103,6 +118,29 @@ module _ (i : ℕ) (s d : List ℕ) (h : i + length s ≤ length d) where
       ∙ ap (take n) (drop-append-add (take i d ++ s) (drop (i + length s) d) k)
       ∙ ap (take n) (drop-drop k (i + length s) d)
       ∙ ap (λ (m : ℕ). part m n d) f
+
+  -- place by place
+  pub at-before : (j : ℕ) → j < i → getD (lay i s d) j 0 ≡ getD d j 0
+  unfolding lay
+  at-before j l =
+      let long : length (take i d) ≡ i = length-take-le i d (omega arith) in
+      List·getD-append (take i d) (s ++ drop (i + length s) d) 0 j (omega arith) ∙ getD-take i d j 0 l
+
+  pub at-inside : (j : ℕ) → j < length s → getD (lay i s d) (i + j) 0 ≡ getD s j 0
+  unfolding lay
+  at-inside j l =
+      let e : i + j ≡ length (take i d) + j = omega (arith, length-take-le i d (omega arith)) in
+      ap (λ (k : ℕ). getD (take i d ++ (s ++ drop (i + length s) d)) k 0) e ∙ getD-append-add (take i d) (s ++ drop (i + length s) d) j 0
+      ∙ List·getD-append s (drop (i + length s) d) 0 j l
+
+  pub at-behind : (j : ℕ) → i + length s ≤ j → getD (lay i s d) j 0 ≡ getD d j 0
+  unfolding lay
+  at-behind j l =
+      let k : ℕ = j - (i + length s) in
+      let e : j ≡ length (take i d) + (length s + k) = omega (arith, length-take-le i d (omega arith)) in
+      let f : i + length s + k ≡ j = omega arith in
+      ap (λ (m : ℕ). getD (take i d ++ (s ++ drop (i + length s) d)) m 0) e ∙ getD-append-add (take i d) (s ++ drop (i + length s) d) (length s + k) 0
+      ∙ getD-append-add s (drop (i + length s) d) k 0 ∙ getD-drop (i + length s) d k 0 ∙ ap (λ (m : ℕ). getD d m 0) f
 
 pub last-lay : (i : ℕ) (s d : List ℕ) → i + length s ≡ length d → lay i s d ≡ take i d ++ s
 unfolding lay

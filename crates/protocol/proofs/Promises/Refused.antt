@@ -2,7 +2,7 @@
 -- Document 01's "Numbers a caller gets back", each as a table of lines: the first that does not hold gives its number, and where all hold the
 -- call is carried out.
 use mathlib.Core.Bool.{Bool, true, false}
-use mathlib.Core.Path.{_≡_, refl, _∙_}
+use mathlib.Core.Path.{_≡_, refl}
 use mathlib.Core.Logic.{_⊎_, inl, inr, _↔_}
 use mathlib.Core.List.{List, [], _∷_}
 use Prim.Native.Nat.{ℕ, zero, suc, _+_, _≤_}
@@ -13,7 +13,7 @@ use lib.ListN.{length, drop}
 use Rattle.protocol.specs.Numbers.{longest}
 use Rattle.protocol.specs.Packet.{lengthOf, packet, isIdentifier, accepts, Made, buildRefusal, buildAs, buildOf}
 use Rattle.protocol.specs.Reader.{Reader}
-use Rattle.protocol.specs.Call.{core, fitLengths, fitBuffers, fitRoom, sound, Ended, refusalOf, refused, carried, callAs, callOf, switchRefusal, switchAs, switchOf}
+use Rattle.protocol.specs.Call.{core, Lent, fitLent, fitLengths, fitBuffers, fitRoom, sound, Ended, refusalOf, refused, carried, callAs, callOf, switchRefusal, switchAs, switchOf}
 use Rattle.protocol.proofs.Laws.Logic.{and-l, and-r}
 use Rattle.protocol.proofs.Laws.Lines.{Line, unless, Follows, follows}
 use Rattle.protocol.proofs.Laws.Lists.{drop-lay}
@@ -36,30 +36,30 @@ Ends r lent e zero = e .told .refusal ≡ 0
 Ends r lent e (suc n) = Unused lent e (suc n) × (e .after ≡ r)
 
 -- "1: a lent length, the reply room's apart"; "2: reply room below 700"; "3: a setting or transfer is not legal, or an index bit at or above C is set"
-abbrev pub call-lines : Reader → List ℕ → List Line
-call-lines r room = unless (Lengths (r .guarded)) 1 ∷ unless (700 ≤ length room) 2 ∷ unless (Settled r) 3 ∷ []
+abbrev pub call-lines : Reader → Lent → List Line
+call-lines r lent = unless (Lengths (r .guarded)) 1 ∷ unless (700 ≤ length (lent .room)) 2 ∷ unless (Settled r) 3 ∷ []
 
-module _ (r : Reader) (s room : List ℕ) where
-  called : (n : ℕ) → Ends r room (callAs r s room n) n
+module _ (r : Reader) (s : List ℕ) (lent : Lent) where
+  called : (n : ℕ) → Ends r (lent .room) (callAs r s lent n) n
   unfolding callAs carried refused
   called zero = refl
   called (suc n) = (record { refusal = refl; used = refl; length = refl; room = refl }, refl)
 
-  fit-room : T (fitRoom room) ↔ (700 ≤ length room)
+  fit-room : T (fitLent lent) ↔ (700 ≤ length (lent .room))
   unfolding fitRoom
-  fit-room = (leb→le 700 (length room), le→leb 700 (length room))
+  fit-room = (leb→le 700 (length (lent .room)), le→leb 700 (length (lent .room)))
 
-  pub call-refusals : Follows (call-lines r room) (Ends r room (callOf core r s room))
+  pub call-refusals : Follows (call-lines r lent) (Ends r (lent .room) (callOf core r s lent))
   unfolding callOf refusalOf
   call-refusals =
-      follows ((fitLengths core (r .guarded), 1) ∷ (fitRoom room, 2) ∷ (sound r, 3) ∷ []) (call-lines r room) (Ends r room (callOf core r s room))
-      (lengths-mean (r .guarded), (refl, λ m. (fit-room, (refl, λ u. (settings-mean r m, (refl, λ k. tt)))))) (called (refusalOf core r room))
+      follows ((fitLengths core (r .guarded), 1) ∷ (fitLent lent, 2) ∷ (sound r, 3) ∷ []) (call-lines r lent) (Ends r (lent .room) (callOf core r s lent))
+      (lengths-mean (r .guarded), (refl, λ m. (fit-room, (refl, λ u. (settings-mean r m, (refl, λ k. tt)))))) (called (refusalOf core r lent))
 
   -- and a call that is not refused had a legal reader and a reply room of at least 700 bytes
-  pub refuses-only : callOf core r s room .told .refusal ≡ 0 → Means r × (700 ≤ length room)
+  pub refuses-only : callOf core r s lent .told .refusal ≡ 0 → Means r × (700 ≤ length (lent .room))
   unfolding refused
   refuses-only =
-      call-kinds core r s room (λ (e : Ended). e .told .refusal ≡ 0 → Means r × (700 ≤ length room)) (λ n e. absurd (omega arith))
+      call-kinds core r s lent (λ (e : Ended). e .told .refusal ≡ 0 → Means r × (700 ≤ length (lent .room))) (λ n e. absurd (omega arith))
       (λ t u e. (legal-means r t, fit-room .0 u))
 
 -- ---- the line switch

@@ -1,0 +1,98 @@
+-- Document 01, "Commands": "The length field is fixed by the command code; any other length is 01h. Order: unknown code 19h; wrong length 01h".
+-- The sixteen codes and their length fields, at the level of a call: the run has a whole packet at p with identifier 1 for the reader, its sum
+-- right, n its length field. What follows where the length is the code's own is in Parameters.
+use mathlib.Core.Bool.{true}
+use mathlib.Core.Path.{_≡_, refl, sym, ap, _∙_}
+use mathlib.Core.Logic.{_≢_}
+use mathlib.Core.List.{List, [], _∷_, map}
+use Prim.Native.Nat.{ℕ, _+_, _-_}
+use native.Mathlib.Omega.{arith}
+use lib.Dec.{T}
+use borrow.Author.Tests.{ne-eqb}
+use lib.ListN.{getD, drop}
+use lib.Seq.{getD-take, getD-drop}
+use Rattle.protocol.specs.Packet.{contentAt, rightAt}
+use Rattle.protocol.specs.Reader.{Reader}
+use Rattle.protocol.specs.Commands.{Entry, commands, Known, none, some, rowOf}
+use Rattle.protocol.specs.Step.{rested}
+use Rattle.protocol.specs.Call.{Shape, Lent, fitLent, legal, callOf}
+use Rattle.protocol.proofs.Promises.Told.{Says}
+use Rattle.protocol.proofs.Promises.Finding.{WholeAt, whole-at, content-long}
+use Rattle.protocol.proofs.Promises.Order.{Ordered, unknown-next, misfit-next}
+
+-- the sixteen codes, each with its length field
+abbrev pub table : List (ℕ × ℕ)
+table =
+    (0x06, 6)
+    ∷ (0x07, 6)
+    ∷ (0x08, 4)
+    ∷ (0x09, 4)
+    ∷ (0x0c, 7)
+    ∷ (0x0d, 3)
+    ∷ (0x0e, 5)
+    ∷ (0x0f, 3)
+    ∷ (0x12, 7)
+    ∷ (0x13, 7)
+    ∷ (0x15, 7)
+    ∷ (0x18, 36)
+    ∷ (0x19, 4)
+    ∷ (0x1d, 3)
+    ∷ (0x1f, 4)
+    ∷ (0x40, 3)
+    ∷ []
+
+-- the code k is none of them
+abbrev pub Absent : ℕ → List (ℕ × ℕ) → Type 0
+Absent k [] = Unit {0}
+Absent k (c ∷ cs) = (k ≢ c .0) × Absent k cs
+
+-- so it is with each of them
+abbrev pub Each : (ℕ → ℕ → Type 0) → List (ℕ × ℕ) → Type 0
+Each P [] = Unit {0}
+Each P (c ∷ cs) = P (c .0) (c .1) × Each P cs
+
+-- ---- the definition's rows
+
+rows : map (λ (e : Entry). (e .code, e .len)) commands ≡ table
+unfolding commands
+rows = refl
+
+no-row : (es : List Entry) (k : ℕ) → Absent k (map (λ (e : Entry). (e .code, e .len)) es) → rowOf es k ≡ none
+unfolding rowOf
+no-row [] k h = refl
+no-row (e ∷ es) k h = rw (ne-eqb k (e .code) (h .0)) (no-row es k (h .1))
+
+abbrev Has : ℕ → Known → Type 0
+Has n none = ⊥
+Has n (some e) = e .len ≡ n
+
+module _ (σ : Shape) (r : Reader) (s : List ℕ) (lent : Lent) (f : T (legal σ r)) (u : T (fitLent lent)) (p n : ℕ) (o : Ordered r s p n) (right : rightAt s p n ≡ true) where
+  whole : WholeAt s p n
+  whole = whole-at s p n (o .found)
+
+  -- the code is the first byte of the content
+  code-at : getD (contentAt s p n) 0 0 ≡ getD s (p + 9) 0
+  code-at =
+      let e : p + 9 + 0 ≡ p + 9 = omega arith in
+      getD-take (n - 2) (drop (p + 9) s) 0 0 (omega (arith, whole .accepted .least)) ∙ getD-drop (p + 9) s 0 0 ∙ ap (λ (i : ℕ). getD s i 0) e
+
+  -- every other code is unknown: 19h
+  pub unknown-code : Absent (getD s (p + 9) 0) table → Says (rested r) 0x19 s lent (callOf σ r s lent)
+  unknown-code h = unknown-next σ r s lent f u p n o right (ap (rowOf commands) code-at ∙ no-row commands (getD s (p + 9) 0) (rw rows h))
+
+  -- any other length than the code's own: 01h
+  abbrev Fixed : ℕ → ℕ → Type 0
+  Fixed k m = getD s (p + 9) 0 ≡ k → n ≢ m → Says (rested r) 0x01 s lent (callOf σ r s lent)
+
+  fixed : (k m : ℕ) → Has m (rowOf commands k) → Fixed k m
+  fixed k m h e d = go (rowOf commands k) refl h
+    where
+      go : (x : Known) → rowOf commands k ≡ x → Has m x → Says (rested r) 0x01 s lent (callOf σ r s lent)
+      go none q z = absurd z
+      go (some y) q z =
+          misfit-next σ r s lent f u p n o right y (ap (rowOf commands) (code-at ∙ e) ∙ q) (λ c. d (sym (content-long s p n whole) ∙ sym c ∙ z))
+
+  pub length-fixed : Each Fixed table
+  unfolding commands rowOf
+  length-fixed =
+      (fixed 0x06 6 refl, (fixed 0x07 6 refl, (fixed 0x08 4 refl, (fixed 0x09 4 refl, (fixed 0x0c 7 refl, (fixed 0x0d 3 refl, (fixed 0x0e 5 refl, (fixed 0x0f 3 refl, (fixed 0x12 7 refl, (fixed 0x13 7 refl, (fixed 0x15 7 refl, (fixed 0x18 36 refl, (fixed 0x19 4 refl, (fixed 0x1d 3 refl, (fixed 0x1f 4 refl, (fixed 0x40 3 refl, tt))))))))))))))))

@@ -1,0 +1,42 @@
+-- How the code's records and the lent memory are read: which field and which list is which part of the reader, of what a call, a line switch
+-- and the builder tell, and of what they leave.
+use mathlib.Core.Path.{_≡_, refl}
+use mathlib.Core.List.{List, []}
+use Prim.Native.Nat.{ℕ}
+use Rattle.protocol.specs.declared.Settings.{Settings}
+use Rattle.protocol.specs.declared.Called.{Called}
+use Rattle.protocol.specs.declared.Switched.{Switched}
+use Rattle.protocol.specs.declared.Built.{Built}
+use Rattle.protocol.specs.Records.{transferOf, readerOf, endedOf, switchedOf, madeOf}
+
+-- settings; templates, index, notepad, buffers 1 and 2. `transferOf` is in Words
+pub reader-is : (s : Settings) (t i n b d : List ℕ) → readerOf s t i n b d
+    ≡ record {
+      plain =
+          record {
+            password = s .password;
+            address = s .address;
+            level = s .level;
+            size = s .size;
+            baud = s .baud;
+            sensor = s .sensor;
+            verified = s .verified;
+            transfer = transferOf (s .transfer) (s .got);
+          };
+      guarded = record { templates = t; index = i; notepad = n; buffer1 = record { bytes = b; filled = s .filled1 }; buffer2 = record { bytes = d; filled = s .filled2 } };
+    }
+reader-is s t i n b d = refl
+
+-- a call: what it returned, and the lent memory and the reply room after it
+pub call-is : (c : Called) (t i n b d room : List ℕ) → endedOf c t i n b d room
+    ≡ record { told = record { refusal = c .refusal; used = c .used; length = c .length; room = room }; after = readerOf (c .settings) t i n b d }
+call-is c t i n b d room = refl
+
+-- a line switch: no bytes used, no reply, no reply room
+pub switch-is : (c : Switched) (t i n b d : List ℕ) → switchedOf c t i n b d
+    ≡ record { told = record { refusal = c .refusal; used = 0; length = 0; room = [] }; after = readerOf (c .settings) t i n b d }
+switch-is c t i n b d = refl
+
+-- the builder
+pub build-is : (m : Built) (room : List ℕ) → madeOf m room ≡ record { refusal = m .refusal; length = m .length; room = room }
+build-is m room = refl

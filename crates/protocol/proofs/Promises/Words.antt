@@ -1,0 +1,211 @@
+-- What the words of the other promises mean: each in document 01's own numbers, and in its order.
+use mathlib.Core.Bool.{Bool, true, false, _||_, not}
+use mathlib.Core.Path.{_≡_, refl}
+use mathlib.Core.Logic.{_⊎_, inl, inr, _≢_, _↔_}
+use mathlib.Core.List.{List, [], _∷_, foldr}
+use Prim.Native.Nat.{ℕ, zero, suc, _+_, _*_, _/_, _%_, _^_, _≤_, _<_}
+use native.Mathlib.Omega.{arith}
+use lib.Dec.{T, eqb, T-not, not-T}
+use borrow.Author.Tests.{eqb-true, eq-eqb}
+use lib.ListN.{length, getD, take, drop, replicate}
+use Rattle.protocol.specs.Numbers.{pageBytes, noteBytes, indexBytes, replyRoom, fourBytes, lowestLevel, highestLevel, lowestBaud, highestBaud, highestSize, baudParameter, levelParameter, sizeParameter, verifiedStatus, firstMark, secondMark, headBytes, frameBytes, commandPacket, dataPacket, acknowledgePacket, lastPacket, shortest, longest, done, badPacket, badPage, nothingThere, nothingToSend, transferFailed, badRange, wrongPassword, unknownCommand, badParameter, badValue, badNotePage, passwordFirst, badLength, badRoom, badSetting, badContent, noCount}
+use Rattle.protocol.specs.Bytes.{two, four, same, lay}
+use Rattle.protocol.specs.Index.{bit, stored, setBits}
+use Rattle.protocol.specs.Reader.{closed, opened, unfit, Plain, Guarded, Reader, capacity, sizeOf, keyed, locked, bufferOf, emptied, filledWith, fresh, zeroed}
+use Rattle.protocol.specs.Table.{isBuffer, second, statusOf}
+use Rattle.protocol.specs.Call.{core, Told, replyOf}
+use Rattle.protocol.specs.Records.{transferOf, freshOf}
+use Rattle.protocol.proofs.Laws.Logic.{T→true, T→false, and-l, and-r, and-i}
+use Rattle.protocol.proofs.Laws.Lists.{same-refl, same-eq, length-lay, at-before, at-inside, at-behind}
+use Rattle.protocol.proofs.Laws.Count.{set-ones}
+use Rattle.protocol.proofs.Laws.Effects.{page}
+
+-- ---- the numbers, by name
+
+pub record Numbers : Type 0 where
+  pub memory : (pageBytes ∷ noteBytes ∷ indexBytes ∷ replyRoom ∷ fourBytes ∷ []) ≡ (512 ∷ 32 ∷ 32 ∷ 700 ∷ 4 ∷ [])
+  -- level 1 to 5, baud factor 1 to 12, size code up to 2
+  pub ranges : (lowestLevel ∷ highestLevel ∷ lowestBaud ∷ highestBaud ∷ highestSize ∷ []) ≡ (1 ∷ 5 ∷ 1 ∷ 12 ∷ 2 ∷ [])
+  pub parameters : (baudParameter ∷ levelParameter ∷ sizeParameter ∷ verifiedStatus ∷ []) ≡ (4 ∷ 5 ∷ 6 ∷ 4 ∷ [])
+  pub refusals : (badLength ∷ badRoom ∷ badSetting ∷ badContent ∷ noCount ∷ []) ≡ (1 ∷ 2 ∷ 3 ∷ 4 ∷ 0xffff ∷ [])
+  pub packets : (firstMark ∷ secondMark ∷ headBytes ∷ frameBytes ∷ shortest ∷ longest ∷ []) ≡ (0xef ∷ 0x01 ∷ 9 ∷ 11 ∷ 3 ∷ 256 ∷ [])
+  pub identifiers : (commandPacket ∷ dataPacket ∷ acknowledgePacket ∷ lastPacket ∷ []) ≡ (1 ∷ 2 ∷ 7 ∷ 8 ∷ [])
+  pub codes :
+      (done ∷ badPacket ∷ badPage ∷ nothingThere ∷ nothingToSend ∷ transferFailed ∷ badRange ∷ wrongPassword ∷ unknownCommand ∷ badParameter ∷ badValue ∷ badNotePage ∷ passwordFirst ∷ [])
+      ≡ (0x00 ∷ 0x01 ∷ 0x0b ∷ 0x0c ∷ 0x0d ∷ 0x0e ∷ 0x10 ∷ 0x13 ∷ 0x19 ∷ 0x1a ∷ 0x1b ∷ 0x1c ∷ 0x21 ∷ [])
+
+pub numbers : Numbers
+unfolding highestSize longest
+numbers = record { memory = refl; ranges = refl; parameters = refl; refusals = refl; packets = refl; identifiers = refl; codes = refl }
+
+-- ---- lent memory
+
+pub record Memory : Type 0 where
+  -- C is read off the templates' length; page p is the 512 bytes that start at 512 × p
+  pub pages : (g : Guarded) → capacity g ≡ length (g .templates) / 512
+  pub page-bytes : (r : Reader) (p : ℕ) → page r p ≡ take 512 (drop (512 * p) (r .guarded .templates))
+  -- page p is the bit of weight 2^(p mod 8) in byte p / 8; 1 means stored
+  pub bit-stored : (x : List ℕ) (p : ℕ) → (stored x p ≡ true) ↔ (getD x (p / 8) 0 / 2 ^ (p % 8) % 2 ≡ 1)
+  -- the number of set bits: those of weight 1, 2, 4, ... 128 in every byte
+  pub bits-set : (x : List ℕ) → setBits x ≡ foldr (λ b n. b % 2 + b / 2 % 2 + b / 4 % 2 + b / 8 % 2 + b / 16 % 2 + b / 32 % 2 + b / 64 % 2 + b / 128 % 2 + n) 0 x
+  -- a buffer zeroed, its filled mark clear; and one with these bytes and its mark
+  pub emptied-is : emptied ≡ record { bytes = replicate 512 0; filled = false }
+  pub filled-is : (b : List ℕ) → filledWith b ≡ record { bytes = b; filled = true }
+  -- C from 1 to 256, index 32 bytes, notepad 512
+  pub core-is : core ≡ record { least = 1; most = 256; indexed = 32; noted = 512 }
+  -- zeroed memory of c pages
+  pub zeroed-is : (c i n : ℕ) → zeroed c i n
+      ≡ record {
+        templates = replicate (512 * c) 0;
+        index = replicate i 0;
+        notepad = replicate n 0;
+        buffer1 = record { bytes = replicate 512 0; filled = false };
+        buffer2 = record { bytes = replicate 512 0; filled = false };
+      }
+
+pub memory : Memory
+unfolding capacity stored bit emptied filledWith core zeroed
+memory =
+    record {
+      pages = λ g. refl;
+      page-bytes = λ r p. refl;
+      bit-stored = λ x p. (eqb-true (getD x (p / 8) 0 / 2 ^ (p % 8) % 2) 1, eq-eqb (getD x (p / 8) 0 / 2 ^ (p % 8) % 2) 1);
+      bits-set = set-ones;
+      emptied-is = refl;
+      filled-is = λ b. refl;
+      core-is = refl;
+      zeroed-is = λ c i n. refl;
+    }
+
+-- ---- settings
+
+pub record Kept : Type 0 where
+  -- fresh: password 0, address FFFFFFFFh, level 3, size code 1, baud factor 6, type 0, marks clear, no transfer
+  pub fresh-is : (t i n b d : List ℕ) → freshOf t i n b d
+      ≡ record {
+        plain =
+            record {
+              password = 0 ∷ 0 ∷ 0 ∷ 0 ∷ [];
+              address = 0xff ∷ 0xff ∷ 0xff ∷ 0xff ∷ [];
+              level = 3;
+              size = 1;
+              baud = 6;
+              sensor = 0;
+              verified = false;
+              transfer = closed;
+            };
+        guarded = record { templates = t; index = i; notepad = n; buffer1 = record { bytes = b; filled = false }; buffer2 = record { bytes = d; filled = false } };
+      }
+  -- size codes 0, 1, 2 mean 32, 64, 128 data bytes
+  pub sizes : (sizeOf 0 ∷ sizeOf 1 ∷ sizeOf 2 ∷ []) ≡ (32 ∷ 64 ∷ 128 ∷ [])
+  -- locked: password not zero and verified mark clear
+  pub keyed-means : (p : Plain) → T (keyed p) ↔ (p .password ≢ 0 ∷ 0 ∷ 0 ∷ 0 ∷ [])
+  pub locked-means : (p : Plain) → T (locked p) ↔ ((p .password ≢ 0 ∷ 0 ∷ 0 ∷ 0 ∷ []) × (p .verified ≡ false))
+  -- the status word is 4 if the verified mark is set, otherwise 0
+  pub status-set : (p : Plain) → p .verified ≡ true → statusOf p ≡ 4
+  pub status-clear : (p : Plain) → p .verified ≡ false → statusOf p ≡ 0
+  -- buffer 1 or 2, by number
+  pub buffer-means : (b : ℕ) → T (isBuffer b) ↔ ((b ≡ 1) ⊎ (b ≡ 2))
+  pub buffer-one : (g : Guarded) → bufferOf (second 1) g ≡ g .buffer1
+  pub buffer-two : (g : Guarded) → bufferOf (second 2) g ≡ g .buffer2
+  -- transfer: none, or buffer 1 or 2 with the bytes got so far
+  pub transfer-none : transferOf 0 0 ≡ closed
+  pub transfer-one : (k : ℕ) → transferOf 1 k ≡ opened (second 1) k
+  pub transfer-two : (k : ℕ) → transferOf 2 k ≡ opened (second 2) k
+  pub transfer-unfit : (b k : ℕ) → (b ≡ 0 → k ≢ 0) → b ≢ 1 → b ≢ 2 → transferOf b k ≡ unfit b k
+
+keyed-iff : (p : Plain) → T (keyed p) ↔ (p .password ≢ 0 ∷ 0 ∷ 0 ∷ 0 ∷ [])
+unfolding keyed four
+keyed-iff p =
+    (λ t e. T-not (same (p .password) (four 0)) t (rw (e, same-refl (four 0)) tt), λ d. not-T (same (p .password) (four 0)) (λ t. d (same-eq (p .password) (four 0) (T→true (same (p .password) (four 0)) t))))
+
+locked-iff : (p : Plain) → T (locked p) ↔ ((p .password ≢ 0 ∷ 0 ∷ 0 ∷ 0 ∷ []) × (p .verified ≡ false))
+unfolding locked
+locked-iff p =
+    (λ t. (keyed-iff p .0 (search (and-l)), T→false (p .verified) (search (and-r))), λ h. and-i (keyed p) (not (p .verified)) (keyed-iff p .1 (h .0)) (rw (h .1) tt))
+
+buffer-iff : (b : ℕ) → T (isBuffer b) ↔ ((b ≡ 1) ⊎ (b ≡ 2))
+unfolding isBuffer
+buffer-iff b = (to (eqb b 1) (eqb b 2) refl refl, from)
+  where
+    to : (x y : Bool) → eqb b 1 ≡ x → eqb b 2 ≡ y → T (x || y) → (b ≡ 1) ⊎ (b ≡ 2)
+    to true y e f t = inl (eqb-true b 1 e)
+    to false true e f t = inr (eqb-true b 2 f)
+    to false false e f t = absurd t
+
+    from : (b ≡ 1) ⊎ (b ≡ 2) → T (isBuffer b)
+    from (inl e) = rw e tt
+    from (inr e) = rw e tt
+
+no-transfer : (b k : ℕ) → (b ≡ 0 → k ≢ 0) → b ≢ 1 → b ≢ 2 → transferOf b k ≡ unfit b k
+unfolding transferOf
+no-transfer zero zero h d e = absurd (h refl refl)
+no-transfer zero (suc k) h d e = refl
+no-transfer (suc zero) k h d e = absurd (d refl)
+no-transfer (suc (suc zero)) k h d e = absurd (e refl)
+no-transfer (suc (suc (suc b))) k h d e = refl
+
+pub kept : Kept
+unfolding fresh four sizeOf statusOf bufferOf transferOf
+kept =
+    record {
+      fresh-is = λ t i n b d. refl;
+      sizes = refl;
+      keyed-means = keyed-iff;
+      locked-means = locked-iff;
+      status-set = λ p e. rw e refl;
+      status-clear = λ p e. rw e refl;
+      buffer-means = buffer-iff;
+      buffer-one = λ g. refl;
+      buffer-two = λ g. refl;
+      transfer-none = refl;
+      transfer-one = λ k. refl;
+      transfer-two = λ k. refl;
+      transfer-unfit = no-transfer;
+    }
+
+-- ---- lists of bytes
+
+pub record Lists : Type 0 where
+  -- numbers are high byte first
+  pub two-bytes : (h l : ℕ) → h < 256 → l < 256 → two (h * 256 + l) ≡ h ∷ l ∷ []
+  pub four-bytes : (a b c d : ℕ) → a < 256 → b < 256 → c < 256 → d < 256 → four (a * 16777216 + b * 65536 + c * 256 + d) ≡ a ∷ b ∷ c ∷ d ∷ []
+  pub same-means : (s t : List ℕ) → (same s t ≡ true) ↔ (s ≡ t)
+  -- s laid over d from the place i on: d keeps its length and every other byte
+  pub laid-length : (i : ℕ) (s d : List ℕ) → i + length s ≤ length d → length (lay i s d) ≡ length d
+  pub laid-before : (i : ℕ) (s d : List ℕ) → i + length s ≤ length d → (j : ℕ) → j < i → getD (lay i s d) j 0 ≡ getD d j 0
+  pub laid-inside : (i : ℕ) (s d : List ℕ) → i + length s ≤ length d → (j : ℕ) → j < length s → getD (lay i s d) (i + j) 0 ≡ getD s j 0
+  pub laid-behind : (i : ℕ) (s d : List ℕ) → i + length s ≤ length d → (j : ℕ) → i + length s ≤ j → getD (lay i s d) j 0 ≡ getD d j 0
+  -- the reply is the front of the reply room, as long as was told
+  pub reply-is : (t : Told) → replyOf t ≡ take (t .length) (t .room)
+
+two-iff : (h l : ℕ) → h < 256 → l < 256 → two (h * 256 + l) ≡ h ∷ l ∷ []
+unfolding two
+two-iff h l a b =
+    let x : (h * 256 + l) / 256 % 256 ≡ h = omega arith in
+    let y : (h * 256 + l) % 256 ≡ l = omega arith in
+    rw (x, y) refl
+
+four-iff : (a b c d : ℕ) → a < 256 → b < 256 → c < 256 → d < 256 → four (a * 16777216 + b * 65536 + c * 256 + d) ≡ a ∷ b ∷ c ∷ d ∷ []
+unfolding four
+four-iff a b c d w x y z =
+    let n : ℕ = a * 16777216 + b * 65536 + c * 256 + d in
+    let e : n / 16777216 % 256 ≡ a = omega arith in
+    let f : n / 65536 % 256 ≡ b = omega arith in
+    let g : n / 256 % 256 ≡ c = omega arith in
+    let h : n % 256 ≡ d = omega arith in
+    rw (e, f, g, h) refl
+
+pub lists : Lists
+unfolding replyOf
+lists =
+    record {
+      two-bytes = two-iff;
+      four-bytes = four-iff;
+      same-means = λ s t. (same-eq s t, λ e. rw e (same-refl t));
+      laid-length = length-lay;
+      laid-before = at-before;
+      laid-inside = at-inside;
+      laid-behind = at-behind;
+      reply-is = λ t. refl;
+    }
