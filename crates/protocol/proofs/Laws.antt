@@ -1,4 +1,5 @@
 pub mod Logic
+pub mod Lines
 pub mod Lists
 pub mod Bits
 pub mod Index
@@ -9,4 +10,5 @@ pub mod Commands
 pub mod Answers
 pub mod Legal
 pub mod Locked
+pub mod History
 pub mod Sizes

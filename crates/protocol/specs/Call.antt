@@ -5,7 +5,7 @@ use mathlib.Core.List.{List, [], _∷_}
 use Prim.Native.Nat.{ℕ, zero, suc, _*_, _%_}
 use lib.Dec.{eqb, ltb, leb}
 use lib.ListN.{length, take}
-use Rattle.protocol.specs.Numbers.{pageBytes, fourBytes, replyRoom, lowestLevel, highestLevel, lowestBaud, highestBaud, highestSize, badLength, badRoom, badSetting}
+use Rattle.protocol.specs.Numbers.{pageBytes, leastPages, mostPages, indexBytes, notepadBytes, fourBytes, replyRoom, lowestLevel, highestLevel, lowestBaud, highestBaud, highestSize, badLength, badRoom, badSetting}
 use Rattle.protocol.specs.Bytes.{Bytes, lay}
 use Rattle.protocol.specs.Tests.{verdict, within}
 use Rattle.protocol.specs.Index.{clearFrom}
@@ -23,7 +23,7 @@ pub record Shape : Type 0 where
 
 -- document 01's reader
 unfoldable pub core : Shape
-core = record { least = 1; most = 256; indexed = 32; noted = 512 }
+core = record { least = leastPages; most = mostPages; indexed = indexBytes; noted = notepadBytes }
 
 unfoldable pub fitLibrary : Shape → Guarded → Bool
 fitLibrary σ g =
@@ -66,6 +66,13 @@ pub record Typed (r : Reader) : Type 0 where
 
 -- ---- a call
 
+-- what is lent anew at each call: the reply room
+pub record Lent : Type 0 where
+  pub room : List ℕ
+
+abbrev pub fitLent : Lent → Bool
+fitLent lent = fitRoom (lent .room)
+
 -- what a caller gets back: the refusal or 0, the bytes used, the reply's length, and its reply room
 pub record Told : Type 0 where
   pub refusal : ℕ
@@ -82,8 +89,8 @@ unfoldable pub replyOf : Told → List ℕ
 replyOf t = take (t .length) (t .room)
 
 -- order: 1, 2, 3
-unfoldable pub refusalOf : Shape → Reader → List ℕ → ℕ
-refusalOf σ r room = verdict ((fitLengths σ (r .guarded), badLength) ∷ (fitRoom room, badRoom) ∷ (sound r, badSetting) ∷ [])
+unfoldable pub refusalOf : Shape → Reader → Lent → ℕ
+refusalOf σ r lent = verdict ((fitLengths σ (r .guarded), badLength) ∷ (fitLent lent, badRoom) ∷ (sound r, badSetting) ∷ [])
 
 -- 0 bytes used, reply length 0; settings and memory unchanged
 unfoldable pub refused : ℕ → Reader → List ℕ → Ended
@@ -93,12 +100,12 @@ refused k r room = record { told = record { refusal = k; used = 0; length = 0; r
 unfoldable pub carried : Outcome → List ℕ → Ended
 carried o room = record { told = record { refusal = 0; used = o .used; length = length (o .reply); room = lay 0 (o .reply) room }; after = o .after }
 
-unfoldable pub callAs : Reader → List ℕ → List ℕ → ℕ → Ended
-callAs r s room zero = carried (stepOf r s) room
-callAs r s room (suc k) = refused (suc k) r room
+unfoldable pub callAs : Reader → List ℕ → Lent → ℕ → Ended
+callAs r s lent zero = carried (stepOf r s) (lent .room)
+callAs r s lent (suc k) = refused (suc k) r (lent .room)
 
-unfoldable pub callOf : Shape → Reader → List ℕ → List ℕ → Ended
-callOf σ r s room = callAs r s room (refusalOf σ r room)
+unfoldable pub callOf : Shape → Reader → List ℕ → Lent → Ended
+callOf σ r s lent = callAs r s lent (refusalOf σ r lent)
 
 -- ---- the line switch takes any settings and both buffers, and knows only refusal 1
 

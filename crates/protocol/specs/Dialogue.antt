@@ -14,15 +14,15 @@ use Rattle.protocol.specs.Reader.{Guarded, Reader}
 use Rattle.protocol.specs.Commands.{free, barred, Barred, store, loadChar, upChar, downChar, deletChar, empty, setSysPara, readSysPara, setPassword, setAddress, writeNotepad, readNotepad, templeteNum, readIndexTable, damaged, unknown, misfit, command}
 use Rattle.protocol.specs.Data.{acknowledge}
 use Rattle.protocol.specs.Step.{Heard, nothing, order, piece, hear, wiped}
-use Rattle.protocol.specs.Call.{Shape, Told, Ended, replyOf, callOf, switchOf}
+use Rattle.protocol.specs.Call.{Shape, Lent, Told, Ended, replyOf, callOf, switchOf}
 
 pub data Event : Type 0 where
-  -- a run, and the reply room that is lent with it
-  received : List ℕ → List ℕ → Event
+  -- a run, and what is lent with it
+  received : List ℕ → Lent → Event
   switch : Event
 
 unfoldable pub on : Shape → Reader → Event → Ended
-on σ r (received s room) = callOf σ r s room
+on σ r (received s lent) = callOf σ r s lent
 on σ r switch = switchOf r
 
 -- the reader after some events
@@ -53,7 +53,7 @@ dialogue σ r (e ∷ es) =
 -- these contents stay as they were, save that a line switch wipes the two buffers and clears their filled marks
 unfoldable pub kept : Guarded → List Event → Guarded
 kept g [] = g
-kept g (received s room ∷ es) = kept g es
+kept g (received s lent ∷ es) = kept g es
 kept g (switch ∷ es) = kept (wiped g) es
 
 -- ---- history: what a host asked for, and was answered by 00h
@@ -65,7 +65,7 @@ pub record Exchange : Type 0 where
 
 unfoldable pub exchanges : Shape → Reader → List Event → List Exchange
 exchanges σ r [] = []
-exchanges σ r (received s room ∷ es) = record { run = s; reply = replyOf (callOf σ r s room .told) } ∷ exchanges σ (callOf σ r s room .after) es
+exchanges σ r (received s lent ∷ es) = record { run = s; reply = replyOf (callOf σ r s lent .told) } ∷ exchanges σ (callOf σ r s lent .after) es
 exchanges σ r (switch ∷ es) = exchanges σ (switchOf r .after) es
 
 -- pages put in, and taken out

@@ -7,13 +7,26 @@ use Prim.Native.Nat.{ℕ}
 abbrev pub pageBytes : ℕ
 pageBytes = 512
 
--- a page of the notepad
-abbrev pub noteBytes : ℕ
-noteBytes = 32
+-- the least and the most pages of a library
+abbrev pub leastPages : ℕ
+leastPages = 1
 
--- the part of the index that one ReadIndexTable gives
+abbrev pub mostPages : ℕ
+mostPages = 256
+
+-- an index, and the part of it that one ReadIndexTable gives
 abbrev pub indexBytes : ℕ
 indexBytes = 32
+
+abbrev pub indexPageBytes : ℕ
+indexPageBytes = 32
+
+-- the notepad, and one of its pages
+abbrev pub notepadBytes : ℕ
+notepadBytes = 512
+
+abbrev pub noteBytes : ℕ
+noteBytes = 32
 
 -- the reply room at least
 abbrev pub replyRoom : ℕ

@@ -4,7 +4,7 @@ use mathlib.Core.List.{List, [], _∷_}
 use Prim.Native.Nat.{ℕ, _+_, _*_, _/_}
 use lib.Dec.{eqb, ltb, leb}
 use lib.ListN.{length}
-use Rattle.protocol.specs.Numbers.{pageBytes, noteBytes, indexBytes, lowestLevel, highestLevel, lowestBaud, highestBaud, highestSize, baudParameter, levelParameter, sizeParameter, verifiedStatus, done, badPacket, badPage, nothingThere, nothingToSend, badRange, wrongPassword, badParameter, badValue, badNotePage}
+use Rattle.protocol.specs.Numbers.{pageBytes, noteBytes, indexPageBytes, lowestLevel, highestLevel, lowestBaud, highestBaud, highestSize, baudParameter, levelParameter, sizeParameter, verifiedStatus, done, badPacket, badPage, nothingThere, nothingToSend, badRange, wrongPassword, badParameter, badValue, badNotePage}
 use Rattle.protocol.specs.Bytes.{two, part, zeros, same, lay, joined}
 use Rattle.protocol.specs.Tests.{Test, within}
 use Rattle.protocol.specs.Index.{stored, setBit, clearBits, setBits}
@@ -17,13 +17,13 @@ use Rattle.protocol.specs.Data.{dataPackets}
 -- what a command that answers 00h does to the reader
 pub data Effect : Type 0 where
   keep : Effect
-  -- page p gets these bytes and its bit
-  fillPage : ℕ → List ℕ → Effect
+  -- page p gets a buffer's bytes (the second's?) and its bit
+  fillPage : Bool → ℕ → Effect
   -- n pages from p on lose their bits and their bytes; all pages do
   erase : ℕ → ℕ → Effect
   eraseAll : Effect
-  -- a buffer (the second?) gets these bytes and its mark
-  fillBuffer : Bool → List ℕ → Effect
+  -- a buffer (the second?) gets page p's bytes and its mark
+  fillBuffer : Bool → ℕ → Effect
   -- a buffer is zeroed, its mark cleared, and a transfer into it opened
   await : Bool → Effect
   -- these bytes go into the notepad, from the place i on
@@ -33,12 +33,13 @@ pub data Effect : Type 0 where
 
 unfoldable pub apply : Effect → Reader → Reader
 apply keep r = r
-apply (fillPage p b) r =
-    reader (r .plain) (withLibrary (lay (pageBytes * p) b (r .guarded .templates)) (setBit (r .guarded .index) p) (r .guarded))
+apply (fillPage w p) r =
+    let g = r .guarded in
+    reader (r .plain) (withLibrary (lay (pageBytes * p) (bufferOf w g .bytes) (g .templates)) (setBit (g .index) p) g)
 apply (erase p n) r =
     reader (r .plain) (withLibrary (lay (pageBytes * p) (zeros (pageBytes * n)) (r .guarded .templates)) (clearBits (r .guarded .index) p n) (r .guarded))
 apply eraseAll r = reader (r .plain) (withLibrary (zeros (length (r .guarded .templates))) (zeros (length (r .guarded .index))) (r .guarded))
-apply (fillBuffer w b) r = reader (r .plain) (withBuffer w (filledWith b) (r .guarded))
+apply (fillBuffer w p) r = reader (r .plain) (withBuffer w (filledWith (part (pageBytes * p) pageBytes (r .guarded .templates))) (r .guarded))
 apply (await w) r = reader (withTransfer (opened w 0) (r .plain)) (withBuffer w emptied (r .guarded))
 apply (note i b) r = reader (r .plain) (withNotepad (lay i b (r .guarded .notepad)) (r .guarded))
 apply (settle p) r = reader p (r .guarded)
@@ -82,11 +83,10 @@ statusOf p = cond (p .verified) verifiedStatus 0
 unfoldable pub rule : Reader → Barred → Row
 rule r (store b p) =
     let g = r .guarded in
-    does ((isBuffer b, badPacket) ∷ (ltb p (capacity g), badPage) ∷ (bufferOf (second b) g .filled, nothingThere) ∷ []) (fillPage p (bufferOf (second b) g .bytes))
+    does ((isBuffer b, badPacket) ∷ (ltb p (capacity g), badPage) ∷ (bufferOf (second b) g .filled, nothingThere) ∷ []) (fillPage (second b) p)
 rule r (loadChar b p) =
     let g = r .guarded in
-    does ((isBuffer b, badPacket) ∷ (ltb p (capacity g), badPage) ∷ (stored (g .index) p, nothingThere) ∷ [])
-    (fillBuffer (second b) (part (pageBytes * p) pageBytes (g .templates)))
+    does ((isBuffer b, badPacket) ∷ (ltb p (capacity g), badPage) ∷ (stored (g .index) p, nothingThere) ∷ []) (fillBuffer (second b) p)
 rule r (upChar b) =
     let g = r .guarded in
     sends ((isBuffer b, badPacket) ∷ (bufferOf (second b) g .filled, nothingToSend) ∷ [])
@@ -106,7 +106,7 @@ rule r (readNotepad p) =
     gives ((ltb p (length (r .guarded .notepad) / noteBytes), badNotePage) ∷ []) (part (noteBytes * p) noteBytes (r .guarded .notepad))
 rule r templeteNum = gives [] (two (setBits (r .guarded .index)))
 rule r (readIndexTable p) =
-    gives ((ltb p (length (r .guarded .index) / indexBytes), badPage) ∷ []) (part (indexBytes * p) indexBytes (r .guarded .index))
+    gives ((ltb p (length (r .guarded .index) / indexPageBytes), badPage) ∷ []) (part (indexPageBytes * p) indexPageBytes (r .guarded .index))
 
 -- ---- the two that the lock lets pass
 

@@ -6,20 +6,20 @@ use Prim.Native.Nat.{ℕ, zero, suc, _-_}
 use lib.Dec.{T}
 use Rattle.protocol.specs.Numbers.{badRoom, badPacket, transferFailed, unknownCommand, passwordFirst}
 use Rattle.protocol.specs.Tests.{verdict}
-use Rattle.protocol.specs.Finder.{findOf, usedOf}
 use Rattle.protocol.specs.Reader.{Transfer, closed, opened, unfit, Reader, keyed, locked, withTransfer, withBuffer}
 use Rattle.protocol.specs.Commands.{Free, Barred, free, barred, damaged, unknown, misfit, command}
 use Rattle.protocol.specs.Table.{rule, freeRule, publicOf}
 use Rattle.protocol.specs.Step.{Heard, nothing, order, piece, hear, Said, silence, says, carryAs, carry, carryFree, obey, heed, ended, rested, fits, takeAs, takeIn, answer, stepOf}
-use Rattle.protocol.specs.Call.{Shape, fitLengths, fitRoom, sound, legal, Ended, refusalOf, refused, carried, callAs, callOf}
+use Rattle.protocol.specs.Call.{Shape, Lent, fitLengths, fitLent, sound, legal, Ended, refusalOf, refused, carried, callAs, callOf}
 use Rattle.protocol.proofs.Laws.Logic.{T→true, and-l, and-r, and-i, passed, verdict-passed, passed-verdict}
 use Rattle.protocol.proofs.Laws.Commands.{tests-numbered}
 
--- ---- a reader whose transfer is ended keeps its library, its address and its lock
+-- ---- a reader whose transfer is ended keeps its library, its notepad, its address and its lock
 
 pub record Spared (r t : Reader) : Type 0 where
   pub index : t .guarded .index ≡ r .guarded .index
   pub templates : t .guarded .templates ≡ r .guarded .templates
+  pub notepad : t .guarded .notepad ≡ r .guarded .notepad
   pub address : t .plain .address ≡ r .plain .address
   pub lock : locked (t .plain) ≡ locked (r .plain)
 
@@ -28,9 +28,9 @@ unfolding rested ended withTransfer withBuffer locked keyed
 spared r = go (r .plain .transfer)
   where
     go : (t : Transfer) → Spared r (ended r t)
-    go closed = record { index = refl; templates = refl; address = refl; lock = refl }
-    go (opened w got) = record { index = refl; templates = refl; address = refl; lock = refl }
-    go (unfit b k) = record { index = refl; templates = refl; address = refl; lock = refl }
+    go closed = record { index = refl; templates = refl; notepad = refl; address = refl; lock = refl }
+    go (opened w got) = record { index = refl; templates = refl; notepad = refl; address = refl; lock = refl }
+    go (unfit b k) = record { index = refl; templates = refl; notepad = refl; address = refl; lock = refl }
 
 -- ---- an answer, by its kind
 
@@ -83,41 +83,43 @@ module _ (P : Said → Type 0) (r : Reader) where
       go false e = row-kinds c k e
   answer-kinds (piece last right content) k = take-kinds last right content k (r .plain .transfer) refl
 
+-- ---- a command of a reader that is not locked: its row is carried out, by the verdict of its tests
+
+pub row-answer : (r : Reader) (s : List ℕ) → locked (r .plain) ≡ false → (c : Barred) → hear (r .plain .address) s ≡ order (command (barred c)) → (k : ℕ)
+    → verdict (rule (rested r) c .tests) ≡ k → answer r (hear (r .plain .address) s) ≡ carryAs (rested r) (rule (rested r) c) k
+unfolding answer heed obey carry
+row-answer r s l c h k v = rw (h, spared r .lock ∙ l, v) refl
+
+pub obeys : (r : Reader) (s : List ℕ) → locked (r .plain) ≡ false → (c : Barred) → hear (r .plain .address) s ≡ order (command (barred c))
+    → T (passed (rule (rested r) c .tests)) → answer r (hear (r .plain .address) s) ≡ carryAs (rested r) (rule (rested r) c) zero
+obeys r s l c h p = row-answer r s l c h zero (passed-verdict (rule (rested r) c .tests) p)
+
 -- ---- a call: refused with nothing changed, or a legal reader's step with a fit reply room
 
-module _ (σ : Shape) (r : Reader) (s room : List ℕ) where
-  pub call-kinds : (P : Ended → Type 0) → ((k : ℕ) → P (refused (suc k) r room)) → (T (legal σ r) → T (fitRoom room) → P (carried (stepOf r s) room))
-      → P (callOf σ r s room)
+module _ (σ : Shape) (r : Reader) (s : List ℕ) (lent : Lent) where
+  pub call-kinds : (P : Ended → Type 0) → ((k : ℕ) → P (refused (suc k) r (lent .room))) → (T (legal σ r) → T (fitLent lent) → P (carried (stepOf r s) (lent .room)))
+      → P (callOf σ r s lent)
   unfolding callOf callAs refusalOf legal
-  call-kinds P f g = go (refusalOf σ r room) refl
+  call-kinds P f g = go (refusalOf σ r lent) refl
     where
-      go : (k : ℕ) → refusalOf σ r room ≡ k → P (callAs r s room k)
+      go : (k : ℕ) → refusalOf σ r lent ≡ k → P (callAs r s lent k)
       go zero e =
           let t = verdict-passed _ tt e in
           let a : T (fitLengths σ (r .guarded)) = search (and-l) in
-          let b : T (fitRoom room) = search (and-l, and-r) in
+          let b : T (fitLent lent) = search (and-l, and-r) in
           let c : T (sound r) = search (and-l, and-r) in
           g (and-i (fitLengths σ (r .guarded)) (sound r) a c) b
       go (suc k) e = f k
 
   -- a legal reader with a fit reply room gets no refusal
-  pub call-legal : T (legal σ r) → T (fitRoom room) → callOf σ r s room ≡ carried (stepOf r s) room
+  pub call-legal : T (legal σ r) → T (fitLent lent) → callOf σ r s lent ≡ carried (stepOf r s) (lent .room)
   unfolding callOf callAs refusalOf legal
   call-legal t u =
       let a : T (fitLengths σ (r .guarded)) = search (and-l) in
       let c : T (sound r) = search (and-r) in
-      ap (callAs r s room) (passed-verdict _ (search (and-i)))
+      ap (callAs r s lent) (passed-verdict _ (search (and-i)))
 
   -- and with a short one, refusal 2
-  pub call-short : T (legal σ r) → fitRoom room ≡ false → callOf σ r s room ≡ refused badRoom r room
+  pub call-short : T (legal σ r) → fitLent lent ≡ false → callOf σ r s lent ≡ refused badRoom r (lent .room)
   unfolding callOf callAs refusalOf legal verdict
   call-short t u = simp (T→true (fitLengths σ (r .guarded)) (search (and-l)), T→true (sound r) (search (and-r)), u) refl
-
-  -- a command of a reader that is not locked, its tests passed, is carried out
-  pub obeyed : T (legal σ r) → T (fitRoom room) → locked (r .plain) ≡ false → (c : Barred) → hear (r .plain .address) s ≡ order (command (barred c))
-      → T (passed (rule (rested r) c .tests))
-      → callOf σ r s room
-      ≡ carried record { used = usedOf (findOf s); reply = carryAs (rested r) (rule (rested r) c) zero .reply; after = carryAs (rested r) (rule (rested r) c) zero .after } room
-  unfolding stepOf answer heed obey carry
-  obeyed t u l c h p =
-      rw (call-legal t u, h, spared r .lock ∙ l, passed-verdict (rule (rested r) c .tests) p) refl

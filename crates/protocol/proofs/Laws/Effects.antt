@@ -52,15 +52,17 @@ within-lay t b p n e h q l m =
     let at : pageBytes * q ≡ pageBytes * p + pageBytes * (q - p) = omega arith in
     ap (λ (i : ℕ). part i pageBytes (lay (pageBytes * p) b t)) at ∙ inside-lay (pageBytes * p) b t (omega arith) (pageBytes * (q - p)) pageBytes (omega arith)
 
--- page p has the bytes b, and every other page its own
-pub record Filled (r : Reader) (p : ℕ) (b : List ℕ) : Type 0 where
-  pub bytes : page (apply (fillPage p b) r) p ≡ b
-  pub others : (q : ℕ) → q ≢ p → page (apply (fillPage p b) r) q ≡ page r q
+-- page p has the buffer's bytes, and every other page its own
+pub record Filled (r : Reader) (w : Bool) (p : ℕ) : Type 0 where
+  pub bytes : page (apply (fillPage w p) r) p ≡ bufferOf w (r .guarded) .bytes
+  pub others : (q : ℕ) → q ≢ p → page (apply (fillPage w p) r) q ≡ page r q
 
-pub fill-page : (r : Reader) (p : ℕ) (b : List ℕ) → length b ≡ pageBytes → pageBytes * (p + 1) ≤ length (r .guarded .templates) → Filled r p b
+pub fill-page : (r : Reader) (w : Bool) (p : ℕ) → length (bufferOf w (r .guarded) .bytes) ≡ pageBytes → pageBytes * (p + 1) ≤ length (r .guarded .templates)
+    → Filled r w p
 unfolding apply withLibrary
-fill-page r p b e h =
+fill-page r w p e h =
     let t : List ℕ = r .guarded .templates in
+    let b : List ℕ = bufferOf w (r .guarded) .bytes in
     let none : pageBytes * (p - p) ≡ 0 = omega arith in
     record {
       bytes = within-lay t b p 1 (omega arith) h p (omega arith) (omega arith) ∙ ap (λ (i : ℕ). part i pageBytes b) none ∙ take-all pageBytes b (omega arith);

@@ -2,14 +2,14 @@
 use mathlib.Core.Bool.{Bool, true, false, not, cond}
 use mathlib.Core.Path.{_≡_, refl, sym, ap, _∙_, subst}
 use mathlib.Core.List.{List}
-use Prim.Native.Nat.{ℕ, _+_, _-_, _*_, _/_, _%_, _≤_, _<_}
+use Prim.Native.Nat.{ℕ, _+_, _*_, _/_, _%_, _≤_, _<_}
 use native.Mathlib.Nat.{zero-mod}
 use native.Mathlib.Omega.{arith}
 use lib.Dec.{T, eqb, ltb, eqb→eq, leb→le, le→leb, ltb→lt}
 use borrow.Author.Tests.{ne-eqb, lt-ltb}
-use lib.ListN.{length, length-replicate}
+use lib.ListN.{length, length-replicate, length-take, length-drop}
 use Rattle.protocol.specs.Numbers.{pageBytes, fourBytes}
-use Rattle.protocol.specs.Bytes.{zeros, lay}
+use Rattle.protocol.specs.Bytes.{zeros, lay, part}
 use Rattle.protocol.specs.Tests.{within, among}
 use Rattle.protocol.specs.Index.{stored, setBit, clearBits, bits, clearFrom}
 use Rattle.protocol.specs.Reader.{Transfer, closed, opened, Plain, Buffer, Guarded, Reader, capacity, sizeOf, keyed, locked, bufferOf, emptied, filledWith, withTransfer, withLibrary, withNotepad, withBuffer, reader}
@@ -61,6 +61,10 @@ moving p g w got t =
       unfilled = T→false (bufferOf w g .filled) (search (and-l, and-r));
       free = T→false (locked p) (search (and-l, and-r));
     }
+
+pub legal-transfer : (σ : Shape) (r : Reader) → T (legal σ r) → T (fitTransfer (r .plain) (r .guarded) (r .plain .transfer))
+unfolding legal sound
+legal-transfer σ r t = search (and-l, and-r)
 
 -- what a data packet that goes in says
 pub record Fitting (p : Plain) (got : ℕ) (last : Bool) (content : List ℕ) : Type 0 where
@@ -193,10 +197,10 @@ module _ (σ : Shape) (ok : σ .most ≤ 8 * σ .indexed) where
   -- what a row's tests see to before its effect
   abbrev pub Proper : Reader → Effect → Type 0
   Proper r keep = Unit {0}
-  Proper r (fillPage p b) = (p < capacity (r .guarded)) × (length b ≡ pageBytes)
+  Proper r (fillPage w p) = p < capacity (r .guarded)
   Proper r (erase p n) = p + n ≤ capacity (r .guarded)
   Proper r eraseAll = Unit {0}
-  Proper r (fillBuffer w b) = length b ≡ pageBytes
+  Proper r (fillBuffer w p) = p < capacity (r .guarded)
   Proper r (await w) = locked (r .plain) ≡ false
   Proper r (note i b) = i + length b ≤ length (r .guarded .notepad)
   Proper r (settle p) = T (fitPlain p) × ((p .transfer ≡ closed) × ((length (p .password) ≡ fourBytes) × (length (p .address) ≡ fourBytes)))
@@ -204,13 +208,14 @@ module _ (σ : Shape) (ok : σ .most ≤ 8 * σ .indexed) where
   pub effect-good : (e : Effect) (r : Reader) → Proper r e → r .plain .transfer ≡ closed → Good r → Good (apply e r)
   unfolding apply emptied filledWith withTransfer withNotepad capacity fitBuffers locked keyed
   effect-good keep r m z k = k
-  effect-good (fillPage p b) r m z k =
+  effect-good (fillPage w p) r m z k =
       let g : Guarded = r .guarded in
       let c : ℕ = capacity g in
+      let b : List ℕ = bufferOf w g .bytes in
       good-library r (lay (pageBytes * p) b (g .templates)) (setBit (g .index) p) k z
-      (length-lay (pageBytes * p) b (g .templates) (omega (arith, k .shelf .long, m .0, m .1))) (fine-with (g .index) p (fine-of r k))
-      (λ q l u. stored-with (g .index) (k .typed .index) p (omega (arith, k .shelf .wide, k .shelf .high, m .0)) q
-      ∙ or-false (eqb p q) (stored (g .index) q) (ne-eqb p q (λ e. omega (arith, m .0)))
+      (length-lay (pageBytes * p) b (g .templates) (omega (arith, k .shelf .long, buffer-long w g (k .buffers)))) (fine-with (g .index) p (fine-of r k))
+      (λ q l u. stored-with (g .index) (k .typed .index) p (omega (arith, k .shelf .wide, k .shelf .high)) q
+      ∙ or-false (eqb p q) (stored (g .index) q) (ne-eqb p q (λ e. omega arith))
       (clear-from (g .index) c (k .clear) q l (omega (arith, fine-with (g .index) p (fine-of r k) .long, k .shelf .wide))))
   effect-good (erase p n) r m z k =
       let g : Guarded = r .guarded in
@@ -225,8 +230,10 @@ module _ (σ : Shape) (ok : σ .most ≤ 8 * σ .indexed) where
       let g : Guarded = r .guarded in
       good-library r (zeros (length (g .templates))) (zeros (length (g .index))) k z (length-replicate (length (g .templates)) 0)
       (subst (λ (n : ℕ). Fine n (zeros (length (g .index)))) (k .shelf .wide) (fine-zeros (length (g .index)))) (λ q l u. stored-zeros (length (g .index)) q)
-  effect-good (fillBuffer w b) r m z k =
-      good-buffer r (r .plain .transfer) w (filledWith b) k m (fit-closed (r .plain) (withBuffer w (filledWith b) (r .guarded)) (r .plain .transfer) z)
+  effect-good (fillBuffer w p) r m z k =
+      let b : List ℕ = part (pageBytes * p) pageBytes (r .guarded .templates) in
+      let long : length b ≡ pageBytes = simp (length-take, length-drop) (omega (arith, k .shelf .long)) in
+      good-buffer r (r .plain .transfer) w (filledWith b) k long (fit-closed (r .plain) (withBuffer w (filledWith b) (r .guarded)) (r .plain .transfer) z)
   effect-good (await w) r m z k =
       good-buffer r (opened w 0) w emptied k refl
       (fit-opened (withTransfer (opened w 0) (r .plain)) (withBuffer w emptied (r .guarded)) w 0 (zero-mod (sizeOf (r .plain .size))) (omega arith)

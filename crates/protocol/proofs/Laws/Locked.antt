@@ -13,7 +13,7 @@ use Rattle.protocol.specs.Commands.{verifyPassword, handShake, free, bar
 use Rattle.protocol.specs.Data.{acknowledge}
 use Rattle.protocol.specs.Table.{rule, Public, freeRule, publicOf}
 use Rattle.protocol.specs.Step.{Heard, nothing, order, piece, hear, Said, silence, says, carry, carryFree, obey, heed, ended, rested, takeIn, answer, stepOf, wiped, switched}
-use Rattle.protocol.specs.Call.{Shape, fitBuffers, fitRoom, fitTransfer, fitLibrary, fitLengths, sound, legal, Told, Ended, refused, carried, callOf, switchRefusal, switchAs, switchOf}
+use Rattle.protocol.specs.Call.{Shape, Lent, fitBuffers, fitLent, fitTransfer, fitLibrary, fitLengths, sound, legal, Told, Ended, refused, carried, callOf, switchRefusal, switchAs, switchOf}
 use Rattle.protocol.proofs.Laws.Logic.{T→true, T→false, and-l, and-r, and-i}
 use Rattle.protocol.proofs.Laws.Answers.{call-legal, call-short}
 use Rattle.protocol.proofs.Laws.Legal.{fit-closed}
@@ -39,14 +39,14 @@ turns v (order (command (barred c))) = v .plain
 turns v (piece last right content) = v .plain
 
 -- what a call gets back, and the settings after it
-unfoldable pub toldBy : Public → List ℕ → List ℕ → Told
-toldBy v s room =
+unfoldable pub toldBy : Public → List ℕ → Lent → Told
+toldBy v s lent =
     let reply = tells v (hear (v .plain .address) s) in
-    cond (fitRoom room) record { refusal = 0; used = usedOf (findOf s); length = length reply; room = lay 0 reply room }
-    record { refusal = badRoom; used = 0; length = 0; room = room }
+    cond (fitLent lent) record { refusal = 0; used = usedOf (findOf s); length = length reply; room = lay 0 reply (lent .room) }
+    record { refusal = badRoom; used = 0; length = 0; room = lent .room }
 
-unfoldable pub plainBy : Public → List ℕ → List ℕ → Plain
-plainBy v s room = cond (fitRoom room) (turns v (hear (v .plain .address) s)) (v .plain)
+unfoldable pub plainBy : Public → List ℕ → Lent → Plain
+plainBy v s lent = cond (fitLent lent) (turns v (hear (v .plain .address) s)) (v .plain)
 
 -- ---- a locked reader with no transfer
 
@@ -87,17 +87,17 @@ shut-of σ r f l =
 
 -- ---- a call
 
-pub locked-call : (σ : Shape) (r : Reader) → T (legal σ r) → T (locked (r .plain)) → (s room : List ℕ)
-    → callOf σ r s room ≡ record { told = toldBy (publicOf r) s room; after = reader (plainBy (publicOf r) s room) (r .guarded) }
+pub locked-call : (σ : Shape) (r : Reader) → T (legal σ r) → T (locked (r .plain)) → (s : List ℕ) (lent : Lent)
+    → callOf σ r s lent ≡ record { told = toldBy (publicOf r) s lent; after = reader (plainBy (publicOf r) s lent) (r .guarded) }
 unfolding toldBy plainBy carried refused stepOf publicOf
-locked-call σ r f l s room = go (fitRoom room) refl
+locked-call σ r f l s lent = go (fitLent lent) refl
   where
     out : Said → Ended
-    out a = carried record { used = usedOf (findOf s); reply = a .reply; after = a .after } room
+    out a = carried record { used = usedOf (findOf s); reply = a .reply; after = a .after } (lent .room)
 
-    go : (b : Bool) → fitRoom room ≡ b → callOf σ r s room ≡ record { told = toldBy (publicOf r) s room; after = reader (plainBy (publicOf r) s room) (r .guarded) }
-    go true e = rw e (call-legal σ r s room f (rw e tt) ∙ ap out (shut-answer r (shut-of σ r f l) (hear (r .plain .address) s)))
-    go false e = rw e (call-short σ r s room f e)
+    go : (b : Bool) → fitLent lent ≡ b → callOf σ r s lent ≡ record { told = toldBy (publicOf r) s lent; after = reader (plainBy (publicOf r) s lent) (r .guarded) }
+    go true e = rw e (call-legal σ r s lent f (rw e tt) ∙ ap out (shut-answer r (shut-of σ r f l) (hear (r .plain .address) s)))
+    go false e = rw e (call-short σ r s lent f e)
 
 -- the settings stay, but for a right password
 pub turns-or : (v : Public) → v .plain .verified ≡ false → (h : Heard) → turns v h .verified ≡ false → turns v h ≡ v .plain
@@ -111,9 +111,9 @@ turns-or v e (order (command (free handShake))) z = refl
 turns-or v e (order (command (barred c))) z = refl
 turns-or v e (piece last right content) z = refl
 
-pub plain-or : (v : Public) → v .plain .verified ≡ false → (s room : List ℕ) → plainBy v s room .verified ≡ false → plainBy v s room ≡ v .plain
+pub plain-or : (v : Public) → v .plain .verified ≡ false → (s : List ℕ) (lent : Lent) → plainBy v s lent .verified ≡ false → plainBy v s lent ≡ v .plain
 unfolding plainBy
-plain-or v e s room = go (fitRoom room)
+plain-or v e s lent = go (fitLent lent)
   where
     go : (b : Bool) → cond b (turns v (hear (v .plain .address) s)) (v .plain) .verified ≡ false → cond b (turns v (hear (v .plain .address) s)) (v .plain) ≡ v .plain
     go true z = turns-or v e (hear (v .plain .address) s) z

@@ -9,14 +9,16 @@ use Prim.Native.Nat.{ℕ, _+_, _-_}
 use native.Mathlib.Omega.{arith}
 use lib.Dec.{T}
 use borrow.Author.Tests.{ne-eqb}
-use lib.ListN.{length, getD, drop}
+use lib.ListN.{getD, drop}
 use lib.Seq.{getD-take, getD-drop}
 use Rattle.protocol.specs.Packet.{contentAt, rightAt}
 use Rattle.protocol.specs.Reader.{Reader}
 use Rattle.protocol.specs.Commands.{Entry, commands, Known, none, some, rowOf}
-use Rattle.protocol.specs.Call.{Shape, fitRoom, legal, callOf}
+use Rattle.protocol.specs.Step.{rested}
+use Rattle.protocol.specs.Call.{Shape, Lent, fitLent, legal, callOf}
+use Rattle.protocol.proofs.Promises.Told.{Says}
 use Rattle.protocol.proofs.Promises.Finding.{WholeAt, whole-at, content-long}
-use Rattle.protocol.proofs.Promises.Order.{Says, Ordered, unknown-next, misfit-next}
+use Rattle.protocol.proofs.Promises.Order.{Ordered, unknown-next, misfit-next}
 
 -- the sixteen codes, each with its length field
 abbrev pub table : List (ℕ × ℕ)
@@ -64,7 +66,7 @@ abbrev Has : ℕ → Known → Type 0
 Has n none = ⊥
 Has n (some e) = e .len ≡ n
 
-module _ (σ : Shape) (r : Reader) (s room : List ℕ) (f : T (legal σ r)) (u : T (fitRoom room)) (p n : ℕ) (o : Ordered r s p n) (right : rightAt s p n ≡ true) where
+module _ (σ : Shape) (r : Reader) (s : List ℕ) (lent : Lent) (f : T (legal σ r)) (u : T (fitLent lent)) (p n : ℕ) (o : Ordered r s p n) (right : rightAt s p n ≡ true) where
   whole : WholeAt s p n
   whole = whole-at s p n (o .found)
 
@@ -75,20 +77,20 @@ module _ (σ : Shape) (r : Reader) (s room : List ℕ) (f : T (legal σ r)) (u :
       getD-take (n - 2) (drop (p + 9) s) 0 0 (omega (arith, whole .accepted .least)) ∙ getD-drop (p + 9) s 0 0 ∙ ap (λ (i : ℕ). getD s i 0) e
 
   -- every other code is unknown: 19h
-  pub unknown-code : Absent (getD s (p + 9) 0) table → Says r 0x19 (p + 9 + n) room (callOf σ r s room)
-  unknown-code h = unknown-next σ r s room f u p n o right (ap (rowOf commands) code-at ∙ no-row commands (getD s (p + 9) 0) (rw rows h))
+  pub unknown-code : Absent (getD s (p + 9) 0) table → Says (rested r) 0x19 s lent (callOf σ r s lent)
+  unknown-code h = unknown-next σ r s lent f u p n o right (ap (rowOf commands) code-at ∙ no-row commands (getD s (p + 9) 0) (rw rows h))
 
   -- any other length than the code's own: 01h
   abbrev Fixed : ℕ → ℕ → Type 0
-  Fixed k m = getD s (p + 9) 0 ≡ k → n ≢ m → Says r 0x01 (p + 9 + n) room (callOf σ r s room)
+  Fixed k m = getD s (p + 9) 0 ≡ k → n ≢ m → Says (rested r) 0x01 s lent (callOf σ r s lent)
 
   fixed : (k m : ℕ) → Has m (rowOf commands k) → Fixed k m
   fixed k m h e d = go (rowOf commands k) refl h
     where
-      go : (x : Known) → rowOf commands k ≡ x → Has m x → Says r 0x01 (p + 9 + n) room (callOf σ r s room)
+      go : (x : Known) → rowOf commands k ≡ x → Has m x → Says (rested r) 0x01 s lent (callOf σ r s lent)
       go none q z = absurd z
       go (some y) q z =
-          misfit-next σ r s room f u p n o right y (ap (rowOf commands) (code-at ∙ e) ∙ q) (λ c. d (sym (content-long s p n whole) ∙ sym c ∙ z))
+          misfit-next σ r s lent f u p n o right y (ap (rowOf commands) (code-at ∙ e) ∙ q) (λ c. d (sym (content-long s p n whole) ∙ sym c ∙ z))
 
   pub length-fixed : Each Fixed table
   unfolding commands rowOf

@@ -2,29 +2,30 @@
 use mathlib.Core.Bool.{Bool, true, false, cond}
 use mathlib.Core.Path.{_≡_, refl, sym, ap, ap₂, _∙_, subst}
 use mathlib.Core.List.{List, [], _∷_, _++_, append-assoc}
-use Prim.Native.Nat.{ℕ, zero, suc, _+_, _-_, _*_, _/_, _≤_, _<_}
+use Prim.Native.Nat.{ℕ, zero, suc, _+_, _*_, _/_, _≤_, _<_}
 use native.Mathlib.Omega.{arith}
 use lib.Dec.{T, eqb, eqb·suc-zero}
 use borrow.Author.Tests.{lt-ltb}
 use lib.ListN.{length, take, drop, length-drop, take-append-drop}
 use lib.Seq.{take-all, length-take-le}
-use Rattle.protocol.specs.Numbers.{pageBytes, fourBytes, dataPacket, lastPacket, done}
-use Rattle.protocol.specs.Bytes.{lay, follow}
+use Rattle.protocol.specs.Numbers.{pageBytes, fourBytes, dataPacket, lastPacket}
+use Rattle.protocol.specs.Bytes.{lay}
 use Rattle.protocol.specs.Packet.{packet, lengthOf, accepts}
-use Rattle.protocol.specs.Reader.{Transfer, closed, opened, unfit, Plain, Buffer, Guarded, Reader, sizeOf, bufferOf, filledWith, emptied, locked, withTransfer, withBuffer, contents, reader}
+use Rattle.protocol.specs.Reader.{Transfer, closed, opened, Plain, Buffer, Guarded, Reader, sizeOf, bufferOf, filledWith, locked, withTransfer, withBuffer, contents, reader}
 use Rattle.protocol.specs.Commands.{barred, downChar, command}
 use Rattle.protocol.specs.Data.{acknowledge, packets}
-use Rattle.protocol.specs.Table.{await, apply, isBuffer, second, rule}
-use Rattle.protocol.specs.Step.{order, hearAs, hearAt, hear, silence, carryAs, ended, rested, fits, takeAs, takeIn, answer, stepOf}
-use Rattle.protocol.specs.Call.{Shape, fitRoom, fitTransfer, replyOf, carried, callOf, Ended}
+use Rattle.protocol.specs.Step.{order, hearAs, hearAt, hear, silence, rested, fits, takeAs, takeIn, answer, stepOf}
+use Rattle.protocol.specs.Call.{Shape, Lent, fitLent, fitTransfer, replyOf, carried, callOf, Ended}
 use Rattle.protocol.specs.Dialogue.{Event, received, on, finally, Exchange, exchanges}
-use Rattle.protocol.proofs.Laws.Logic.{and-i, eqb-same}
-use Rattle.protocol.proofs.Laws.Lists.{length-lay, head-lay, last-lay, take-lay}
+use Rattle.protocol.proofs.Laws.Logic.{eqb-same}
+use Rattle.protocol.proofs.Laws.Lists.{length-lay, head-lay, last-lay}
 use Rattle.protocol.proofs.Laws.Finder.{heard-at}
 use Rattle.protocol.proofs.Laws.Effects.{buffer-same}
-use Rattle.protocol.proofs.Laws.Answers.{spared, call-legal, obeyed}
+use Rattle.protocol.proofs.Laws.Answers.{call-legal}
 use Rattle.protocol.proofs.Laws.Legal.{buffer-long, Good, Moving, moving}
 use Rattle.protocol.proofs.Laws.Sizes.{Size}
+use Rattle.protocol.proofs.Promises.Told.{Leaves, Numbered, number, blank, WithBuffer, with-buffer, number-is}
+use Rattle.protocol.proofs.Promises.Moves.{down-awaits}
 use Rattle.protocol.proofs.Promises.ReadBack.{ReadsAs, packet-reads}
 use Rattle.protocol.proofs.Promises.ReplyFits.{size-of}
 use Rattle.protocol.proofs.Promises.StaysLegal.{Legal, good, stays-legal}
@@ -46,9 +47,9 @@ abbrev unfilled : List ℕ → Buffer
 unfilled b = record { bytes = b; filled = false }
 
 -- packets sent one to a call, each with a reply room of its own
-unfoldable pub deliver : (ℕ → List ℕ) → List (List ℕ) → List Event
-deliver room [] = []
-deliver room (p ∷ ps) = received p (room (length ps)) ∷ deliver room ps
+unfoldable pub deliver : (ℕ → Lent) → List (List ℕ) → List Event
+deliver lent [] = []
+deliver lent (p ∷ ps) = received p (lent (length ps)) ∷ deliver lent ps
 
 -- every reply is silence
 abbrev pub Silent : List Exchange → Type 0
@@ -101,20 +102,20 @@ module _ (p : Plain) (g : Guarded) (w : Bool) (h : length (p .address) ≡ fourB
 
   -- ---- k + 1 packets to come
 
-  module _ (σ : Shape) (ok : σ .most ≤ 8 * σ .indexed) (z : Size (sizeOf (p .size))) (room : ℕ → List ℕ) (f : (n : ℕ) → T (fitRoom (room n))) where
+  module _ (σ : Shape) (ok : σ .most ≤ 8 * σ .indexed) (z : Size (sizeOf (p .size))) (lent : ℕ → Lent) (f : (n : ℕ) → T (fitLent (lent n))) where
     abbrev n : ℕ
     n = sizeOf (p .size)
 
-    call : (r : Reader) → Legal σ ok r → (s : List ℕ) (k : ℕ) → callOf σ r s (room k) .after ≡ stepOf r s .after
+    call : (r : Reader) → Legal σ ok r → (s : List ℕ) (k : ℕ) → callOf σ r s (lent k) .after ≡ stepOf r s .after
     unfolding carried
-    call r l s k = ap (λ (e : Ended). e .after) (call-legal σ r s (room k) (l .legal) (f k))
+    call r l s k = ap (λ (e : Ended). e .after) (call-legal σ r s (lent k) (l .legal) (f k))
 
-    legally : (r t : Reader) → Legal σ ok r → (s : List ℕ) (k : ℕ) → callOf σ r s (room k) .after ≡ t → Legal σ ok t
+    legally : (r t : Reader) → Legal σ ok r → (s : List ℕ) (k : ℕ) → callOf σ r s (lent k) .after ≡ t → Legal σ ok t
     unfolding on
-    legally r t l s k e = subst (Legal σ ok) e (stays-legal σ ok r l (received s (room k)))
+    legally r t l s k e = subst (Legal σ ok) e (stays-legal σ ok r l (received s (lent k)))
 
     feeding : (k got : ℕ) (s b : List ℕ) → got + suc k * n ≡ pageBytes → length s ≡ suc k * n → length b ≡ pageBytes → Legal σ ok (under got b)
-        → finally σ (under got b) (deliver room (packets (p .address) (suc k) n s)) ≡ through (take got b ++ s)
+        → finally σ (under got b) (deliver lent (packets (p .address) (suc k) n s)) ≡ through (take got b ++ s)
     unfolding finally on deliver packets
     feeding zero got s b e m x l =
         let all : take n s ≡ s = take-all n s (omega arith) in
@@ -128,22 +129,22 @@ module _ (p : Plain) (g : Guarded) (w : Bool) (h : length (p .address) ≡ fourB
         let one : length c ≡ n = length-take-le n s (omega arith) in
         let fit : got + length c ≤ length b = omega arith in
         let two : cond {A = ℕ} (eqb (suc k) 0) lastPacket dataPacket ≡ dataPacket = ap (λ (t : Bool). cond t lastPacket dataPacket) (eqb·suc-zero k) in
-        let next : callOf σ (under got b) (packet (p .address) dataPacket c) (room (length ps)) .after ≡ under (got + n) (lay got c b) =
+        let next : callOf σ (under got b) (packet (p .address) dataPacket c) (lent (length ps)) .after ≡ under (got + n) (lay got c b) =
         call (under got b) l (packet (p .address) dataPacket c) (length ps) ∙ more c one got b (z .carries) (omega arith)
         in
         let ahead : take (got + n) (lay got c b) ≡ take got b ++ c = ap (λ (m : ℕ). take (got + m) (lay got c b)) (sym one) ∙ head-lay got c b fit in
-        ap (λ (i : ℕ). finally σ (callOf σ (under got b) (packet (p .address) i c) (room (length ps)) .after) (deliver room ps)) two
-        ∙ ap (λ (r : Reader). finally σ r (deliver room ps)) next
+        ap (λ (i : ℕ). finally σ (callOf σ (under got b) (packet (p .address) i c) (lent (length ps)) .after) (deliver lent ps)) two
+        ∙ ap (λ (r : Reader). finally σ r (deliver lent ps)) next
         ∙ feeding k (got + n) (drop n s) (lay got c b) (omega arith) (length-drop n s ∙ omega arith) (length-lay got c b fit ∙ x)
         (legally (under got b) (under (got + n) (lay got c b)) l (packet (p .address) dataPacket c) (length ps) next)
         ∙ ap through (ap (λ (t : List ℕ). t ++ drop n s) ahead ∙ append-assoc (take got b) c (drop n s) ∙ ap (λ (t : List ℕ). take got b ++ t) (take-append-drop n s))
 
-    quiet : (r : Reader) → Legal σ ok r → (s : List ℕ) (k : ℕ) → stepOf r s .reply ≡ [] → replyOf (callOf σ r s (room k) .told) ≡ []
+    quiet : (r : Reader) → Legal σ ok r → (s : List ℕ) (k : ℕ) → stepOf r s .reply ≡ [] → replyOf (callOf σ r s (lent k) .told) ≡ []
     unfolding carried replyOf
-    quiet r l s k e = rw (call-legal σ r s (room k) (l .legal) (f k), e) refl
+    quiet r l s k e = rw (call-legal σ r s (lent k) (l .legal) (f k), e) refl
 
     feeding-silent : (k got : ℕ) (s b : List ℕ) → got + suc k * n ≡ pageBytes → length s ≡ suc k * n → length b ≡ pageBytes → Legal σ ok (under got b)
-        → Silent (exchanges σ (under got b) (deliver room (packets (p .address) (suc k) n s)))
+        → Silent (exchanges σ (under got b) (deliver lent (packets (p .address) (suc k) n s)))
     unfolding exchanges deliver packets
     feeding-silent zero got s b e m x l =
         let c : List ℕ = take n s in
@@ -156,12 +157,12 @@ module _ (p : Plain) (g : Guarded) (w : Bool) (h : length (p .address) ≡ fourB
         let fit : got + length c ≤ length b = omega arith in
         let two : cond {A = ℕ} (eqb (suc k) 0) lastPacket dataPacket ≡ dataPacket = ap (λ (t : Bool). cond t lastPacket dataPacket) (eqb·suc-zero k) in
         let i : List ℕ = packet (p .address) dataPacket c in
-        let next : callOf σ (under got b) i (room (length ps)) .after ≡ under (got + n) (lay got c b) = call (under got b) l i (length ps) ∙ more c one got b (z .carries) (omega arith) in
+        let next : callOf σ (under got b) i (lent (length ps)) .after ≡ under (got + n) (lay got c b) = call (under got b) l i (length ps) ∙ more c one got b (z .carries) (omega arith) in
         let on : Legal σ ok (under (got + n) (lay got c b)) = legally (under got b) (under (got + n) (lay got c b)) l i (length ps) next in
-        let rest : Silent (exchanges σ (under (got + n) (lay got c b)) (deliver room ps)) =
+        let rest : Silent (exchanges σ (under (got + n) (lay got c b)) (deliver lent ps)) =
         feeding-silent k (got + n) (drop n s) (lay got c b) (omega arith) (length-drop n s ∙ omega arith) (length-lay got c b fit ∙ x) on
         in
-        rw two (quiet (under got b) l i (length ps) (more-silent c one got b (z .carries) (omega arith)), subst (λ (r : Reader). Silent (exchanges σ r (deliver room ps))) (sym next) rest)
+        rw two (quiet (under got b) l i (length ps) (more-silent c one got b (z .carries) (omega arith)), subst (λ (r : Reader). Silent (exchanges σ r (deliver lent ps))) (sym next) rest)
 
 -- ---- from an open transfer, and from DownChar
 
@@ -174,26 +175,18 @@ unfolding bufferOf withBuffer
 buffer-own true g e = ap (λ (f : Bool). contents (g .templates) (g .index) (g .notepad) (g .buffer1) record { bytes = g .buffer2 .bytes; filled = f }) (sym e)
 buffer-own false g e = ap (λ (f : Bool). contents (g .templates) (g .index) (g .notepad) record { bytes = g .buffer1 .bytes; filled = f } (g .buffer2)) (sym e)
 
-rested-closed : (r : Reader) → withTransfer closed (rested r .plain) ≡ withTransfer closed (r .plain)
-unfolding rested ended withTransfer
-rested-closed r = go (r .plain .transfer)
-  where
-    go : (t : Transfer) → withTransfer closed (ended r t .plain) ≡ withTransfer closed (r .plain)
-    go closed = refl
-    go (opened w got) = refl
-    go (unfit b k) = refl
-
-module _ (σ : Shape) (ok : σ .most ≤ 8 * σ .indexed) (room : ℕ → List ℕ) (f : (n : ℕ) → T (fitRoom (room n))) where
+module _ (σ : Shape) (ok : σ .most ≤ 8 * σ .indexed) (lent : ℕ → Lent) (f : (n : ℕ) → T (fitLent (lent n))) where
   -- the data packets of s in the size in force, to the reader r
   abbrev pub template : Reader → List ℕ → List Event
-  template r s = deliver room (packets (r .plain .address) (pageBytes / sizeOf (r .plain .size)) (sizeOf (r .plain .size)) s)
+  template r s = deliver lent (packets (r .plain .address) (pageBytes / sizeOf (r .plain .size)) (sizeOf (r .plain .size)) s)
 
   -- the buffer has the template and its mark, the transfer is closed, all else is as it was; and no packet was answered
-  pub record Downloads (r : Reader) (w : Bool) (s : List ℕ) : Type 0 where
-    pub ends : finally σ r (template r s) ≡ reader (withTransfer closed (r .plain)) (withBuffer w (filledWith s) (r .guarded))
+  pub record Downloads (r : Reader) (b : ℕ) (s : List ℕ) : Type 0 where
+    pub ends : WithBuffer b record { bytes = s; filled = true } closed r (finally σ r (template r s))
     pub silent : Silent (exchanges σ r (template r s))
 
-  pub downloaded : (r : Reader) → Legal σ ok r → (w : Bool) → r .plain .transfer ≡ opened w 0 → (s : List ℕ) → length s ≡ pageBytes → Downloads r w s
+  pub downloaded : (r : Reader) → Legal σ ok r → (w : Bool) → r .plain .transfer ≡ opened w 0 → (s : List ℕ) → length s ≡ 512 → Downloads r (number w) s
+  unfolding filledWith
   downloaded r l w e s m =
       let p : Plain = r .plain in
       let g : Guarded = r .guarded in
@@ -204,37 +197,32 @@ module _ (σ : Shape) (ok : σ .most ≤ 8 * σ .indexed) (room : ℕ → List �
       let now : Reader = reader (withTransfer (opened w 0) p) (withBuffer w (unfilled b) g) in
       let own : now ≡ r = ap₂ reader (transfer-own p (opened w 0) e) (buffer-own w g (moves .unfilled)) in
       let legal : Legal σ ok now = subst (Legal σ ok) (sym own) l in
-      let sent : ℕ → List Event = λ n. deliver room (packets (p .address) n (sizeOf (p .size)) s) in
+      let sent : ℕ → List Event = λ n. deliver lent (packets (p .address) n (sizeOf (p .size)) s) in
+      let last : finally σ r (template r s) ≡ reader (withTransfer closed p) (withBuffer w (filledWith s) g) =
+      ap (λ (x : Reader). finally σ x (template r s)) (sym own)
+      ∙ ap (λ (n : ℕ). finally σ now (sent n)) (z .count)
+      ∙ feeding p g w (k .typed .address) σ ok z lent f (z .more) 0 s b (omega (arith, z .whole)) (m ∙ sym (z .whole)) (buffer-long w g (k .buffers)) legal
+      in
       record {
-        ends =
-            ap (λ (x : Reader). finally σ x (template r s)) (sym own)
-            ∙ ap (λ (n : ℕ). finally σ now (sent n)) (z .count)
-            ∙ feeding p g w (k .typed .address) σ ok z room f (z .more) 0 s b (omega (arith, z .whole)) (m ∙ sym (z .whole)) (buffer-long w g (k .buffers)) legal;
+        ends = subst (WithBuffer (number w) (filledWith s) closed r) (sym last) (with-buffer w (filledWith s) closed r);
         silent =
             subst (λ (x : Reader). Silent (exchanges σ x (template r s))) own
             (rw (z .count)
-            (feeding-silent p g w (k .typed .address) σ ok z room f (z .more) 0 s b (omega (arith, z .whole)) (m ∙ sym (z .whole)) (buffer-long w g (k .buffers)) legal));
+            (feeding-silent p g w (k .typed .address) σ ok z lent f (z .more) 0 s b (omega (arith, z .whole)) (m ∙ sym (z .whole)) (buffer-long w g (k .buffers)) legal));
       }
 
-  -- DownChar of a buffer that there is, answered 00h, and then the data packets. An open transfer is ended first: `rested`
-  pub record Download (r : Reader) (b : ℕ) (d lent s : List ℕ) : Type 0 where
-    pub reply : replyOf (callOf σ r d lent .told) ≡ acknowledge (r .plain .address) done []
-    pub silent : Silent (exchanges σ (callOf σ r d lent .after) (template (callOf σ r d lent .after) s))
-    pub ends :
-        finally σ (callOf σ r d lent .after) (template (callOf σ r d lent .after) s)
-        ≡ reader (withTransfer closed (r .plain)) (withBuffer (second b) (filledWith s) (rested r .guarded))
+  -- so DownChar, answered 00h, and then the data packets
+  pub record Download (r : Reader) (b : ℕ) (d : List ℕ) (given : Lent) (s : List ℕ) : Type 0 where
+    pub opens : Leaves (acknowledge (rested r .plain .address) 0x00 []) (WithBuffer b blank (opened (eqb b 2) 0) (rested r)) d given (callOf σ r d given)
+    pub fills : Downloads (callOf σ r d given .after) b s
 
-  pub download : (r : Reader) → Legal σ ok r → locked (r .plain) ≡ false → (b : ℕ) → T (isBuffer b) → (d lent : List ℕ) → T (fitRoom lent)
-      → hear (r .plain .address) d ≡ order (command (barred (downChar b))) → (s : List ℕ) → length s ≡ pageBytes → Download r b d lent s
-  unfolding on carried replyOf carryAs follow rule apply withTransfer
-  download r l u b i d lent v h s m =
-      let w : Bool = second b in
-      let call = obeyed σ r d lent (l .legal) v u (downChar b) h (and-i (isBuffer b) true i tt) in
-      let t : Reader = apply (await w) (rested r) in
-      let e : callOf σ r d lent .after ≡ t = ap (λ (x : Ended). x .after) call in
-      let sent : Downloads t w s = downloaded t (subst (Legal σ ok) e (stays-legal σ ok r l (received d lent))) w refl s m in
+  pub download : (r : Reader) → Legal σ ok r → locked (r .plain) ≡ false → (b : ℕ) → Numbered b → (d : List ℕ) (given : Lent) → T (fitLent given)
+      → hear (r .plain .address) d ≡ order (command (barred (downChar b))) → (s : List ℕ) → length s ≡ 512 → Download r b d given s
+  unfolding on
+  download r l u b i d given v h s m =
+      let o = down-awaits σ ok r l u d given v b h i in
+      let t : Reader = callOf σ r d given .after in
       record {
-        reply = rw (call, take-lay) (ap (λ (a : List ℕ). acknowledge a done []) (spared r .address));
-        silent = rw e (sent .silent);
-        ends = rw e (sent .ends ∙ ap₂ reader (rested-closed r) (buffer-twice w emptied (filledWith s) (rested r .guarded)));
+        opens = o;
+        fills = subst (λ (n : ℕ). Downloads t n s) (number-is b i) (downloaded t (stays-legal σ ok r l (received d given)) (eqb b 2) (ap (λ (x : Plain). x .transfer) (o .after .settings)) s m);
       }

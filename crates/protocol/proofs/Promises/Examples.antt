@@ -16,7 +16,7 @@ use Rattle.protocol.specs.Commands.{commands, rowOf, orderAs, orderOf}
 use Rattle.protocol.specs.Data.{acknowledge, packets, dataPackets}
 use Rattle.protocol.specs.Table.{apply, isBuffer, inRange, withParameter, statusOf, rule, publicOf, freeRule}
 use Rattle.protocol.specs.Step.{Outcome, hearAs, hearAt, hear, silence, says, carryAs, carry, carryFree, obey, heed, ended, rested, fits, takeAs, takeIn, answer, stepOf, wiped, switched}
-use Rattle.protocol.specs.Call.{Ended, fitRoom, carried, callOf, core, fitLibrary, fitBuffers, fitLengths, fitPlain, fitTransfer, sound, legal}
+use Rattle.protocol.specs.Call.{Lent, Ended, fitLent, carried, callOf, core, fitLibrary, fitBuffers, fitLengths, fitPlain, fitTransfer, sound, legal}
 use Rattle.protocol.proofs.Laws.Lists.{take-lay, drop-lay}
 use Rattle.protocol.proofs.Laws.Answers.{call-legal}
 
@@ -27,17 +27,17 @@ pub record Example : Type 0 where
   pub outcome : Outcome
 
 -- no refusal, these bytes used, this reply at the front of the room and its length, the room behind it as it was, this reader after it
-pub record Shows (o : Outcome) (lent : List ℕ) (e : Ended) : Type 0 where
+pub record Shows (o : Outcome) (lent : Lent) (e : Ended) : Type 0 where
   pub refusal : e .told .refusal ≡ 0
   pub used : e .told .used ≡ o .used
   pub long : e .told .length ≡ length (o .reply)
   pub reply : take (length (o .reply)) (e .told .room) ≡ o .reply
-  pub behind : drop (length (o .reply)) (e .told .room) ≡ drop (length (o .reply)) lent
+  pub behind : drop (length (o .reply)) (e .told .room) ≡ drop (length (o .reply)) (lent .room)
   pub after : e .after ≡ o .after
 
 -- whatever the reply room
 abbrev pub Holds : Example → Type 0
-Holds x = (room : List ℕ) → T (fitRoom room) → Shows (x .outcome) room (callOf core (x .start) (x .run) room)
+Holds x = (lent : Lent) → T (fitLent lent) → Shows (x .outcome) lent (callOf core (x .start) (x .run) lent)
 
 abbrev pub All : List Example → Type 0
 All [] = Unit {0}
@@ -117,9 +117,9 @@ table =
 
 holds : (x : Example) → T (legal core (x .start)) → stepOf (x .start) (x .run) ≡ x .outcome → Holds x
 unfolding carried
-holds x t e room f =
-    rw (call-legal core (x .start) (x .run) room t f, e)
-    record { refusal = refl; used = refl; long = refl; reply = take-lay (x .outcome .reply) room; behind = drop-lay (x .outcome .reply) room; after = refl }
+holds x t e lent f =
+    rw (call-legal core (x .start) (x .run) lent t f, e)
+    record { refusal = refl; used = refl; long = refl; reply = take-lay (x .outcome .reply) (lent .room); behind = drop-lay (x .outcome .reply) (lent .room); after = refl }
 
 pub examples-hold : All table
 unfolding highestSize longest verdict within every countBelow two four wordAt total same lay follow joined sumOf packet isIdentifier limit accepts marksAt later startOf allBut findFrom findOf usedOf bit stored setBit clearBit clearBits setBits clearFrom capacity sizeOf keyed locked bufferOf emptied filledWith withMark withTransfer withPassword withAddress withTuning withLibrary withNotepad withBuffer fresh zeroed commands rowOf orderAs orderOf acknowledge packets dataPackets apply isBuffer inRange withParameter statusOf rule publicOf freeRule hearAs hearAt hear silence says carryAs carry carryFree obey heed ended rested fits takeAs takeIn answer stepOf wiped switched core fitLibrary fitBuffers fitLengths fitPlain fitTransfer sound legal fresh10 keyed10 stored09 stored0 toA p1 p8 yes00 gives table

@@ -7,7 +7,7 @@ use mathlib.Core.List.{List, foldr}
 use Prim.Native.Nat.{ℕ, suc, _+_, _-_, _*_, _%_, _≤_, _<_}
 use native.Mathlib.Numerals.{add-one}
 use native.Mathlib.Omega.{arith}
-use lib.Dec.{T, eqb, ltb, eqb→eq, ltb→lt}
+use lib.Dec.{T, eqb, ltb, eqb→eq}
 use borrow.Author.Tests.{ltb-true, ltb-false, eqb-true, eqb-false, lt-ltb, le-ltb, eq-eqb, ne-eqb}
 use lib.ListN.{length, getD, take, drop, length-take, length-drop}
 use Rattle.protocol.specs.declared.Start.{Start}
@@ -17,16 +17,19 @@ use Rattle.protocol.specs.declared.Found.the-variants.{Noise, Unfinished
 use Rattle.protocol.specs.Bytes.{two, byteAt, wordAt, total, same}
 use Rattle.protocol.specs.Packet.{sumOf, accepts, addressAt, lengthAt, rightAt}
 use Rattle.protocol.specs.Finder.{marksAt, startOf, allBut, findFrom, findOf, usedOf}
-use Rattle.protocol.specs.Reader.{Plain, Reader, sizeOf}
+use Rattle.protocol.specs.Reader.{Reader}
 use Rattle.protocol.specs.Commands.{orderOf}
-use Rattle.protocol.specs.Step.{Heard, nothing, order, piece, hearAs, hearAt, hear, silence, fits, answer, stepOf}
-use Rattle.protocol.specs.Call.{Shape, fitRoom, legal, carried, callOf}
-use Rattle.protocol.proofs.Laws.Logic.{T→true, and-l, and-r, eqb-same}
+use Rattle.protocol.specs.Step.{Heard, nothing, order, piece, hearAs, hearAt, hear, silence, answer, stepOf}
+use Rattle.protocol.specs.Call.{Shape, Lent, fitLent, legal, Ended, carried, callOf}
+use Rattle.protocol.proofs.Laws.Logic.{T→true, and-l, and-r}
 use Rattle.protocol.proofs.Laws.Finder.{FirstStart, start-first, start-nowhere, start-at, marks-in, found-at, heard-at}
 use Rattle.protocol.proofs.Laws.Lists.{total-added, same-refl, same-eq, same-no, lay-nothing}
 use Rattle.protocol.proofs.Laws.Answers.{call-legal}
 use Rattle.protocol.proofs.Promises.Packets.{Identifier, Accepted, accepts-means, refuses-other, parts}
-use Rattle.protocol.proofs.Promises.Silent.{silently}
+
+-- silent: so many bytes used, and nothing changes, not the reply room either
+abbrev pub silently : Reader → ℕ → Lent → Ended
+silently r n lent = record { told = record { refusal = 0; used = n; length = 0; room = lent .room }; after = r }
 
 -- EF followed by 01 at the place p
 pub record Marks (s : List ℕ) (p : ℕ) : Type 0 where
@@ -142,22 +145,22 @@ whole-at s p n e = go (findOf s) (usedOf (findOf s)) (finds s) e
 
 -- ---- a call
 
-module _ (σ : Shape) (r : Reader) (s room : List ℕ) (l : T (legal σ r)) (u : T (fitRoom room)) where
+module _ (σ : Shape) (r : Reader) (s : List ℕ) (lent : Lent) (l : T (legal σ r)) (u : T (fitLent lent)) where
   -- it uses so many bytes, whatever a whole packet says
-  pub uses : {f : Found} {n : ℕ} → Finds s f n → callOf σ r s room .told .used ≡ n
+  pub uses : {f : Found} {n : ℕ} → Finds s f n → callOf σ r s lent .told .used ≡ n
   unfolding carried stepOf
-  uses h = rw (call-legal σ r s room l u) (found h .1)
+  uses h = rw (call-legal σ r s lent l u) (found h .1)
 
-  -- without a whole packet it is silent: nothing changes, not the reply room either
-  pub silent-without : {f : Found} {n : ℕ} → Finds s f n → ((p m : ℕ) → f ≢ Whole p m) → callOf σ r s room ≡ silently r n room
+  -- without a whole packet it is silent
+  pub silent-without : {f : Found} {n : ℕ} → Finds s f n → ((p m : ℕ) → f ≢ Whole p m) → callOf σ r s lent ≡ silently r n lent
   unfolding carried stepOf answer silence hear hearAt
   silent-without {f} {n} h d =
-      rw (call-legal σ r s room l u, found h .1, found h .0) (go f d)
+      rw (call-legal σ r s lent l u, found h .1, found h .0) (go f d)
     where
-      go : (f : Found) → ((p m : ℕ) → f ≢ Whole p m) → carried record { used = n; reply = answer r (hearAt (r .plain .address) s f) .reply; after = answer r (hearAt (r .plain .address) s f) .after } room ≡ silently r n room
-      go (Noise k) d = ap (silently r n) (lay-nothing 0 room)
-      go (Unfinished k) d = ap (silently r n) (lay-nothing 0 room)
-      go (Unfit k) d = ap (silently r n) (lay-nothing 0 room)
+      go : (f : Found) → ((p m : ℕ) → f ≢ Whole p m) → carried record { used = n; reply = answer r (hearAt (r .plain .address) s f) .reply; after = answer r (hearAt (r .plain .address) s f) .after } (lent .room) ≡ silently r n lent
+      go (Noise k) d = ap (λ (x : List ℕ). record { told = record { refusal = 0; used = n; length = 0; room = x }; after = r }) (lay-nothing 0 (lent .room))
+      go (Unfinished k) d = ap (λ (x : List ℕ). record { told = record { refusal = 0; used = n; length = 0; room = x }; after = r }) (lay-nothing 0 (lent .room))
+      go (Unfit k) d = ap (λ (x : List ℕ). record { told = record { refusal = 0; used = n; length = 0; room = x }; after = r }) (lay-nothing 0 (lent .room))
       go (Whole p m) d = absurd (d p m refl)
 
 -- ---- the parts of a whole packet
@@ -234,20 +237,3 @@ hears a s = go (findOf s) refl
     go (Unfinished k) e = none (Unfinished k) e (λ p n q. let z : _≡_ {A = ℕ} 0 1 = cc in omega arith)
     go (Unfit k) e = none (Unfit k) e (λ p n q. let z : _≡_ {A = ℕ} 0 1 = cc in omega arith)
     go (Whole p n) e = let w : WholeAt s p n = whole-at s p n e in by p n w (same (addressAt s p) a) refl (w .accepted .identifier)
-
--- 7. a data packet goes in where the sum is right and the content exactly one size long, and with identifier 2 the total got stays below 512,
--- with 8 it becomes 512
-pub record Fits (p : Plain) (got : ℕ) (right : Bool) (content : List ℕ) : Type 0 where
-  pub more-fits : T (fits p got false right content) ↔ ((right ≡ true) × (length content ≡ sizeOf (p .size)) × (got + sizeOf (p .size) < 512))
-  pub last-fits : T (fits p got true right content) ↔ ((right ≡ true) × (length content ≡ sizeOf (p .size)) × (got + sizeOf (p .size) ≡ 512))
-
-pub fits-means : (p : Plain) (got : ℕ) (right : Bool) (content : List ℕ) → Fits p got right content
-unfolding fits
-fits-means p got right content =
-    let z : ℕ = sizeOf (p .size) in
-    record {
-      more-fits =
-          (λ t. (T→true right (search (and-l)), eqb→eq (length content) z (search (and-l, and-r)), ltb→lt (got + z) 512 (search (and-r))), λ h. rw (h .0, h .1, eqb-same z, lt-ltb (got + z) 512 (h .2)) tt);
-      last-fits =
-          (λ t. (T→true right (search (and-l)), eqb→eq (length content) z (search (and-l, and-r)), eqb→eq (got + z) 512 (search (and-r))), λ h. rw (h .0, h .1, eqb-same z, h .2) tt);
-    }

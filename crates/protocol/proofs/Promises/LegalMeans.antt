@@ -1,94 +1,225 @@
 -- What legal means, in plain numbers: document 01's "Lent memory and settings" and "Legal transfer".
-use mathlib.Core.Bool.{true, false}
-use mathlib.Core.Path.{_≡_}
-use Prim.Native.Nat.{ℕ, _*_, _≤_, _<_}
+use mathlib.Core.Bool.{Bool, true, false, true≢false}
+use mathlib.Core.Path.{_≡_, refl, sym, ap, _∙_}
+use mathlib.Core.Logic.{_⊎_, inl, inr, _↔_}
+use mathlib.Core.List.{List, [], _∷_}
+use Prim.Native.Nat.{ℕ, zero, suc, _*_, _/_, _%_, _^_, _≤_, _<_}
+use native.Mathlib.Omega.{arith}
+use native.Mathlib.Decide.{decLt}
 use lib.Dec.{T, leb→le, le→leb, ltb→lt, lt→ltb, lit≤}
-use lib.ListN.{length}
-use Rattle.protocol.specs.Numbers.{pageBytes, highestSize}
+use borrow.Author.Tests.{eqb-false}
+use lib.ListN.{length, getD, List·getD-eq-default}
+use Rattle.protocol.specs.Numbers.{highestSize}
+use Rattle.protocol.specs.Bytes.{four, same}
 use Rattle.protocol.specs.Tests.{within}
-use Rattle.protocol.specs.Index.{stored, bits}
-use Rattle.protocol.specs.Reader.{Transfer, closed, opened, unfit, Plain, Guarded, Reader, capacity, bufferOf}
-use Rattle.protocol.specs.Call.{Shape, core, fitBuffers, fitPlain, fitTransfer, sound, fitLengths, legal}
-use Rattle.protocol.proofs.Laws.Logic.{and-l, and-r, and-i, eq→eqb}
-use Rattle.protocol.proofs.Laws.Index.{clear-from, clear-to}
+use Rattle.protocol.specs.Index.{bit, stored, clearFrom}
+use Rattle.protocol.specs.Reader.{Transfer, closed, opened, unfit, Plain, Guarded, Reader, capacity, sizeOf, keyed, locked, bufferOf}
+use Rattle.protocol.specs.Records.{transferOf}
+use Rattle.protocol.specs.Call.{core, fitBuffers, fitPlain, fitTransfer, sound, fitLengths, legal}
+use Rattle.protocol.proofs.Laws.Logic.{and-l, and-r, and-i, and-false, eq→eqb}
+use Rattle.protocol.proofs.Laws.Lists.{same-refl, same-eq}
+use Rattle.protocol.proofs.Laws.Index.{bit-zero, clear-from, clear-to}
 use Rattle.protocol.proofs.Laws.Legal.{buffer-long, moving, Moving, fit-opened, Shelf, shelf, unshelf}
-
--- none, or a multiple of the size below 512, into a buffer whose filled mark is clear, of a reader that is not locked
-abbrev pub TransferMeans : Plain → Guarded → Transfer → Type 0
-TransferMeans p g closed = Unit {0}
-TransferMeans p g (opened w got) = Moving p g w got
-TransferMeans p g (unfit b k) = ⊥
-
-pub record Means (σ : Shape) (r : Reader) : Type 0 where
-  -- templates: 512 × C bytes, C from the least to the most
-  pub templates : length (r .guarded .templates) ≡ pageBytes * capacity (r .guarded)
-  pub least : σ .least ≤ capacity (r .guarded)
-  pub most : capacity (r .guarded) ≤ σ .most
-  -- index, notepad, both buffers
-  pub index : length (r .guarded .index) ≡ σ .indexed
-  pub notepad : length (r .guarded .notepad) ≡ σ .noted
-  pub buffer1 : length (r .guarded .buffer1 .bytes) ≡ 512
-  pub buffer2 : length (r .guarded .buffer2 .bytes) ≡ 512
-  -- level 1 to 5, size code 0 to 2, baud factor 1 to 12, sensor type any 16-bit number
-  pub level : (1 ≤ r .plain .level) × (r .plain .level ≤ 5)
-  pub size : r .plain .size ≤ highestSize
-  pub baud : (1 ≤ r .plain .baud) × (r .plain .baud ≤ 12)
-  pub sensor : r .plain .sensor < 65536
-  pub transfer : TransferMeans (r .plain) (r .guarded) (r .plain .transfer)
-  -- no index bit at or above C is set
-  pub clear : (q : ℕ) → capacity (r .guarded) ≤ q → q < bits (r .guarded .index) → stored (r .guarded .index) q ≡ false
-
-transfer-means : (p : Plain) (g : Guarded) (t : Transfer) → T (fitTransfer p g t) → TransferMeans p g t
-unfolding fitTransfer
-transfer-means p g closed f = tt
-transfer-means p g (opened w got) f = moving p g w got f
-transfer-means p g (unfit b k) f = absurd f
-
-transfer-fits : (p : Plain) (g : Guarded) (t : Transfer) → TransferMeans p g t → T (fitTransfer p g t)
-unfolding fitTransfer
-transfer-fits p g closed m = tt
-transfer-fits p g (opened w got) m = fit-opened p g w got (m .whole) (m .below) (m .unfilled) (m .free)
-transfer-fits p g (unfit b k) m = absurd m
-
-module _ (σ : Shape) (ok : σ .most ≤ 8 * σ .indexed) (r : Reader) where
-  pub legal-means : T (legal σ r) → Means σ r
-  unfolding legal fitLengths sound fitPlain within bufferOf
-  legal-means t =
-      let b : T (fitBuffers (r .guarded)) = search (and-l, and-r) in
-      let s : Shelf σ ok (r .guarded) = shelf σ ok (r .guarded) (search (and-l, and-r)) in
-      record {
-        templates = s .long;
-        least = s .low;
-        most = s .high;
-        index = s .wide;
-        notepad = s .notes;
-        buffer1 = buffer-long false (r .guarded) b;
-        buffer2 = buffer-long true (r .guarded) b;
-        level = (leb→le 1 (r .plain .level) (search (and-l, and-r) depth 9), leb→le (r .plain .level) 5 (search (and-l, and-r) depth 9));
-        size = leb→le (r .plain .size) highestSize (search (and-l, and-r) depth 9);
-        baud = (leb→le 1 (r .plain .baud) (search (and-l, and-r) depth 9), leb→le (r .plain .baud) 12 (search (and-l, and-r) depth 9));
-        sensor = ltb→lt (r .plain .sensor) 65536 (search (and-l, and-r) depth 9);
-        transfer = transfer-means (r .plain) (r .guarded) (r .plain .transfer) (search (and-l, and-r));
-        clear = clear-from (r .guarded .index) (capacity (r .guarded)) (search (and-r));
-      }
-
-  pub means-legal : Means σ r → T (legal σ r)
-  unfolding legal fitLengths sound fitPlain within fitBuffers
-  means-legal m =
-      let s = unshelf σ ok (r .guarded) record { long = m .templates; low = m .least; high = m .most; wide = m .index; notes = m .notepad } in
-      let b1 = eq→eqb (length (r .guarded .buffer1 .bytes)) 512 (m .buffer1) in
-      let b2 = eq→eqb (length (r .guarded .buffer2 .bytes)) 512 (m .buffer2) in
-      let l1 = le→leb 1 (r .plain .level) (m .level .0) in
-      let l2 = le→leb (r .plain .level) 5 (m .level .1) in
-      let z = le→leb (r .plain .size) highestSize (m .size) in
-      let d1 = le→leb 1 (r .plain .baud) (m .baud .0) in
-      let d2 = le→leb (r .plain .baud) 12 (m .baud .1) in
-      let k = lt→ltb (r .plain .sensor) 65536 (m .sensor) in
-      let t = transfer-fits (r .plain) (r .guarded) (r .plain .transfer) (m .transfer) in
-      let c = clear-to (r .guarded .index) (capacity (r .guarded)) (m .clear) in
-      search (and-i) depth 9
 
 -- document 01's own reader has a bit for every page
 pub core-holds : core .most ≤ 8 * core .indexed
 unfolding core
 core-holds = lit≤ tt
+
+-- "Templates: 512 × C bytes, C from 1 to 256." "Index: 32 bytes." "Notepad: 512 bytes." "Character buffers 1 and 2: 512 bytes each."
+pub record Lengths (g : Guarded) : Type 0 where
+  pub pages : ℕ
+  pub templates : length (g .templates) ≡ 512 * pages
+  pub least : 1 ≤ pages
+  pub most : pages ≤ 256
+  pub index : length (g .index) ≡ 32
+  pub notepad : length (g .notepad) ≡ 512
+  pub buffer1 : length (g .buffer1 .bytes) ≡ 512
+  pub buffer2 : length (g .buffer2 .bytes) ≡ 512
+
+-- "The bytes got are a multiple of the size and below 512; the buffer's filled mark is clear; the reader is not locked."
+pub record Into (p : Plain) (filled : Bool) (got : ℕ) : Type 0 where
+  pub size0 : p .size ≡ 0 → got % 32 ≡ 0
+  pub size1 : p .size ≡ 1 → got % 64 ≡ 0
+  pub size2 : p .size ≡ 2 → got % 128 ≡ 0
+  pub below : got < 512
+  pub clear : filled ≡ false
+  pub free : (p .password ≡ 0 ∷ 0 ∷ 0 ∷ 0 ∷ []) ⊎ (p .verified ≡ true)
+
+-- none, or into buffer 1 or 2
+abbrev pub LegalTransfer : Plain → Guarded → Transfer → Type 0
+LegalTransfer p g closed = Unit {0}
+LegalTransfer p g (opened false got) = Into p (g .buffer1 .filled) got
+LegalTransfer p g (opened true got) = Into p (g .buffer2 .filled) got
+LegalTransfer p g (unfit b k) = ⊥
+
+-- "security level 1 to 5; size code 0 to 2; baud factor 1 to 12; sensor type, any 16-bit number"; the transfer; and no index bit at or above C
+pub record Settled (r : Reader) : Type 0 where
+  pub level : (1 ≤ r .plain .level) × (r .plain .level ≤ 5)
+  pub size : r .plain .size ≤ 2
+  pub baud : (1 ≤ r .plain .baud) × (r .plain .baud ≤ 12)
+  pub sensor : r .plain .sensor < 65536
+  pub transfer : LegalTransfer (r .plain) (r .guarded) (r .plain .transfer)
+  -- page q is the bit of weight 2^(q mod 8) in byte q / 8
+  pub clear : (c q : ℕ) → length (r .guarded .templates) ≡ 512 * c → c ≤ q → getD (r .guarded .index) (q / 8) 0 / 2 ^ (q % 8) % 2 ≡ 0
+
+-- ---- the lent lengths
+
+-- the lengths that refusal 1 tests are these
+pub lengths-mean : (g : Guarded) → T (fitLengths core g) ↔ Lengths g
+unfolding core fitLengths fitBuffers bufferOf capacity
+lengths-mean g = (to, from)
+  where
+    to : T (fitLengths core g) → Lengths g
+    to t =
+        let b : T (fitBuffers g) = search (and-r) in
+        let s : Shelf core core-holds g = shelf core core-holds g (search (and-l)) in
+        record {
+          pages = capacity g;
+          templates = s .long;
+          least = s .low;
+          most = s .high;
+          index = s .wide;
+          notepad = s .notes;
+          buffer1 = buffer-long false g b;
+          buffer2 = buffer-long true g b;
+        }
+
+    from : Lengths g → T (fitLengths core g)
+    from m =
+        let c : capacity g ≡ m .pages = omega (arith, m .templates) in
+        let s = unshelf core core-holds g record { long = m .templates ∙ ap (λ (n : ℕ). 512 * n) (sym c); low = rw c (m .least); high = rw c (m .most); wide = m .index; notes = m .notepad } in
+        let b1 = eq→eqb (length (g .buffer1 .bytes)) 512 (m .buffer1) in
+        let b2 = eq→eqb (length (g .buffer2 .bytes)) 512 (m .buffer2) in
+        search (and-i)
+
+-- ---- the settings
+
+not-locked : (p : Plain) → (locked p ≡ false) ↔ ((p .password ≡ 0 ∷ 0 ∷ 0 ∷ 0 ∷ []) ⊎ (p .verified ≡ true))
+unfolding locked keyed four
+not-locked p = (go (same (p .password) (four 0)) (p .verified) refl refl, back)
+  where
+    go : (a b : Bool) → same (p .password) (four 0) ≡ a → p .verified ≡ b → locked p ≡ false → (p .password ≡ four 0) ⊎ (p .verified ≡ true)
+    go true b e f l = inl (same-eq (p .password) (four 0) e)
+    go false true e f l = inr f
+    go false false e f l = absurd (true≢false (rw (e, f) at l))
+
+    back : (p .password ≡ four 0) ⊎ (p .verified ≡ true) → locked p ≡ false
+    back (inl e) = rw (e, same-refl (four 0)) refl
+    back (inr f) = rw f (and-false (keyed p) false refl)
+
+into : (p : Plain) (g : Guarded) (w : Bool) (got : ℕ) → p .size ≤ 2 → T (fitTransfer p g (opened w got)) ↔ Into p (bufferOf w g .filled) got
+unfolding sizeOf
+into p g w got z = (to, from)
+  where
+    to : T (fitTransfer p g (opened w got)) → Into p (bufferOf w g .filled) got
+    to t =
+        let m : Moving p g w got = moving p g w got t in
+        record {
+          size0 = λ e. rw e at (m .whole);
+          size1 = λ e. rw e at (m .whole);
+          size2 = λ e. rw e at (m .whole);
+          below = m .below;
+          clear = m .unfilled;
+          free = not-locked p .0 (m .free);
+        }
+
+    whole : Into p (bufferOf w g .filled) got → (k : ℕ) → p .size ≡ k → k ≤ 2 → got % sizeOf k ≡ 0
+    whole m zero e l = m .size0 e
+    whole m (suc zero) e l = m .size1 e
+    whole m (suc (suc zero)) e l = m .size2 e
+    whole m (suc (suc (suc k))) e l = absurd (omega arith)
+
+    from : Into p (bufferOf w g .filled) got → T (fitTransfer p g (opened w got))
+    from m = fit-opened p g w got (whole m (p .size) refl z) (m .below) (m .clear) (not-locked p .1 (m .free))
+
+transfer-means : (p : Plain) (g : Guarded) → p .size ≤ 2 → (t : Transfer) → T (fitTransfer p g t) ↔ LegalTransfer p g t
+unfolding fitTransfer bufferOf
+transfer-means p g z closed = (λ t. tt, λ t. tt)
+transfer-means p g z (opened false got) = into p g false got z
+transfer-means p g z (opened true got) = into p g true got z
+transfer-means p g z (unfit b k) = (λ t. t, λ t. t)
+
+-- "transfer: none, or buffer 1 or 2 with the bytes got so far": two numbers of the settings record, and none is 0 and 0
+pub transfer-numbers : (p : Plain) (g : Guarded) (b got : ℕ) → LegalTransfer p g (transferOf b got)
+    ↔ (((b ≡ 0) × (got ≡ 0)) ⊎ ((b ≡ 1) × Into p (g .buffer1 .filled) got) ⊎ ((b ≡ 2) × Into p (g .buffer2 .filled) got))
+unfolding transferOf
+transfer-numbers p g b got = (to b got, from b got)
+  where
+    to : (b got : ℕ) → LegalTransfer p g (transferOf b got)
+        → ((b ≡ 0) × (got ≡ 0)) ⊎ ((b ≡ 1) × Into p (g .buffer1 .filled) got) ⊎ ((b ≡ 2) × Into p (g .buffer2 .filled) got)
+    to zero zero m = inl (refl, refl)
+    to zero (suc k) m = absurd m
+    to (suc zero) k m = inr (inl (refl, m))
+    to (suc (suc zero)) k m = inr (inr (refl, m))
+    to (suc (suc (suc b))) k m = absurd m
+
+    from : (b got : ℕ) → ((b ≡ 0) × (got ≡ 0)) ⊎ ((b ≡ 1) × Into p (g .buffer1 .filled) got) ⊎ ((b ≡ 2) × Into p (g .buffer2 .filled) got)
+        → LegalTransfer p g (transferOf b got)
+    from b got (inl (e, f)) = rw (e, f) tt
+    from b got (inr (inl (e, m))) = rw e m
+    from b got (inr (inr (e, m))) = rw e m
+
+bit-clear : (x : List ℕ) (q : ℕ) → (stored x q ≡ false) ↔ (getD x (q / 8) 0 / 2 ^ (q % 8) % 2 ≡ 0)
+unfolding stored bit
+bit-clear x q =
+    let n : ℕ = getD x (q / 8) 0 / 2 ^ (q % 8) in
+    (λ e. let d : n % 2 ≡ 1 → ⊥ = eqb-false (n % 2) 1 e in omega (arith, d), λ e. rw e refl)
+
+-- a byte behind the index counts as 0
+none-set : (x : List ℕ) (c : ℕ) → T (clearFrom x c) → (q : ℕ) → c ≤ q → stored x q ≡ false
+unfolding bit
+none-set x c t q l = go (decLt q (8 * length x))
+  where
+    go : Dec (q < 8 * length x) → stored x q ≡ false
+    go (yes h) = clear-from x c t q l h
+    go (no h) =
+        let h : length x ≤ q / 8 = omega arith in
+        bit-clear x q .1 (rw (List·getD-eq-default x 0 h) (bit-zero (q % 8)))
+
+-- what refusal 3 tests is this
+pub settings-mean : (r : Reader) → Lengths (r .guarded) → T (sound r) ↔ Settled r
+unfolding core sound fitPlain within highestSize capacity
+settings-mean r m = (to, from)
+  where
+    x : List ℕ
+    x = r .guarded .index
+
+    to : T (sound r) → Settled r
+    to t =
+        let z : r .plain .size ≤ 2 = leb→le (r .plain .size) 2 (search (and-l, and-r) depth 9) in
+        record {
+          level = (leb→le 1 (r .plain .level) (search (and-l, and-r) depth 9), leb→le (r .plain .level) 5 (search (and-l, and-r) depth 9));
+          size = z;
+          baud = (leb→le 1 (r .plain .baud) (search (and-l, and-r) depth 9), leb→le (r .plain .baud) 12 (search (and-l, and-r) depth 9));
+          sensor = ltb→lt (r .plain .sensor) 65536 (search (and-l, and-r) depth 9);
+          transfer = transfer-means (r .plain) (r .guarded) z (r .plain .transfer) .0 (search (and-l, and-r));
+          clear = λ c q e l. bit-clear x q .0 (none-set x (capacity (r .guarded)) (search (and-r)) q (omega arith));
+        }
+
+    from : Settled r → T (sound r)
+    from s =
+        let l1 = le→leb 1 (r .plain .level) (s .level .0) in
+        let l2 = le→leb (r .plain .level) 5 (s .level .1) in
+        let z = le→leb (r .plain .size) 2 (s .size) in
+        let d1 = le→leb 1 (r .plain .baud) (s .baud .0) in
+        let d2 = le→leb (r .plain .baud) 12 (s .baud .1) in
+        let k = lt→ltb (r .plain .sensor) 65536 (s .sensor) in
+        let t = transfer-means (r .plain) (r .guarded) (s .size) (r .plain .transfer) .1 (s .transfer) in
+        let c = clear-to x (capacity (r .guarded)) (λ q l h. bit-clear x q .1 (s .clear (capacity (r .guarded)) q (omega (arith, m .templates)) l)) in
+        search (and-i) depth 9
+
+-- ---- "Legal reader: one that gets none of refusals 1 to 3", both ways
+
+pub record Means (r : Reader) : Type 0 where
+  pub lengths : Lengths (r .guarded)
+  pub settings : Settled r
+
+module _ (r : Reader) where
+  pub legal-means : T (legal core r) → Means r
+  unfolding legal
+  legal-means t = let m : Lengths (r .guarded) = lengths-mean (r .guarded) .0 (search (and-l)) in record { lengths = m; settings = settings-mean r m .0 (search (and-r)) }
+
+  pub means-legal : Means r → T (legal core r)
+  unfolding legal
+  means-legal m = and-i (fitLengths core (r .guarded)) (sound r) (lengths-mean (r .guarded) .1 (m .lengths)) (settings-mean r (m .lengths) .1 (m .settings))

@@ -17,7 +17,7 @@ use Rattle.protocol.specs.Commands.{verifyPassword, handShake, free, bar
 use Rattle.protocol.specs.Data.{acknowledge}
 use Rattle.protocol.specs.Table.{freeRule, publicOf}
 use Rattle.protocol.specs.Step.{Heard, nothing, order, piece, hear, Said, silence, says, carryFree, obey, heed, ended, rested, takeIn, answer, stepOf, wiped}
-use Rattle.protocol.specs.Call.{Shape, fitRoom, fitPlain, sound, legal, Told, Ended, replyOf, refused, carried, callOf}
+use Rattle.protocol.specs.Call.{Shape, Lent, fitLent, fitPlain, sound, legal, Told, Ended, replyOf, refused, carried, callOf}
 use Rattle.protocol.specs.Dialogue.{Event, received, switch, on, Dialogue, over, first, dialogue, kept}
 use Rattle.protocol.proofs.Laws.Logic.{T→true, and-l, and-r, and-i}
 use Rattle.protocol.proofs.Laws.Lists.{take-lay}
@@ -32,9 +32,9 @@ abbrev pub mark : Bool → Reader → Reader
 mark b r = reader (withMark b (r .plain)) (r .guarded)
 
 -- the call answered 21h and changed nothing but the front of the reply room
-pub record Bars (r : Reader) (lent : List ℕ) (e : Ended) : Type 0 where
+pub record Bars (r : Reader) (lent : Lent) (e : Ended) : Type 0 where
   pub reply : replyOf (e .told) ≡ acknowledge (r .plain .address) passwordFirst []
-  pub room : e .told .room ≡ lay 0 (acknowledge (r .plain .address) passwordFirst []) lent
+  pub room : e .told .room ≡ lay 0 (acknowledge (r .plain .address) passwordFirst []) (lent .room)
   pub after : e .after ≡ r
 
 -- both calls got back the same, and end alike but for the mark
@@ -43,7 +43,7 @@ pub record Alike (l u : Ended) : Type 0 where
   pub after : (b : Bool) → mark b (l .after) ≡ mark b (u .after)
 
 -- the locked reader's call l beside its verified copy's u
-pub record FirstHalf (r : Reader) (lent : List ℕ) (l u : Ended) : Type 0 where
+pub record FirstHalf (r : Reader) (lent : Lent) (l u : Ended) : Type 0 where
   pub refusal : l .told .refusal ≡ u .told .refusal
   pub used : l .told .used ≡ u .told .used
   pub answers : Bars r lent l ⊎ Alike l u
@@ -81,11 +81,11 @@ module _ (r : Reader) (key : T (keyed (r .plain))) (z : r .plain .transfer ≡ c
       let m = fit-closed (withMark b (r .plain)) (r .guarded) (r .plain .transfer) z in
       search (and-i, and-l, and-r) depth 9
 
-  module _ (σ : Shape) (f : T (legal σ r)) (s room : List ℕ) where
+  module _ (σ : Shape) (f : T (legal σ r)) (s : List ℕ) (lent : Lent) where
     -- both carried out
     fit-half : (a b : Said) → Beside r a b
-        → FirstHalf (mark false r) room (carried record { used = usedOf (findOf s); reply = a .reply; after = a .after } room)
-        (carried record { used = usedOf (findOf s); reply = b .reply; after = b .after } room)
+        → FirstHalf (mark false r) lent (carried record { used = usedOf (findOf s); reply = a .reply; after = a .after } (lent .room))
+        (carried record { used = usedOf (findOf s); reply = b .reply; after = b .after } (lent .room))
     unfolding carried replyOf says withMark
     fit-half a b (barring e) =
         record {
@@ -93,8 +93,8 @@ module _ (r : Reader) (key : T (keyed (r .plain))) (z : r .plain .transfer ≡ c
           used = refl;
           answers =
               inl record {
-                reply = ap (λ (x : Said). replyOf (carried record { used = usedOf (findOf s); reply = x .reply; after = x .after } room .told)) e ∙ take-lay (acknowledge (r .plain .address) passwordFirst []) room;
-                room = ap (λ (x : Said). lay 0 (x .reply) room) e;
+                reply = ap (λ (x : Said). replyOf (carried record { used = usedOf (findOf s); reply = x .reply; after = x .after } (lent .room) .told)) e ∙ take-lay (acknowledge (r .plain .address) passwordFirst []) (lent .room);
+                room = ap (λ (x : Said). lay 0 (x .reply) (lent .room)) e;
                 after = ap (λ (x : Said). x .after) e;
               };
         }
@@ -102,20 +102,20 @@ module _ (r : Reader) (key : T (keyed (r .plain))) (z : r .plain .transfer ≡ c
         record {
           refusal = refl;
           used = refl;
-          answers = inr record { told = ap (λ (x : List ℕ). carried record { used = usedOf (findOf s); reply = x; after = r } room .told) e; after = k };
+          answers = inr record { told = ap (λ (x : List ℕ). carried record { used = usedOf (findOf s); reply = x; after = r } (lent .room) .told) e; after = k };
         }
 
-    pub first-half : FirstHalf (mark false r) room (callOf σ (mark false r) s room) (callOf σ (mark true r) s room)
+    pub first-half : FirstHalf (mark false r) lent (callOf σ (mark false r) s lent) (callOf σ (mark true r) s lent)
     unfolding refused stepOf withMark
-    first-half = go (fitRoom room) refl
+    first-half = go (fitLent lent) refl
       where
-        go : (b : Bool) → fitRoom room ≡ b → FirstHalf (mark false r) room (callOf σ (mark false r) s room) (callOf σ (mark true r) s room)
+        go : (b : Bool) → fitLent lent ≡ b → FirstHalf (mark false r) lent (callOf σ (mark false r) s lent) (callOf σ (mark true r) s lent)
         go true e =
-            let t : T (fitRoom room) = rw e tt in
-            rw (call-legal σ (mark false r) s room (marked-legal σ false f) t, call-legal σ (mark true r) s room (marked-legal σ true f) t)
+            let t : T (fitLent lent) = rw e tt in
+            rw (call-legal σ (mark false r) s lent (marked-legal σ false f) t, call-legal σ (mark true r) s lent (marked-legal σ true f) t)
             (fit-half (answer (mark false r) (hear (r .plain .address) s)) (answer (mark true r) (hear (r .plain .address) s)) (beside (hear (r .plain .address) s)))
         go false e =
-            rw (call-short σ (mark false r) s room (marked-legal σ false f) e, call-short σ (mark true r) s room (marked-legal σ true f) e)
+            rw (call-short σ (mark false r) s lent (marked-legal σ false f) e, call-short σ (mark true r) s lent (marked-legal σ true f) e)
             record { refusal = refl; used = refl; answers = inr record { told = refl; after = λ b. refl } }
 
 -- ---- the second half
@@ -136,26 +136,26 @@ module _ (σ : Shape) (p : Plain) (l : T (locked p)) where
       → Blind g h (dialogue σ (reader p g) es) (dialogue σ (reader p h) es)
   unfolding dialogue on over first kept publicOf wiped capacity
   blind [] g h f k v = record { events = refl; told = refl; settings = refl; kept-one = refl; kept-other = refl }
-  blind (received s room ∷ es) g h f k v =
-      rw (locked-call σ (reader p g) f l s room, locked-call σ (reader p h) k l s room, ← v) (go (q .verified) refl (blind es g h f k v))
+  blind (received s lent ∷ es) g h f k v =
+      rw (locked-call σ (reader p g) f l s lent, locked-call σ (reader p h) k l s lent, ← v) (go (q .verified) refl (blind es g h f k v))
     where
       q : Plain
-      q = plainBy (publicOf (reader p g)) s room
+      q = plainBy (publicOf (reader p g)) s lent
 
       t : Told
-      t = toldBy (publicOf (reader p g)) s room
+      t = toldBy (publicOf (reader p g)) s lent
 
       rest : Bool → Plain → Guarded → Dialogue
       rest b x y = cond b (over (reader x y)) (dialogue σ (reader x y) es)
 
       go : (b : Bool) → q .verified ≡ b → Blind g h (dialogue σ (reader p g) es) (dialogue σ (reader p h) es)
-          → Blind g h (first (received s room) t (rest b q g)) (first (received s room) t (rest b q h))
+          → Blind g h (first (received s lent) t (rest b q g)) (first (received s lent) t (rest b q h))
       go true e i = record { events = refl; told = refl; settings = refl; kept-one = refl; kept-other = refl }
       go false e i =
-          subst (λ (x : Plain). Blind g h (first (received s room) t (rest false x g)) (first (received s room) t (rest false x h)))
-          (sym (plain-or (publicOf (reader p g)) (unverified g f) s room e))
+          subst (λ (x : Plain). Blind g h (first (received s lent) t (rest false x g)) (first (received s lent) t (rest false x h)))
+          (sym (plain-or (publicOf (reader p g)) (unverified g f) s lent e))
           record {
-            events = ap (λ (x : List Event). received s room ∷ x) (i .events);
+            events = ap (λ (x : List Event). received s lent ∷ x) (i .events);
             told = ap (λ (x : List Told). t ∷ x) (i .told);
             settings = i .settings;
             kept-one = i .kept-one;

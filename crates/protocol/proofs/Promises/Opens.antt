@@ -2,6 +2,7 @@
 -- at the first accepted password.
 use mathlib.Core.Bool.{Bool, true, false, true≢false, _&&_, cond}
 use mathlib.Core.Path.{_≡_, refl, sym, ap, _∙_, subst}
+use mathlib.Core.Logic.{_≢_}
 use mathlib.Core.List.{List, [], _∷_, _++_}
 use Prim.Native.Nat.{ℕ}
 use lib.Dec.{T}
@@ -11,54 +12,57 @@ use Rattle.protocol.specs.Reader.{Plain, Guarded, Reader, keyed, locked,
 use Rattle.protocol.specs.Commands.{verifyPassword, handShake, free, barred, damaged, unknown, misfit, command}
 use Rattle.protocol.specs.Data.{acknowledge}
 use Rattle.protocol.specs.Table.{freeRule, publicOf}
-use Rattle.protocol.specs.Step.{Heard, nothing, order, piece, hear, carryFree, obey, heed, rested, answer, stepOf, wiped}
-use Rattle.protocol.specs.Call.{Shape, fitRoom, legal, Told, Ended, replyOf, carried, callOf, switchOf}
+use Rattle.protocol.specs.Step.{Heard, nothing, order, piece, hear, carryFree, obey, heed, rested, answer, wiped}
+use Rattle.protocol.specs.Call.{Shape, Lent, fitLent, legal, Told, Ended, replyOf, callOf, switchOf}
 use Rattle.protocol.specs.Dialogue.{Event, received, switch, on, Dialogue, over, first, dialogue, kept}
 use Rattle.protocol.proofs.Laws.Logic.{T→true, and-l, and-i}
-use Rattle.protocol.proofs.Laws.Lists.{take-lay, same-eq, same-refl}
-use Rattle.protocol.proofs.Laws.Answers.{spared, call-legal}
+use Rattle.protocol.proofs.Laws.Lists.{take-lay, same-eq, same-refl, same-no}
+use Rattle.protocol.proofs.Promises.Told.{Gives, answered}
 use Rattle.protocol.proofs.Laws.Locked.{tells, turns, toldBy, plainBy, shut-of, locked-call, plain-or, locked-switch, wiped-legal}
 
--- ---- VfyPwd, locked or not
+-- ---- VfyPwd and HandShake, locked or not
 
--- the reply, and the mark after it; all else as it was
-pub record Verifies (r : Reader) (code : ℕ) (mark : Bool) (e : Ended) : Type 0 where
-  pub reply : replyOf (e .told) ≡ acknowledge (r .plain .address) code []
-  pub after : e .after ≡ reader (withMark mark (rested r .plain)) (rested r .guarded)
+-- p and g: settings and contents of the reader once an open transfer has ended
+module _ (σ : Shape) (r : Reader) (s : List ℕ) (lent : Lent) (f : T (legal σ r)) (u : T (fitLent lent)) where
+  abbrev p : Plain
+  p = rested r .plain
 
-module _ (σ : Shape) (r : Reader) (s room : List ℕ) (f : T (legal σ r)) (u : T (fitRoom room)) (w : List ℕ)
-    (h : hear (r .plain .address) s ≡ order (command (free (verifyPassword w)))) where
-  verified : (b : Bool) → same w (rested r .plain .password) ≡ b → Verifies r (cond b done wrongPassword) b (callOf σ r s room)
-  unfolding carried replyOf stepOf answer heed obey carryFree freeRule publicOf withMark
-  verified b e =
-      rw (call-legal σ r s room f u, h, e)
-      record { reply = take-lay (acknowledge (rested r .plain .address) (cond b done wrongPassword) []) room ∙ ap (λ (a : List ℕ). acknowledge a (cond b done wrongPassword) []) (spared r .address); after = refl }
+  abbrev g : Guarded
+  g = rested r .guarded
+
+  -- the call gave a code alone, and left the settings with this mark and all else as it was
+  abbrev pub Marks : ℕ → Bool → Type 0
+  Marks code mark =
+      Gives (acknowledge (p .address) code [])
+      record {
+        plain = record { password = p .password; address = p .address; level = p .level; size = p .size; baud = p .baud; sensor = p .sensor; verified = mark; transfer = p .transfer };
+        guarded = g;
+      }
+      s lent (callOf σ r s lent)
+
+  verified : (w : List ℕ) → hear (r .plain .address) s ≡ order (command (free (verifyPassword w))) → (b : Bool) → same w (p .password) ≡ b → Marks (cond b 0x00 0x13) b
+  unfolding answer heed obey carryFree freeRule publicOf withMark
+  verified w h b e = answered σ r s lent f u _ (rw (h, e) refl)
 
   -- equal: 00h, the mark set
-  pub right-password : w ≡ rested r .plain .password → Verifies r done true (callOf σ r s room)
-  right-password e = verified true (ap (λ (x : List ℕ). same x (rested r .plain .password)) e ∙ same-refl (rested r .plain .password))
+  pub right-password : (w : List ℕ) → hear (r .plain .address) s ≡ order (command (free (verifyPassword w))) → w ≡ p .password → Marks 0x00 true
+  right-password w h e = verified w h true (ap (λ (x : List ℕ). same x (p .password)) e ∙ same-refl (p .password))
 
-  -- differs: 13h, the mark cleared
-  pub wrong-password : same w (rested r .plain .password) ≡ false → Verifies r wrongPassword false (callOf σ r s room)
-  wrong-password e = verified false e
+  -- same-nos: 13h, the mark cleared
+  pub wrong-password : (w : List ℕ) → hear (r .plain .address) s ≡ order (command (free (verifyPassword w))) → w ≢ p .password → Marks 0x13 false
+  wrong-password w h d = verified w h false (same-no w (p .password) d)
 
--- HandShake, locked or not: 00h; nothing changes but that an open transfer is ended
-pub record Greets (r : Reader) (e : Ended) : Type 0 where
-  pub reply : replyOf (e .told) ≡ acknowledge (r .plain .address) done []
-  pub after : e .after ≡ rested r
-
-pub shakes-hands : (σ : Shape) (r : Reader) (s room : List ℕ) → T (legal σ r) → T (fitRoom room) → hear (r .plain .address) s ≡ order (command (free handShake)) → Greets r (callOf σ r s room)
-unfolding carried replyOf stepOf answer heed obey carryFree freeRule publicOf
-shakes-hands σ r s room f u h =
-    rw (call-legal σ r s room f u, h)
-    record { reply = take-lay (acknowledge (rested r .plain .address) done []) room ∙ ap (λ (a : List ℕ). acknowledge a done []) (spared r .address); after = refl }
+  -- HandShake: 00h; nothing changes
+  pub shakes-hands : hear (r .plain .address) s ≡ order (command (free handShake)) → Gives (acknowledge (p .address) 0x00 []) (rested r) s lent (callOf σ r s lent)
+  unfolding answer heed obey carryFree freeRule publicOf
+  shakes-hands h = answered σ r s lent f u _ (rw h refl)
 
 -- ---- nothing else opens a locked reader
 
 -- the run asked for VfyPwd with the reader's password, and was answered 00h
 pub record Accepted (r : Reader) (s : List ℕ) (e : Ended) : Type 0 where
   pub asked : hear (r .plain .address) s ≡ order (command (free (verifyPassword (r .plain .password))))
-  pub reply : replyOf (e .told) ≡ acknowledge (r .plain .address) done []
+  pub reply : replyOf (e .told) ≡ acknowledge (r .plain .address) 0x00 []
 
 keyed-locked : (p : Plain) → T (locked p) → T (keyed p)
 unfolding locked
@@ -78,7 +82,7 @@ unlocked-marked p e = rw e (go (keyed p))
     go true = refl
     go false = refl
 
-module _ (σ : Shape) (r : Reader) (f : T (legal σ r)) (l : T (locked (r .plain))) (s room : List ℕ) where
+module _ (σ : Shape) (r : Reader) (f : T (legal σ r)) (l : T (locked (r .plain))) (s : List ℕ) (lent : Lent) where
   -- the settings as they were do not open
   shut : {A : Type 0} → locked (r .plain) ≡ false → A
   shut e = absurd (true≢false (sym (T→true (locked (r .plain)) l) ∙ e))
@@ -97,17 +101,17 @@ module _ (σ : Shape) (r : Reader) (f : T (legal σ r)) (l : T (locked (r .plain
   heard-right (order (command (barred c))) e = shut e
   heard-right (piece last right content) e = shut e
 
-  pub opens-only : locked (callOf σ r s room .after .plain) ≡ false → Accepted r s (callOf σ r s room)
+  pub opens-only : locked (callOf σ r s lent .after .plain) ≡ false → Accepted r s (callOf σ r s lent)
   unfolding plainBy toldBy replyOf publicOf
-  opens-only = rw (locked-call σ r f l s room) (go (fitRoom room) refl)
+  opens-only = rw (locked-call σ r f l s lent) (go (fitLent lent) refl)
     where
-      go : (b : Bool) → fitRoom room ≡ b → locked (plainBy (publicOf r) s room) ≡ false
-          → Accepted r s record { told = toldBy (publicOf r) s room; after = reader (plainBy (publicOf r) s room) (r .guarded) }
+      go : (b : Bool) → fitLent lent ≡ b → locked (plainBy (publicOf r) s lent) ≡ false
+          → Accepted r s record { told = toldBy (publicOf r) s lent; after = reader (plainBy (publicOf r) s lent) (r .guarded) }
       go true q =
           rw q
           (λ e.
           let h = heard-right (hear (r .plain .address) s) e in
-          record { asked = h .0; reply = take-lay (tells (publicOf r) (hear (r .plain .address) s)) room ∙ h .1 })
+          record { asked = h .0; reply = take-lay (tells (publicOf r) (hear (r .plain .address) s)) (lent .room) ∙ h .1 })
       go false q = rw q (λ e. shut e)
 
   -- a line switch opens nothing
@@ -119,36 +123,36 @@ module _ (σ : Shape) (r : Reader) (f : T (legal σ r)) (l : T (locked (r .plain
 -- it goes through every event, settings as they were; or some events, and then the first accepted password
 pub data Course (σ : Shape) (p : Plain) (g : Guarded) (es : List Event) (d : Dialogue) : Type 0 where
   through : d .events ≡ es → d .last ≡ reader p (kept g es) → Course σ p g es d
-  stops : (before : List Event) (s room : List ℕ) (rest : List Event) → es ≡ before ++ (received s room ∷ rest)
-      → d .events ≡ before ++ (received s room ∷ []) → Accepted (reader p (kept g before)) s (callOf σ (reader p (kept g before)) s room) → Course σ p g es d
+  stops : (before : List Event) (s : List ℕ) (lent : Lent) (rest : List Event) → es ≡ before ++ (received s lent ∷ rest)
+      → d .events ≡ before ++ (received s lent ∷ []) → Accepted (reader p (kept g before)) s (callOf σ (reader p (kept g before)) s lent) → Course σ p g es d
 
 module _ (σ : Shape) (p : Plain) (l : T (locked p)) where
   pub course : (es : List Event) (g : Guarded) → T (legal σ (reader p g)) → Course σ p g es (dialogue σ (reader p g) es)
   unfolding dialogue on over first kept publicOf
   course [] g f = through refl refl
-  course (received s room ∷ es) g f = go (q .verified) refl (course es g f)
+  course (received s lent ∷ es) g f = go (q .verified) refl (course es g f)
     where
       q : Plain
-      q = plainBy (publicOf (reader p g)) s room
+      q = plainBy (publicOf (reader p g)) s lent
 
-      e : callOf σ (reader p g) s room ≡ record { told = toldBy (publicOf (reader p g)) s room; after = reader q g }
-      e = locked-call σ (reader p g) f l s room
+      e : callOf σ (reader p g) s lent ≡ record { told = toldBy (publicOf (reader p g)) s lent; after = reader q g }
+      e = locked-call σ (reader p g) f l s lent
 
       d : Bool → Plain → Dialogue
-      d b x = first (received s room) (toldBy (publicOf (reader p g)) s room) (cond b (over (reader x g)) (dialogue σ (reader x g) es))
+      d b x = first (received s lent) (toldBy (publicOf (reader p g)) s lent) (cond b (over (reader x g)) (dialogue σ (reader x g) es))
 
-      on-with : Course σ p g es (dialogue σ (reader p g) es) → Course σ p g (received s room ∷ es) (d false p)
-      on-with (through a b) = through (ap (λ (x : List Event). received s room ∷ x) a) b
+      on-with : Course σ p g es (dialogue σ (reader p g) es) → Course σ p g (received s lent ∷ es) (d false p)
+      on-with (through a b) = through (ap (λ (x : List Event). received s lent ∷ x) a) b
       on-with (stops before t y rest a b c) =
-          stops (received s room ∷ before) t y rest (ap (λ (x : List Event). received s room ∷ x) a) (ap (λ (x : List Event). received s room ∷ x) b) c
+          stops (received s lent ∷ before) t y rest (ap (λ (x : List Event). received s lent ∷ x) a) (ap (λ (x : List Event). received s lent ∷ x) b) c
 
-      go : (b : Bool) → q .verified ≡ b → Course σ p g es (dialogue σ (reader p g) es) → Course σ p g (received s room ∷ es) (dialogue σ (reader p g) (received s room ∷ es))
+      go : (b : Bool) → q .verified ≡ b → Course σ p g es (dialogue σ (reader p g) es) → Course σ p g (received s lent ∷ es) (dialogue σ (reader p g) (received s lent ∷ es))
       go true v i =
-          stops [] s room es refl (rw (e, v) refl) (opens-only σ (reader p g) f l s room (ap (λ (x : Ended). locked (x .after .plain)) e ∙ unlocked-marked q v))
+          stops [] s lent es refl (rw (e, v) refl) (opens-only σ (reader p g) f l s lent (ap (λ (x : Ended). locked (x .after .plain)) e ∙ unlocked-marked q v))
       go false v i =
-          let same-plain : q ≡ p = plain-or (publicOf (reader p g)) (shut-of σ (reader p g) f l .unverified) s room v in
-          let here : dialogue σ (reader p g) (received s room ∷ es) ≡ d (q .verified) q = ap (λ (x : Ended). first (received s room) (x .told) (cond (x .after .plain .verified) (over (x .after)) (dialogue σ (x .after) es))) e in
-          subst (Course σ p g (received s room ∷ es)) (sym (here ∙ ap (λ (b : Bool). d b q) v ∙ ap (d false) same-plain)) (on-with i)
+          let same-plain : q ≡ p = plain-or (publicOf (reader p g)) (shut-of σ (reader p g) f l .unverified) s lent v in
+          let here : dialogue σ (reader p g) (received s lent ∷ es) ≡ d (q .verified) q = ap (λ (x : Ended). first (received s lent) (x .told) (cond (x .after .plain .verified) (over (x .after)) (dialogue σ (x .after) es))) e in
+          subst (Course σ p g (received s lent ∷ es)) (sym (here ∙ ap (λ (b : Bool). d b q) v ∙ ap (d false) same-plain)) (on-with i)
   course (switch ∷ es) g f = subst (Course σ p g (switch ∷ es)) (sym (here ∙ ap d (shut-of σ (reader p g) f l .unverified))) (on-with (course es (wiped g) (wiped-legal σ (reader p g) f l)))
     where
       quiet : Told

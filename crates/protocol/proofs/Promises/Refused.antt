@@ -1,84 +1,141 @@
 -- Demand 1: "Unfit memory, settings or packet parts get refusal 1, 2, 3 or 4 as document 01 says; no reply is written and no byte changes."
--- When each refusal comes, in which order, and what a refused call leaves.
-use mathlib.Core.Bool.{false}
+-- Document 01's "Numbers a caller gets back", each as a table of lines: the first that does not hold gives its number, and where all hold the
+-- call is carried out.
+use mathlib.Core.Bool.{Bool, true, false}
 use mathlib.Core.Path.{_≡_, refl}
-use mathlib.Core.Logic.{_≢_}
-use mathlib.Core.List.{List, []}
-use Prim.Native.Nat.{ℕ, zero, suc, _+_}
+use mathlib.Core.Logic.{_⊎_, inl, inr, _↔_}
+use mathlib.Core.List.{List, [], _∷_}
+use Prim.Native.Nat.{ℕ, zero, suc, _+_, _≤_}
 use native.Mathlib.Omega.{arith}
-use lib.Dec.{T, leb}
-use lib.ListN.{length}
-use Rattle.protocol.specs.Numbers.{frameBytes, badLength, badRoom, badSetting, badContent}
-use Rattle.protocol.specs.Tests.{verdict}
-use Rattle.protocol.specs.Packet.{lengthOf, packet, accepts, buildRefusal, buildAs, buildOf}
+use lib.Dec.{T, eqb, leb, leb→le, le→leb, eqb→eq}
+use borrow.Author.Tests.{eqb-true}
+use lib.ListN.{length, drop}
+use Rattle.protocol.specs.Numbers.{longest}
+use Rattle.protocol.specs.Packet.{lengthOf, packet, isIdentifier, accepts, Made, buildRefusal, buildAs, buildOf}
 use Rattle.protocol.specs.Reader.{Reader}
-use Rattle.protocol.specs.Call.{Shape, fitLengths, fitBuffers, fitRoom, sound, legal, Ended, refusalOf, refused, carried, callAs, callOf, switchRefusal, switchAs, switchOf}
-use Rattle.protocol.proofs.Laws.Logic.{T→true}
+use Rattle.protocol.specs.Call.{core, Lent, fitLent, fitLengths, fitBuffers, fitRoom, sound, Ended, refusalOf, refused, carried, callAs, callOf, switchRefusal, switchAs, switchOf}
+use Rattle.protocol.proofs.Laws.Logic.{and-l, and-r}
+use Rattle.protocol.proofs.Laws.Lines.{Line, unless, Follows, follows}
+use Rattle.protocol.proofs.Laws.Lists.{drop-lay}
+use Rattle.protocol.proofs.Laws.Finder.{length-packet, accepts-least, accepts-most, accepts-of}
 use Rattle.protocol.proofs.Laws.Answers.{call-kinds}
+use Rattle.protocol.proofs.Promises.LegalMeans.{Lengths, Settled, lengths-mean, settings-mean, Means, legal-means}
 
--- ---- a call: 1, then 2, then 3
+-- ---- a call
 
-module _ (σ : Shape) (r : Reader) (s room : List ℕ) where
-  pub refuses-lengths : fitLengths σ (r .guarded) ≡ false → callOf σ r s room ≡ refused badLength r room
-  unfolding callOf callAs refusalOf verdict
-  refuses-lengths a = rw a refl
-
-  pub refuses-room : T (fitLengths σ (r .guarded)) → fitRoom room ≡ false → callOf σ r s room ≡ refused badRoom r room
-  unfolding callOf callAs refusalOf verdict
-  refuses-room a b = rw (T→true (fitLengths σ (r .guarded)) a, b) refl
-
-  pub refuses-settings : T (fitLengths σ (r .guarded)) → T (fitRoom room) → sound r ≡ false → callOf σ r s room ≡ refused badSetting r room
-  unfolding callOf callAs refusalOf verdict
-  refuses-settings a b c = rw (T→true (fitLengths σ (r .guarded)) a, T→true (fitRoom room) b, c) refl
-
-  -- and otherwise none
-  pub refuses-only : callOf σ r s room .told .refusal ≡ 0 → T (legal σ r) × T (fitRoom room)
-  unfolding refused
-  refuses-only = call-kinds σ r s room (λ (e : Ended). e .told .refusal ≡ 0 → T (legal σ r) × T (fitRoom room)) (λ n e. absurd (omega arith)) (λ t u e. (t, u))
-
--- ---- the line switch: 1 alone
-
-pub switch-refuses : (r : Reader) → fitBuffers (r .guarded) ≡ false → switchOf r ≡ refused badLength r []
-unfolding switchOf switchAs switchRefusal verdict
-switch-refuses r a = rw a refl
-
--- ---- the builder: 4, then 2
-
-module _ (a : List ℕ) (i : ℕ) (c room : List ℕ) where
-  pub build-refuses-content : accepts i (lengthOf c) ≡ false → buildOf a i c room ≡ record { refusal = badContent; length = 0; room = room }
-  unfolding buildOf buildAs buildRefusal verdict
-  build-refuses-content e = rw e refl
-
-  pub build-refuses-room : T (accepts i (lengthOf c)) → leb (length c + frameBytes) (length room) ≡ false → buildOf a i c room ≡ record { refusal = badRoom; length = 0; room = room }
-  unfolding buildOf buildAs buildRefusal verdict
-  build-refuses-room t e = rw (T→true (accepts i (lengthOf c)) t, e) refl
-
--- ---- a refused call: 0 bytes used, reply length 0; settings and memory unchanged, the reply room too
-
-pub record Unchanged (r : Reader) (lent : List ℕ) (e : Ended) : Type 0 where
+-- the refusal or 0; 0 bytes used, reply length 0, and the reply room as it was lent
+pub record Unused (lent : List ℕ) (e : Ended) (n : ℕ) : Type 0 where
+  pub refusal : e .told .refusal ≡ n
   pub used : e .told .used ≡ 0
   pub length : e .told .length ≡ 0
   pub room : e .told .room ≡ lent
-  pub after : e .after ≡ r
 
-pub refused-call : (σ : Shape) (r : Reader) (s room : List ℕ) → callOf σ r s room .told .refusal ≢ 0 → Unchanged r room (callOf σ r s room)
-unfolding refused carried
-refused-call σ r s room =
-    call-kinds σ r s room (λ (e : Ended). e .told .refusal ≢ 0 → Unchanged r room e) (λ n d. record { used = refl; length = refl; room = refl; after = refl })
-    (λ t u d. absurd (d refl))
+-- 0 is no refusal; a refusal leaves settings and memory unchanged
+abbrev pub Ends : Reader → List ℕ → Ended → ℕ → Type 0
+Ends r lent e zero = e .told .refusal ≡ 0
+Ends r lent e (suc n) = Unused lent e (suc n) × (e .after ≡ r)
 
-pub refused-switch : (r : Reader) → switchOf r .told .refusal ≢ 0 → Unchanged r [] (switchOf r)
-unfolding switchOf switchAs refused
-refused-switch r = go (switchRefusal (r .guarded))
-  where
-    go : (n : ℕ) → switchAs r n .told .refusal ≢ 0 → Unchanged r [] (switchAs r n)
-    go zero d = absurd (d refl)
-    go (suc n) d = record { used = refl; length = refl; room = refl; after = refl }
+-- "1: a lent length, the reply room's apart"; "2: reply room below 700"; "3: a setting or transfer is not legal, or an index bit at or above C is set"
+abbrev pub call-lines : Reader → Lent → List Line
+call-lines r lent = unless (Lengths (r .guarded)) 1 ∷ unless (700 ≤ length (lent .room)) 2 ∷ unless (Settled r) 3 ∷ []
 
-pub refused-build : (a : List ℕ) (i : ℕ) (c room : List ℕ) → buildOf a i c room .refusal ≢ 0 → (buildOf a i c room .length ≡ 0) × (buildOf a i c room .room ≡ room)
-unfolding buildOf buildAs
-refused-build a i c room = go (buildRefusal i c room)
-  where
-    go : (k : ℕ) → buildAs (packet a i c) room k .refusal ≢ 0 → (buildAs (packet a i c) room k .length ≡ 0) × (buildAs (packet a i c) room k .room ≡ room)
-    go zero d = absurd (d refl)
-    go (suc k) d = (refl, refl)
+module _ (r : Reader) (s : List ℕ) (lent : Lent) where
+  called : (n : ℕ) → Ends r (lent .room) (callAs r s lent n) n
+  unfolding callAs carried refused
+  called zero = refl
+  called (suc n) = (record { refusal = refl; used = refl; length = refl; room = refl }, refl)
+
+  fit-room : T (fitLent lent) ↔ (700 ≤ length (lent .room))
+  unfolding fitRoom
+  fit-room = (leb→le 700 (length (lent .room)), le→leb 700 (length (lent .room)))
+
+  pub call-refusals : Follows (call-lines r lent) (Ends r (lent .room) (callOf core r s lent))
+  unfolding callOf refusalOf
+  call-refusals =
+      follows ((fitLengths core (r .guarded), 1) ∷ (fitLent lent, 2) ∷ (sound r, 3) ∷ []) (call-lines r lent) (Ends r (lent .room) (callOf core r s lent))
+      (lengths-mean (r .guarded), (refl, λ m. (fit-room, (refl, λ u. (settings-mean r m, (refl, λ k. tt)))))) (called (refusalOf core r lent))
+
+  -- and a call that is not refused had a legal reader and a reply room of at least 700 bytes
+  pub refuses-only : callOf core r s lent .told .refusal ≡ 0 → Means r × (700 ≤ length (lent .room))
+  unfolding refused
+  refuses-only =
+      call-kinds core r s lent (λ (e : Ended). e .told .refusal ≡ 0 → Means r × (700 ≤ length (lent .room))) (λ n e. absurd (omega arith))
+      (λ t u e. (legal-means r t, fit-room .0 u))
+
+-- ---- the line switch
+
+abbrev pub Switches : Reader → Ended → ℕ → Type 0
+Switches r e zero = Unused [] e 0
+Switches r e (suc n) = Unused [] e (suc n) × (e .after ≡ r)
+
+-- "The line switch takes any settings and both buffers, and knows only refusal 1."
+abbrev pub switch-lines : Reader → List Line
+switch-lines r = unless ((length (r .guarded .buffer1 .bytes) ≡ 512) × (length (r .guarded .buffer2 .bytes) ≡ 512)) 1 ∷ []
+
+module _ (r : Reader) where
+  buffers : T (fitBuffers (r .guarded)) ↔ ((length (r .guarded .buffer1 .bytes) ≡ 512) × (length (r .guarded .buffer2 .bytes) ≡ 512))
+  unfolding fitBuffers
+  buffers = (
+    λ t. (eqb→eq (length (r .guarded .buffer1 .bytes)) 512 (search (and-l)), eqb→eq (length (r .guarded .buffer2 .bytes)) 512 (search (and-r))),
+    λ m. rw (m .0, m .1) tt,
+  )
+
+  switches : (n : ℕ) → Switches r (switchAs r n) n
+  unfolding switchAs refused
+  switches zero = record { refusal = refl; used = refl; length = refl; room = refl }
+  switches (suc n) = (record { refusal = refl; used = refl; length = refl; room = refl }, refl)
+
+  pub switch-refusals : Follows (switch-lines r) (Switches r (switchOf r))
+  unfolding switchOf switchRefusal
+  switch-refusals =
+      follows ((fitBuffers (r .guarded), 1) ∷ []) (switch-lines r) (Switches r (switchOf r)) (buffers, (refl, λ m. tt)) (switches (switchRefusal (r .guarded)))
+
+-- ---- the builder
+
+-- 0 is no refusal: the packet's length, and the room behind it as it was; a refusal: its number, length 0, and the room as it was
+abbrev pub Builds : List ℕ → List ℕ → Made → ℕ → Type 0
+Builds c lent m zero = (m .refusal ≡ 0) × ((m .length ≡ length c + 11) × (drop (length c + 11) (m .room) ≡ drop (length c + 11) lent))
+Builds c lent m (suc n) = (m .refusal ≡ suc n) × ((m .length ≡ 0) × (m .room ≡ lent))
+
+abbrev pub Identifier : ℕ → Type 0
+Identifier i = (i ≡ 1) ⊎ (i ≡ 2) ⊎ (i ≡ 7) ⊎ (i ≡ 8)
+
+-- "4: builder only: identifier not 1, 2, 7, 8, or content not 1 to 254 bytes"; "2: .. for the builder, below content + 11"
+abbrev pub build-lines : ℕ → List ℕ → List ℕ → List Line
+build-lines i c room = unless (Identifier i × ((1 ≤ length c) × (length c ≤ 254))) 4 ∷ unless (length c + 11 ≤ length room) 2 ∷ []
+
+module _ (a : List ℕ) (i : ℕ) (c room : List ℕ) (four : length a ≡ 4) where
+  identifiers : T (isIdentifier i) ↔ Identifier i
+  unfolding isIdentifier
+  identifiers = (there (eqb i 1) (eqb i 2) (eqb i 7) (eqb i 8) refl refl refl refl, back)
+    where
+      there : (x y z w : Bool) → eqb i 1 ≡ x → eqb i 2 ≡ y → eqb i 7 ≡ z → eqb i 8 ≡ w → T (isIdentifier i) → Identifier i
+      there true y z w e f g h t = inl (eqb-true i 1 e)
+      there false true z w e f g h t = inr (inl (eqb-true i 2 f))
+      there false false true w e f g h t = inr (inr (inl (eqb-true i 7 g)))
+      there false false false true e f g h t = inr (inr (inr (eqb-true i 8 h)))
+      there false false false false e f g h t = absurd (rw (e, f, g, h) at t)
+
+      back : Identifier i → T (isIdentifier i)
+      back (inl e) = rw e tt
+      back (inr (inl e)) = rw e tt
+      back (inr (inr (inl e))) = rw e tt
+      back (inr (inr (inr e))) = rw e tt
+
+  contents : T (accepts i (lengthOf c)) ↔ (Identifier i × ((1 ≤ length c) × (length c ≤ 254)))
+  unfolding longest accepts
+  contents = (to, λ m. accepts-of i (lengthOf c) (identifiers .1 (m .0)) (omega (arith, m .1 .0)) (omega (arith, m .1 .1)))
+    where
+      to : T (accepts i (lengthOf c)) → Identifier i × ((1 ≤ length c) × (length c ≤ 254))
+      to t = (identifiers .0 (search (and-l, and-r)), (omega (arith, accepts-least i (lengthOf c) t), omega (arith, accepts-most i (lengthOf c) t)))
+
+  built : (n : ℕ) → Builds c room (buildAs (packet a i c) room n) n
+  unfolding buildAs
+  built zero = let e : length (packet a i c) ≡ length c + 11 = length-packet a i c four in (refl, (e, rw e at (drop-lay (packet a i c) room)))
+  built (suc n) = (refl, (refl, refl))
+
+  pub build-refusals : Follows (build-lines i c room) (Builds c room (buildOf a i c room))
+  unfolding buildOf buildRefusal
+  build-refusals =
+      follows ((accepts i (lengthOf c), 4) ∷ (leb (length c + 11) (length room), 2) ∷ []) (build-lines i c room) (Builds c room (buildOf a i c room))
+      (contents, (refl, λ m. ((leb→le (length c + 11) (length room), le→leb (length c + 11) (length room)), (refl, λ u. tt)))) (built (buildRefusal i c room))

@@ -2,7 +2,7 @@
 use mathlib.Core.Bool.{Bool, true, false}
 use mathlib.Core.Path.{_≡_, refl, _∙_, subst}
 use mathlib.Core.List.{List, [], _∷_}
-use Prim.Native.Nat.{ℕ, zero, suc, _+_, _-_, _*_, _≤_}
+use Prim.Native.Nat.{ℕ, zero, suc, _+_, _*_, _≤_}
 use native.Mathlib.Omega.{arith}
 use lib.Dec.{T, leb, leb→le}
 use lib.ListN.{length, drop, length-append, length-take}
@@ -13,7 +13,7 @@ use Rattle.protocol.specs.Commands.{Free, verifyPassword, handShake, Bar
 use Rattle.protocol.specs.Data.{acknowledge}
 use Rattle.protocol.specs.Table.{Row, rule, apply, second, Public, freeRule, publicOf}
 use Rattle.protocol.specs.Step.{Heard, hear, Said, silence, says, carryAs, carryFree, rested, takeAs, answer, stepOf}
-use Rattle.protocol.specs.Call.{Shape, fitRoom, fitPlain, Ended, refused, carried, callOf}
+use Rattle.protocol.specs.Call.{Shape, Lent, fitRoom, fitPlain, Ended, refused, carried, callOf}
 use Rattle.protocol.proofs.Laws.Logic.{and-l, and-r, passed}
 use Rattle.protocol.proofs.Laws.Lists.{follow-append, length-lay, drop-lay}
 use Rattle.protocol.proofs.Laws.Commands.{Long, LongHeard, long-heard}
@@ -92,21 +92,21 @@ module _ (σ : Shape) (ok : σ .most ≤ 8 * σ .indexed) where
       }
 
   -- of any legal reader's call
-  pub reply-fits : (r : Reader) → Legal σ ok r → (s room : List ℕ) → callOf σ r s room .told .length ≤ replyRoom
+  pub reply-fits : (r : Reader) → Legal σ ok r → (s : List ℕ) (lent : Lent) → callOf σ r s lent .told .length ≤ 700
   unfolding refused carried stepOf
-  reply-fits r l s room =
-      call-kinds σ r s room (λ (e : Ended). e .told .length ≤ replyRoom) (λ n. omega arith)
+  reply-fits r l s lent =
+      call-kinds σ r s lent (λ (e : Ended). e .told .length ≤ replyRoom) (λ n. omega arith)
       (λ t u. answer-fits r (good σ ok r l) (hear (r .plain .address) s) (long-heard (r .plain .address) s))
 
   -- "Reply room past the reply length keeps its bytes", and the room keeps its length
-  pub room-kept : (r : Reader) → Legal σ ok r → (s room : List ℕ)
-      → (drop (callOf σ r s room .told .length) (callOf σ r s room .told .room) ≡ drop (callOf σ r s room .told .length) room)
-      × (length (callOf σ r s room .told .room) ≡ length room)
+  pub room-kept : (r : Reader) → Legal σ ok r → (s : List ℕ) (lent : Lent)
+      → (drop (callOf σ r s lent .told .length) (callOf σ r s lent .told .room) ≡ drop (callOf σ r s lent .told .length) (lent .room))
+      × (length (callOf σ r s lent .told .room) ≡ length (lent .room))
   unfolding refused carried stepOf fitRoom
-  room-kept r l s room =
-      call-kinds σ r s room (λ (e : Ended). (drop (e .told .length) (e .told .room) ≡ drop (e .told .length) room) × (length (e .told .room) ≡ length room))
+  room-kept r l s lent =
+      call-kinds σ r s lent (λ (e : Ended). (drop (e .told .length) (e .told .room) ≡ drop (e .told .length) (lent .room)) × (length (e .told .room) ≡ length (lent .room)))
       (λ n. (refl, refl))
       (λ t u.
       let a : List ℕ = answer r (hear (r .plain .address) s) .reply in
       let m : length a ≤ replyRoom = answer-fits r (good σ ok r l) (hear (r .plain .address) s) (long-heard (r .plain .address) s) in
-      (drop-lay a room, length-lay 0 a room (omega (arith, leb→le replyRoom (length room) u))))
+      (drop-lay a (lent .room), length-lay 0 a (lent .room) (omega (arith, leb→le replyRoom (length (lent .room)) u))))

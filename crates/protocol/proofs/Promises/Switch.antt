@@ -1,23 +1,23 @@
 -- Document 01: "Line switch: verified mark and filled marks cleared, transfer closed, both buffers zeroed." Whatever the settings were.
 use mathlib.Core.Bool.{true, false}
 use mathlib.Core.Path.{_≡_, refl}
+use mathlib.Core.List.{[]}
 use lib.Dec.{T}
-use Rattle.protocol.specs.Numbers.{pageBytes}
-use Rattle.protocol.specs.Bytes.{zeros}
+use lib.ListN.{length, replicate}
 use Rattle.protocol.specs.Tests.{verdict}
 use Rattle.protocol.specs.Reader.{closed, Reader, keyed, locked, emptied, withMark, withTransfer}
 use Rattle.protocol.specs.Step.{wiped, switched}
 use Rattle.protocol.specs.Call.{fitBuffers, Ended, switchRefusal, switchAs, switchOf}
-use Rattle.protocol.proofs.Laws.Logic.{T→true, and-i}
+use Rattle.protocol.proofs.Laws.Logic.{and-i}
 
 pub record Wiped (r : Reader) (e : Ended) : Type 0 where
-  pub refusal : e .told .refusal ≡ 0
+  pub told : e .told ≡ record { refusal = 0; used = 0; length = 0; room = [] }
   pub verified : e .after .plain .verified ≡ false
   pub transfer : e .after .plain .transfer ≡ closed
   pub filled1 : e .after .guarded .buffer1 .filled ≡ false
   pub filled2 : e .after .guarded .buffer2 .filled ≡ false
-  pub buffer1 : e .after .guarded .buffer1 .bytes ≡ zeros pageBytes
-  pub buffer2 : e .after .guarded .buffer2 .bytes ≡ zeros pageBytes
+  pub buffer1 : e .after .guarded .buffer1 .bytes ≡ replicate 512 0
+  pub buffer2 : e .after .guarded .buffer2 .bytes ≡ replicate 512 0
   -- the rest stays
   pub templates : e .after .guarded .templates ≡ r .guarded .templates
   pub index : e .after .guarded .index ≡ r .guarded .index
@@ -31,12 +31,12 @@ pub record Wiped (r : Reader) (e : Ended) : Type 0 where
   -- so a reader with a password is locked
   pub locks : T (keyed (r .plain)) → T (locked (e .after .plain))
 
-pub switch-wipes : (r : Reader) → T (fitBuffers (r .guarded)) → Wiped r (switchOf r)
-unfolding switchOf switchAs switchRefusal verdict switched wiped emptied withMark withTransfer locked keyed
-switch-wipes r t =
-    rw (T→true (fitBuffers (r .guarded)) t)
+pub switch-wipes : (r : Reader) → length (r .guarded .buffer1 .bytes) ≡ 512 → length (r .guarded .buffer2 .bytes) ≡ 512 → Wiped r (switchOf r)
+unfolding fitBuffers switchOf switchAs switchRefusal verdict switched wiped emptied withMark withTransfer locked keyed
+switch-wipes r b c =
+    rw (b, c)
     record {
-      refusal = refl;
+      told = refl;
       verified = refl;
       transfer = refl;
       filled1 = refl;

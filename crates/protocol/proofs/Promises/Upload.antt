@@ -1,9 +1,9 @@
 -- An upload: what follows UpChar's acknowledge are packets that read back, one behind the other, as the template's parts in order; joined
 -- they are the template. Proved once over the size.
 use mathlib.Core.Bool.{Bool, true, false, _&&_, cond}
-use mathlib.Core.Path.{_≡_, refl, sym, ap, ap₂, _∙_}
+use mathlib.Core.Path.{_≡_, refl, sym, ap, ap₂, _∙_, subst}
 use mathlib.Core.List.{List, [], _∷_, _++_, map}
-use Prim.Native.Nat.{ℕ, zero, suc, _+_, _-_, _*_, _/_, _≤_}
+use Prim.Native.Nat.{ℕ, zero, suc, _+_, _*_, _/_, _≤_}
 use native.Mathlib.Nat.{suc-mul}
 use native.Mathlib.Omega.{arith}
 use lib.Dec.{T, eqb, eqb·suc-zero}
@@ -11,22 +11,23 @@ use lib.ListN.{length, take, drop, length-drop}
 use lib.Seq.{length-take-le, drop-at}
 use Rattle.protocol.specs.declared.Found.{Found}
 use Rattle.protocol.specs.declared.Found.the-variants.{Noise, Unfinished, Unfit, Whole}
-use Rattle.protocol.specs.Numbers.{pageBytes, fourBytes, dataPacket, lastPacket, done}
+use Rattle.protocol.specs.Numbers.{fourBytes, dataPacket, lastPacket}
 use Rattle.protocol.specs.Bytes.{joined, split}
 use Rattle.protocol.specs.Packet.{packet, lengthOf, accepts, addressAt, identifierAt, contentAt, rightAt, endAt}
 use Rattle.protocol.specs.Finder.{findOf}
-use Rattle.protocol.specs.Reader.{Reader, sizeOf, locked, bufferOf}
+use Rattle.protocol.specs.Reader.{Buffer, Reader, sizeOf, locked, bufferOf}
 use Rattle.protocol.specs.Commands.{barred, upChar, command}
 use Rattle.protocol.specs.Data.{acknowledge, packets, dataPackets}
 use Rattle.protocol.specs.Table.{isBuffer, second, rule, apply}
 use Rattle.protocol.specs.Step.{order, hear, carryAs, rested}
-use Rattle.protocol.specs.Call.{Shape, fitRoom, Ended, replyOf, carried, callOf}
+use Rattle.protocol.specs.Call.{Shape, Lent, fitLent, Ended, callOf}
 use Rattle.protocol.proofs.Laws.Logic.{and-i}
-use Rattle.protocol.proofs.Laws.Lists.{follow-append, split-joined, take-lay}
+use Rattle.protocol.proofs.Laws.Lists.{follow-append, split-joined}
 use Rattle.protocol.proofs.Laws.Finder.{length-packet}
-use Rattle.protocol.proofs.Laws.Answers.{obeyed}
+use Rattle.protocol.proofs.Laws.Answers.{obeys}
 use Rattle.protocol.proofs.Laws.Legal.{buffer-long, Good}
 use Rattle.protocol.proofs.Laws.Sizes.{Size}
+use Rattle.protocol.proofs.Promises.Told.{Replies, answered, Numbered, buffer, numbered, buffer-is}
 use Rattle.protocol.proofs.Promises.ReadBack.{ReadsAs, reads-back}
 use Rattle.protocol.proofs.Promises.ReplyFits.{size-of}
 use Rattle.protocol.proofs.Promises.StaysLegal.{Legal, good, good-rested}
@@ -56,7 +57,7 @@ readAll (suc k) s = readBy (readAll k) s (findOf s)
 -- the parts of s, n bytes each, from the reader of the address a: the last with identifier 8, the others 2, every sum right
 unfoldable pub parts : List ℕ → ℕ → ℕ → List ℕ → List Read
 parts a zero n s = []
-parts a (suc k) n s = record { address = a; identifier = cond (eqb k 0) lastPacket dataPacket; content = take n s; right = true } ∷ parts a k n (drop n s)
+parts a (suc k) n s = record { address = a; identifier = cond (eqb k 0) 8 2; content = take n s; right = true } ∷ parts a k n (drop n s)
 
 pub parts-split : (a : List ℕ) (k n : ℕ) (s : List ℕ) → map (λ (x : Read). x .content) (parts a k n s) ≡ split k n s
 unfolding parts split
@@ -91,41 +92,42 @@ module _ (a : List ℕ) (h : length a ≡ fourBytes) (n : ℕ) (carries : T (acc
 
 -- ---- UpChar
 
--- the reply is an acknowledge and the data packets of the template s in one size; they read back as its parts, which joined are s; and
--- nothing changes
-pub record Uploads (r : Reader) (s : List ℕ) (e : Ended) : Type 0 where
-  pub reply : replyOf (e .told) ≡ acknowledge (r .plain .address) done [] ++ dataPackets (r .plain .address) (sizeOf (r .plain .size)) s
+-- the reply is 00h and the data packets of the template b in the size in force; they read back as its parts, which joined are b; and nothing changes
+pub record Uploads (r : Reader) (b s : List ℕ) (lent : Lent) (e : Ended) : Type 0 where
+  pub told : Replies (acknowledge (r .plain .address) 0x00 [] ++ dataPackets (r .plain .address) (sizeOf (r .plain .size)) b) s lent e
   pub back :
-      readAll (pageBytes / sizeOf (r .plain .size)) (dataPackets (r .plain .address) (sizeOf (r .plain .size)) s)
-      ≡ parts (r .plain .address) (pageBytes / sizeOf (r .plain .size)) (sizeOf (r .plain .size)) s
-  pub whole :
-      joined (map (λ (x : Read). x .content) (readAll (pageBytes / sizeOf (r .plain .size)) (dataPackets (r .plain .address) (sizeOf (r .plain .size)) s))) ≡ s
+      readAll (512 / sizeOf (r .plain .size)) (dataPackets (r .plain .address) (sizeOf (r .plain .size)) b)
+      ≡ parts (r .plain .address) (512 / sizeOf (r .plain .size)) (sizeOf (r .plain .size)) b
+  pub whole : joined (map (λ (x : Read). x .content) (readAll (512 / sizeOf (r .plain .size)) (dataPackets (r .plain .address) (sizeOf (r .plain .size)) b))) ≡ b
   pub after : e .after ≡ r
 
 module _ (σ : Shape) (ok : σ .most ≤ 8 * σ .indexed) where
-  pub upload : (r : Reader) → Legal σ ok r → locked (r .plain) ≡ false → (b : ℕ) → T (isBuffer b) → (d room : List ℕ) → T (fitRoom room)
-      → hear (r .plain .address) d ≡ order (command (barred (upChar b))) → T (bufferOf (second b) (rested r .guarded) .filled)
-      → Uploads (rested r) (bufferOf (second b) (rested r .guarded) .bytes) (callOf σ r d room)
-  unfolding carried replyOf carryAs rule apply dataPackets
-  upload r l u b i d room v h m =
+  pub upload : (r : Reader) → Legal σ ok r → locked (r .plain) ≡ false → (b : ℕ) → Numbered b → (s : List ℕ) (lent : Lent) → T (fitLent lent)
+      → hear (r .plain .address) s ≡ order (command (barred (upChar b))) → buffer b (rested r .guarded) .filled ≡ true
+      → Uploads (rested r) (buffer b (rested r .guarded) .bytes) s lent (callOf σ r s lent)
+  unfolding carryAs rule apply dataPackets
+  upload r l u b i s lent v h m =
       let t : Reader = rested r in
       let k : Good σ ok t = good-rested σ ok r (good σ ok r l) in
       let a : List ℕ = t .plain .address in
       let n : ℕ = sizeOf (t .plain .size) in
       let z : Size n = size-of σ ok t k in
-      let s : List ℕ = bufferOf (second b) (t .guarded) .bytes in
-      let sent : List ℕ = dataPackets a n s in
-      let long : length s ≡ pageBytes / n * n = buffer-long (second b) (t .guarded) (k .buffers) ∙ sym (z .whole) ∙ ap (λ (q : ℕ). q * n) (sym (z .count)) in
-      let back : readAll (pageBytes / n) sent ≡ parts a (pageBytes / n) n s = packets-read a (k .typed .address) n (z .carries) (z .ends) (pageBytes / n) s long in
-      let call =
-      obeyed σ r d room (l .legal) v u (upChar b) h
-      (and-i (isBuffer b) (bufferOf (second b) (t .guarded) .filled && true) i (and-i (bufferOf (second b) (t .guarded) .filled) true m tt))
+      let c : Buffer = bufferOf (second b) (t .guarded) in
+      let sent : List ℕ = dataPackets a n (c .bytes) in
+      let long : length (c .bytes) ≡ 512 / n * n = buffer-long (second b) (t .guarded) (k .buffers) ∙ sym (z .whole) ∙ ap (λ (q : ℕ). q * n) (sym (z .count)) in
+      let back : readAll (512 / n) sent ≡ parts a (512 / n) n (c .bytes) = packets-read a (k .typed .address) n (z .carries) (z .ends) (512 / n) (c .bytes) long in
+      let same : c ≡ buffer b (t .guarded) = buffer-is b i (t .guarded) in
+      let f : T (c .filled) = rw (same, m) tt in
+      let g =
+      answered σ r s lent (l .legal) v (carryAs t (rule t (upChar b)) zero)
+      (obeys r s u (upChar b) h (and-i (isBuffer b) (c .filled && true) (numbered b .1 i) (and-i (c .filled) true f tt)))
       in
+      subst (λ (x : Buffer). Uploads t (x .bytes) s lent (callOf σ r s lent)) same
       record {
-        reply = rw (call, take-lay) (follow-append (acknowledge a done []) sent);
+        told = subst (λ (x : List ℕ). Replies x s lent (callOf σ r s lent)) (follow-append (acknowledge a 0x00 []) sent) (g .told);
         back = back;
         whole =
-            ap (λ (x : List Read). joined (map (λ (y : Read). y .content) x)) back ∙ ap joined (parts-split a (pageBytes / n) n s)
-            ∙ split-joined (pageBytes / n) n s long;
-        after = ap (λ (e : Ended). e .after) call;
+            ap (λ (x : List Read). joined (map (λ (y : Read). y .content) x)) back ∙ ap joined (parts-split a (512 / n) n (c .bytes))
+            ∙ split-joined (512 / n) n (c .bytes) long;
+        after = g .after;
       }
