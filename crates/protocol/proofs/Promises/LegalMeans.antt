@@ -14,6 +14,7 @@ use Rattle.protocol.specs.Bytes.{four, same}
 use Rattle.protocol.specs.Tests.{within}
 use Rattle.protocol.specs.Index.{bit, stored, clearFrom}
 use Rattle.protocol.specs.Reader.{Transfer, closed, opened, unfit, Plain, Guarded, Reader, capacity, sizeOf, keyed, locked, bufferOf}
+use Rattle.protocol.specs.Records.{transferOf}
 use Rattle.protocol.specs.Call.{core, fitBuffers, fitPlain, fitTransfer, sound, fitLengths, legal}
 use Rattle.protocol.proofs.Laws.Logic.{and-l, and-r, and-i, and-false, eq→eqb}
 use Rattle.protocol.proofs.Laws.Lists.{same-refl, same-eq}
@@ -138,6 +139,26 @@ transfer-means p g z closed = (λ t. tt, λ t. tt)
 transfer-means p g z (opened false got) = into p g false got z
 transfer-means p g z (opened true got) = into p g true got z
 transfer-means p g z (unfit b k) = (λ t. t, λ t. t)
+
+-- "transfer: none, or buffer 1 or 2 with the bytes got so far": two numbers of the settings record, and none is 0 and 0
+pub transfer-numbers : (p : Plain) (g : Guarded) (b got : ℕ) → LegalTransfer p g (transferOf b got)
+    ↔ (((b ≡ 0) × (got ≡ 0)) ⊎ ((b ≡ 1) × Into p (g .buffer1 .filled) got) ⊎ ((b ≡ 2) × Into p (g .buffer2 .filled) got))
+unfolding transferOf
+transfer-numbers p g b got = (to b got, from b got)
+  where
+    to : (b got : ℕ) → LegalTransfer p g (transferOf b got)
+        → ((b ≡ 0) × (got ≡ 0)) ⊎ ((b ≡ 1) × Into p (g .buffer1 .filled) got) ⊎ ((b ≡ 2) × Into p (g .buffer2 .filled) got)
+    to zero zero m = inl (refl, refl)
+    to zero (suc k) m = absurd m
+    to (suc zero) k m = inr (inl (refl, m))
+    to (suc (suc zero)) k m = inr (inr (refl, m))
+    to (suc (suc (suc b))) k m = absurd m
+
+    from : (b got : ℕ) → ((b ≡ 0) × (got ≡ 0)) ⊎ ((b ≡ 1) × Into p (g .buffer1 .filled) got) ⊎ ((b ≡ 2) × Into p (g .buffer2 .filled) got)
+        → LegalTransfer p g (transferOf b got)
+    from b got (inl (e, f)) = rw (e, f) tt
+    from b got (inr (inl (e, m))) = rw e m
+    from b got (inr (inr (e, m))) = rw e m
 
 bit-clear : (x : List ℕ) (q : ℕ) → (stored x q ≡ false) ↔ (getD x (q / 8) 0 / 2 ^ (q % 8) % 2 ≡ 0)
 unfolding stored bit

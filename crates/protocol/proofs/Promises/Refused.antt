@@ -16,7 +16,7 @@ use Rattle.protocol.proofs.Laws.Lines.{Line, unless, Follows, follows}
 use Rattle.protocol.proofs.Laws.Lists.{drop-lay}
 use Rattle.protocol.proofs.Laws.Finder.{length-packet}
 use Rattle.protocol.proofs.Laws.Answers.{call-kinds}
-use Rattle.protocol.proofs.Promises.Packets.{Identifier, Accepted, accepts-means}
+use Rattle.protocol.proofs.Promises.Packets.{Identifier, accepts-means}
 use Rattle.protocol.proofs.Promises.LegalMeans.{Lengths, Settled, lengths-mean, settings-mean, Means, legal-means}
 
 -- ---- a call
@@ -104,8 +104,8 @@ build-lines i c room = unless (Identifier i × ((1 ≤ length c) × (length c �
 module _ (a : List ℕ) (i : ℕ) (c room : List ℕ) (four : length a ≡ 4) where
   contents : T (accepts i (lengthOf c)) ↔ (Identifier i × ((1 ≤ length c) × (length c ≤ 254)))
   contents = (
-    λ t. let k : Accepted i (length c + 2) = accepts-means i (length c + 2) .0 t in (k .identifier, (omega arith, omega arith)),
-    λ m. accepts-means i (length c + 2) .1 record { identifier = m .0; least = omega (arith, m .1 .0); most = omega (arith, m .1 .1) },
+    λ t. (let a = accepts-means i (lengthOf c) .0 t in (a .identifier, (omega (arith, a .least), omega (arith, a .most)))),
+    λ m. accepts-means i (lengthOf c) .1 record { identifier = m .0; least = omega (arith, m .1 .0); most = omega (arith, m .1 .1) },
   )
 
   built : (n : ℕ) → Builds c room (buildAs (packet a i c) room n) n
