@@ -100,6 +100,7 @@ started s p f = start-at s p (of-marks s p (f .here)) (λ q l. unmarked s q (f .
 
 -- ---- every run, and every case of it
 
+-- for every run one case holds of what is found and of the bytes used
 pub finds : (s : List ℕ) → Finds s (findOf s) (usedOf (findOf s))
 unfolding findOf findFrom usedOf allBut
 finds s = go (startOf s) (start-first s)
@@ -120,6 +121,7 @@ finds s = go (startOf s) (start-first s)
     go (At p) h =
         at p record { here = marks-of s p (h .0); before = λ q l. no-marks s q (h .1 q l) } (lengthAt s p) (sym (field-at s p)) _ _ _ refl refl refl
 
+-- and no other: where a case holds, that is what is found, and so many bytes are used
 pub found : {s : List ℕ} {f : Found} {n : ℕ} → Finds s f n → (findOf s ≡ f) × (usedOf (findOf s) ≡ n)
 unfolding findOf findFrom usedOf allBut
 found {s} (noise h d) = rw (start-nowhere s (λ q. unmarked s q (h q)), ne-eqb (getD s (length s - 1) 0) 0xef d) (refl, refl)
@@ -132,6 +134,7 @@ found {s} (whole {p} {n} w) =
     let e : findFrom s (At p) ≡ Whole p n = found-at s p n (field-at s p ∙ w .field) (accepts-means (getD s (p + 6) 0) n .1 (w .accepted)) (w .inside) in
     rw (started s p (w .first), e) (refl, refl)
 
+-- a whole packet is found only where it stands
 pub whole-at : (s : List ℕ) (p n : ℕ) → findOf s ≡ Whole p n → WholeAt s p n
 whole-at s p n e = go (findOf s) (usedOf (findOf s)) (finds s) e
   where
@@ -170,6 +173,7 @@ abbrev pub contentOf : List ℕ → ℕ → ℕ → List ℕ
 contentOf s p n = take (n - 2) (drop (p + 9) s)
 
 module _ (s : List ℕ) (p n : ℕ) (w : WholeAt s p n) where
+  -- "Length counts content and sum."
   pub content-long : length (contentOf s p n) + 2 ≡ n
   content-long = simp (length-take, length-drop) (omega (arith, w .inside, w .accepted .least))
 
@@ -197,6 +201,7 @@ pub data Hears (a s : List ℕ) : Heard → Type 0 where
   more : {p n : ℕ} → WholeAt s p n → take 4 (drop (p + 2) s) ≡ a → getD s (p + 6) 0 ≡ 2 → Hears a s (piece false (rightAt s p n) (contentOf s p n))
   last : {p n : ℕ} → WholeAt s p n → take 4 (drop (p + 2) s) ≡ a → getD s (p + 6) 0 ≡ 8 → Hears a s (piece true (rightAt s p n) (contentOf s p n))
 
+-- where a case holds, that is what the reader hears
 pub heard : {a s : List ℕ} {h : Heard} → Hears a s h → hear a s ≡ h
 unfolding hear hearAt hearAs
 heard {a} {s} (no-packet d) = go (findOf s) refl
@@ -216,6 +221,7 @@ heard {a} {s} (ordered {p} {n} w e i) = ap (hearAt a s) (found (whole w) .0) ∙
 heard {a} {s} (more {p} {n} w e i) = ap (hearAt a s) (found (whole w) .0) ∙ heard-at a s p n e ∙ rw i refl
 heard {a} {s} (last {p} {n} w e i) = ap (hearAt a s) (found (whole w) .0) ∙ heard-at a s p n e ∙ rw i refl
 
+-- and for every run one does
 pub hears : (a s : List ℕ) → Hears a s (hear a s)
 hears a s = go (findOf s) refl
   where

@@ -10,7 +10,7 @@ use borrow.Author.Tests.{eqb-true}
 use lib.ListN.{length, getD, take, drop}
 use Rattle.protocol.specs.Numbers.{longest}
 use Rattle.protocol.specs.Bytes.{two, wordAt, total}
-use Rattle.protocol.specs.Packet.{sumOf, packet, isIdentifier, limit, accepts, addressAt, identifierAt, lengthAt, contentAt, endAt}
+use Rattle.protocol.specs.Packet.{lengthOf, sumOf, packet, isIdentifier, limit, accepts, addressAt, identifierAt, lengthAt, contentAt, endAt}
 use Rattle.protocol.specs.Data.{acknowledge}
 use Rattle.protocol.proofs.Laws.Logic.{T→false, and-l, and-r}
 use Rattle.protocol.proofs.Laws.Lists.{total-added}
@@ -65,8 +65,11 @@ parts s p n =
     let e : p + 7 + 1 ≡ p + 8 = omega arith in
     record { address-at = refl; identifier-at = refl; length-at = rw e refl; content-at = refl; end-at = refl }
 
--- EF 01, address, identifier, length, content, sum. Length counts content and sum; the sum is identifier, both length bytes and every content
--- byte added, modulo 65536
+-- length counts content and sum
+pub length-is : (content : List ℕ) → lengthOf content ≡ length content + 2
+length-is content = refl
+
+-- EF 01, address, identifier, length, content, sum. The sum is identifier, both length bytes and every content byte added, modulo 65536
 module _ (a b c d i : ℕ) (content : List ℕ) where
   abbrev n : ℕ
   n = length content + 2
