@@ -9,7 +9,6 @@ use mathlib.Core.Logic.{_⊎_, inl, inr}
 use mathlib.Core.List.{List, [], _∷_}
 use Prim.Native.Nat.{ℕ}
 use lib.Dec.{T}
-use Rattle.protocol.specs.Numbers.{passwordFirst}
 use Rattle.protocol.specs.Bytes.{lay}
 use Rattle.protocol.specs.Finder.{findOf, usedOf}
 use Rattle.protocol.specs.Reader.{closed, Plain, Guarded, Reader, capacity, keyed, locked, withMark, reader}
@@ -33,8 +32,8 @@ mark b r = reader (withMark b (r .plain)) (r .guarded)
 
 -- the call answered 21h and changed nothing but the front of the reply room
 pub record Bars (r : Reader) (lent : Lent) (e : Ended) : Type 0 where
-  pub reply : replyOf (e .told) ≡ acknowledge (r .plain .address) passwordFirst []
-  pub room : e .told .room ≡ lay 0 (acknowledge (r .plain .address) passwordFirst []) (lent .room)
+  pub reply : replyOf (e .told) ≡ acknowledge (r .plain .address) 0x21 []
+  pub room : e .told .room ≡ lay 0 (acknowledge (r .plain .address) 0x21 []) (lent .room)
   pub after : e .after ≡ r
 
 -- both calls got back the same, and end alike but for the mark
@@ -50,7 +49,7 @@ pub record FirstHalf (r : Reader) (lent : Lent) (l u : Ended) : Type 0 where
 
 -- the two answers to what was heard
 data Beside (r : Reader) (l u : Said) : Type 0 where
-  barring : l ≡ says (mark false r) passwordFirst → Beside r l u
+  barring : l ≡ says (mark false r) 0x21 → Beside r l u
   equally : l .reply ≡ u .reply → ((b : Bool) → mark b (l .after) ≡ mark b (u .after)) → Beside r l u
 
 module _ (r : Reader) (key : T (keyed (r .plain))) (z : r .plain .transfer ≡ closed) where
@@ -93,7 +92,7 @@ module _ (r : Reader) (key : T (keyed (r .plain))) (z : r .plain .transfer ≡ c
           used = refl;
           answers =
               inl record {
-                reply = ap (λ (x : Said). replyOf (carried record { used = usedOf (findOf s); reply = x .reply; after = x .after } (lent .room) .told)) e ∙ take-lay (acknowledge (r .plain .address) passwordFirst []) (lent .room);
+                reply = ap (λ (x : Said). replyOf (carried record { used = usedOf (findOf s); reply = x .reply; after = x .after } (lent .room) .told)) e ∙ take-lay (acknowledge (r .plain .address) 0x21 []) (lent .room);
                 room = ap (λ (x : Said). lay 0 (x .reply) (lent .room)) e;
                 after = ap (λ (x : Said). x .after) e;
               };

@@ -6,18 +6,16 @@ use mathlib.Core.List.{List, [], _∷_, _++_, append-assoc, append-nil}
 use Prim.Native.Nat.{ℕ, zero, suc, _+_, _-_, _*_, _≤_}
 use native.Mathlib.Omega.{arith}
 use lib.Dec.{T, leb}
-use borrow.Author.Tests.{le-leb}
 use lib.ListN.{length, take, drop, length-append}
 use lib.Seq.{take-at, getD-drop, getD-append-add}
 use Rattle.protocol.specs.declared.Found.the-variants.{Whole}
 use Rattle.protocol.specs.Numbers.{headBytes, frameBytes, fourBytes}
 use Rattle.protocol.specs.Bytes.{two, byteAt, wordAt}
-use Rattle.protocol.specs.Tests.{verdict}
-use Rattle.protocol.specs.Packet.{lengthOf, sumOf, packet, isIdentifier, accepts, addressAt, identifierAt, lengthAt, contentAt, endAt, rightAt, Made, buildRefusal, buildAs, buildOf}
+use Rattle.protocol.specs.Packet.{lengthOf, sumOf, packet, accepts, addressAt, identifierAt, lengthAt, contentAt, endAt, rightAt, Made, buildRefusal, buildAs, buildOf}
 use Rattle.protocol.specs.Finder.{marksAt, startOf, findOf, usedOf}
-use Rattle.protocol.proofs.Laws.Logic.{T→true, eqb-same, verdict-passed, and-l}
+use Rattle.protocol.proofs.Laws.Logic.{eqb-same, verdict-passed, and-l}
 use Rattle.protocol.proofs.Laws.Lists.{by-four, two-bytes, take-lay}
-use Rattle.protocol.proofs.Laws.Finder.{length-packet, accepts-most, accepts-of, longest-word, found-at}
+use Rattle.protocol.proofs.Laws.Finder.{length-packet, accepts-most, longest-word, found-at}
 
 -- the run s starts with the packet of this address, identifier and content, and its sum is right
 pub record ReadsAs (s a : List ℕ) (i : ℕ) (c : List ℕ) : Type 0 where
@@ -80,12 +78,6 @@ pub packet-reads : (a : List ℕ) (i : ℕ) (c : List ℕ) → length a ≡ four
 packet-reads a i c h ok = subst (λ (s : List ℕ). ReadsAs s a i c) (append-nil (packet a i c)) (reads-back a i c [] h ok)
 
 -- ---- the builder
-
--- the builder builds every packet that fits: four identifiers, contents of 1 to 254 bytes, room for content + 11
-pub builds : (a : List ℕ) (i : ℕ) (c room : List ℕ) → T (isIdentifier i) → 1 ≤ length c → length c ≤ 254 → length c + frameBytes ≤ length room
-    → buildOf a i c room .refusal ≡ 0
-unfolding buildOf buildRefusal buildAs verdict
-builds a i c room t l u h = rw (T→true (accepts i (lengthOf c)) (accepts-of i (lengthOf c) t (omega arith) (omega arith)), le-leb (length c + frameBytes) (length room) h) refl
 
 -- what it built is a packet, and reads back as itself
 pub record BuiltBack (a : List ℕ) (i : ℕ) (c : List ℕ) (m : Made) : Type 0 where

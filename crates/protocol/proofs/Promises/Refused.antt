@@ -1,24 +1,22 @@
 -- Demand 1: "Unfit memory, settings or packet parts get refusal 1, 2, 3 or 4 as document 01 says; no reply is written and no byte changes."
 -- Document 01's "Numbers a caller gets back", each as a table of lines: the first that does not hold gives its number, and where all hold the
 -- call is carried out.
-use mathlib.Core.Bool.{Bool, true, false}
 use mathlib.Core.Path.{_≡_, refl}
-use mathlib.Core.Logic.{_⊎_, inl, inr, _↔_}
+use mathlib.Core.Logic.{_↔_}
 use mathlib.Core.List.{List, [], _∷_}
 use Prim.Native.Nat.{ℕ, zero, suc, _+_, _≤_}
 use native.Mathlib.Omega.{arith}
-use lib.Dec.{T, eqb, leb, leb→le, le→leb, eqb→eq}
-use borrow.Author.Tests.{eqb-true}
+use lib.Dec.{T, leb, leb→le, le→leb, eqb→eq}
 use lib.ListN.{length, drop}
-use Rattle.protocol.specs.Numbers.{longest}
-use Rattle.protocol.specs.Packet.{lengthOf, packet, isIdentifier, accepts, Made, buildRefusal, buildAs, buildOf}
+use Rattle.protocol.specs.Packet.{lengthOf, packet, accepts, Made, buildRefusal, buildAs, buildOf}
 use Rattle.protocol.specs.Reader.{Reader}
 use Rattle.protocol.specs.Call.{core, Lent, fitLent, fitLengths, fitBuffers, fitRoom, sound, Ended, refusalOf, refused, carried, callAs, callOf, switchRefusal, switchAs, switchOf}
 use Rattle.protocol.proofs.Laws.Logic.{and-l, and-r}
 use Rattle.protocol.proofs.Laws.Lines.{Line, unless, Follows, follows}
 use Rattle.protocol.proofs.Laws.Lists.{drop-lay}
-use Rattle.protocol.proofs.Laws.Finder.{length-packet, accepts-least, accepts-most, accepts-of}
+use Rattle.protocol.proofs.Laws.Finder.{length-packet}
 use Rattle.protocol.proofs.Laws.Answers.{call-kinds}
+use Rattle.protocol.proofs.Promises.Packets.{Identifier, accepts-means}
 use Rattle.protocol.proofs.Promises.LegalMeans.{Lengths, Settled, lengths-mean, settings-mean, Means, legal-means}
 
 -- ---- a call
@@ -97,37 +95,16 @@ abbrev pub Builds : List ℕ → List ℕ → Made → ℕ → Type 0
 Builds c lent m zero = (m .refusal ≡ 0) × ((m .length ≡ length c + 11) × (drop (length c + 11) (m .room) ≡ drop (length c + 11) lent))
 Builds c lent m (suc n) = (m .refusal ≡ suc n) × ((m .length ≡ 0) × (m .room ≡ lent))
 
-abbrev pub Identifier : ℕ → Type 0
-Identifier i = (i ≡ 1) ⊎ (i ≡ 2) ⊎ (i ≡ 7) ⊎ (i ≡ 8)
-
 -- "4: builder only: identifier not 1, 2, 7, 8, or content not 1 to 254 bytes"; "2: .. for the builder, below content + 11"
 abbrev pub build-lines : ℕ → List ℕ → List ℕ → List Line
 build-lines i c room = unless (Identifier i × ((1 ≤ length c) × (length c ≤ 254))) 4 ∷ unless (length c + 11 ≤ length room) 2 ∷ []
 
 module _ (a : List ℕ) (i : ℕ) (c room : List ℕ) (four : length a ≡ 4) where
-  identifiers : T (isIdentifier i) ↔ Identifier i
-  unfolding isIdentifier
-  identifiers = (there (eqb i 1) (eqb i 2) (eqb i 7) (eqb i 8) refl refl refl refl, back)
-    where
-      there : (x y z w : Bool) → eqb i 1 ≡ x → eqb i 2 ≡ y → eqb i 7 ≡ z → eqb i 8 ≡ w → T (isIdentifier i) → Identifier i
-      there true y z w e f g h t = inl (eqb-true i 1 e)
-      there false true z w e f g h t = inr (inl (eqb-true i 2 f))
-      there false false true w e f g h t = inr (inr (inl (eqb-true i 7 g)))
-      there false false false true e f g h t = inr (inr (inr (eqb-true i 8 h)))
-      there false false false false e f g h t = absurd (rw (e, f, g, h) at t)
-
-      back : Identifier i → T (isIdentifier i)
-      back (inl e) = rw e tt
-      back (inr (inl e)) = rw e tt
-      back (inr (inr (inl e))) = rw e tt
-      back (inr (inr (inr e))) = rw e tt
-
   contents : T (accepts i (lengthOf c)) ↔ (Identifier i × ((1 ≤ length c) × (length c ≤ 254)))
-  unfolding longest accepts
-  contents = (to, λ m. accepts-of i (lengthOf c) (identifiers .1 (m .0)) (omega (arith, m .1 .0)) (omega (arith, m .1 .1)))
-    where
-      to : T (accepts i (lengthOf c)) → Identifier i × ((1 ≤ length c) × (length c ≤ 254))
-      to t = (identifiers .0 (search (and-l, and-r)), (omega (arith, accepts-least i (lengthOf c) t), omega (arith, accepts-most i (lengthOf c) t)))
+  contents = (
+    λ t. (let a = accepts-means i (lengthOf c) .0 t in (a .identifier, (omega (arith, a .least), omega (arith, a .most)))),
+    λ m. accepts-means i (lengthOf c) .1 record { identifier = m .0; least = omega (arith, m .1 .0); most = omega (arith, m .1 .1) },
+  )
 
   built : (n : ℕ) → Builds c room (buildAs (packet a i c) room n) n
   unfolding buildAs

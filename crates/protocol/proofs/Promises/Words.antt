@@ -7,26 +7,22 @@ use Prim.Native.Nat.{ℕ, zero, suc, _+_, _*_, _/_, _%_, _^_, _≤_, _<_}
 use native.Mathlib.Omega.{arith}
 use lib.Dec.{T, eqb, T-not, not-T}
 use borrow.Author.Tests.{eqb-true, eq-eqb}
-use lib.ListN.{length, getD, take, drop, replicate}
-use Rattle.protocol.specs.Numbers.{pageBytes, leastPages, mostPages, indexBytes, indexPageBytes, notepadBytes, noteBytes, replyRoom, fourBytes, lowestLevel, highestLevel, lowestBaud, highestBaud, highestSize, baudParameter, levelParameter, sizeParameter, verifiedStatus, firstMark, secondMark, headBytes, frameBytes, commandPacket, dataPacket, acknowledgePacket, lastPacket, shortest, longest, done, badPacket, badPage, nothingThere, nothingToSend, transferFailed, badRange, wrongPassword, unknownCommand, badParameter, badValue, badNotePage, passwordFirst, badLength, badRoom, badSetting, badContent, noCount}
+use lib.ListN.{length, getD, take, replicate}
+use Rattle.protocol.specs.Numbers.{pageBytes, noteBytes, indexPageBytes, replyRoom, fourBytes, lowestLevel, highestLevel, lowestBaud, highestBaud, highestSize, baudParameter, levelParameter, sizeParameter, verifiedStatus, firstMark, secondMark, headBytes, frameBytes, commandPacket, dataPacket, acknowledgePacket, lastPacket, shortest, longest, done, badPacket, badPage, nothingThere, nothingToSend, transferFailed, badRange, wrongPassword, unknownCommand, badParameter, badValue, badNotePage, passwordFirst, badLength, badRoom, badSetting, badContent, noCount}
 use Rattle.protocol.specs.Bytes.{two, four, same, lay, joined}
 use Rattle.protocol.specs.Index.{bit, stored, setBits}
-use Rattle.protocol.specs.Reader.{closed, opened, unfit, Plain, Guarded, Reader, capacity, sizeOf, keyed, locked, bufferOf, emptied, filledWith, fresh, zeroed}
+use Rattle.protocol.specs.Reader.{closed, opened, unfit, Plain, Guarded, capacity, sizeOf, keyed, locked, bufferOf, emptied, filledWith, fresh, zeroed}
 use Rattle.protocol.specs.Table.{isBuffer, second, statusOf}
 use Rattle.protocol.specs.Call.{core, Told, replyOf}
 use Rattle.protocol.specs.Records.{transferOf, freshOf}
 use Rattle.protocol.proofs.Laws.Logic.{T→true, T→false, and-l, and-r, and-i}
 use Rattle.protocol.proofs.Laws.Lists.{same-refl, same-eq, length-lay, at-before, at-inside, at-behind}
 use Rattle.protocol.proofs.Laws.Count.{set-ones}
-use Rattle.protocol.proofs.Laws.Effects.{page}
 
 -- ---- the numbers, by name
 
 pub record Numbers : Type 0 where
-  -- a page, C from 1 to 256, the index and the part of it that ReadIndexTable gives, the notepad and its page, the reply room, an address
-  pub memory :
-      (pageBytes ∷ leastPages ∷ mostPages ∷ indexBytes ∷ indexPageBytes ∷ notepadBytes ∷ noteBytes ∷ replyRoom ∷ fourBytes ∷ [])
-      ≡ (512 ∷ 1 ∷ 256 ∷ 32 ∷ 32 ∷ 512 ∷ 32 ∷ 700 ∷ 4 ∷ [])
+  pub memory : (pageBytes ∷ noteBytes ∷ indexPageBytes ∷ replyRoom ∷ fourBytes ∷ []) ≡ (512 ∷ 32 ∷ 32 ∷ 700 ∷ 4 ∷ [])
   -- level 1 to 5, baud factor 1 to 12, size code up to 2
   pub ranges : (lowestLevel ∷ highestLevel ∷ lowestBaud ∷ highestBaud ∷ highestSize ∷ []) ≡ (1 ∷ 5 ∷ 1 ∷ 12 ∷ 2 ∷ [])
   pub parameters : (baudParameter ∷ levelParameter ∷ sizeParameter ∷ verifiedStatus ∷ []) ≡ (4 ∷ 5 ∷ 6 ∷ 4 ∷ [])
@@ -44,9 +40,8 @@ numbers = record { memory = refl; ranges = refl; parameters = refl; refusals = r
 -- ---- lent memory
 
 pub record Memory : Type 0 where
-  -- C is read off the templates' length; page p is the 512 bytes that start at 512 × p
+  -- C is read off the templates' length
   pub pages : (g : Guarded) → capacity g ≡ length (g .templates) / 512
-  pub page-bytes : (r : Reader) (p : ℕ) → page r p ≡ take 512 (drop (512 * p) (r .guarded .templates))
   -- page p is the bit of weight 2^(p mod 8) in byte p / 8; 1 means stored
   pub bit-stored : (x : List ℕ) (p : ℕ) → (stored x p ≡ true) ↔ (getD x (p / 8) 0 / 2 ^ (p % 8) % 2 ≡ 1)
   -- the number of set bits: those of weight 1, 2, 4, ... 128 in every byte
@@ -71,7 +66,6 @@ unfolding capacity stored bit emptied filledWith core zeroed
 memory =
     record {
       pages = λ g. refl;
-      page-bytes = λ r p. refl;
       bit-stored = λ x p. (eqb-true (getD x (p / 8) 0 / 2 ^ (p % 8) % 2) 1, eq-eqb (getD x (p / 8) 0 / 2 ^ (p % 8) % 2) 1);
       bits-set = set-ones;
       emptied-is = refl;
@@ -184,16 +178,16 @@ pub record Lists : Type 0 where
   -- the reply is the front of the reply room, as long as was told
   pub reply-is : (t : Told) → replyOf t ≡ take (t .length) (t .room)
 
-two-of : (h l : ℕ) → h < 256 → l < 256 → two (h * 256 + l) ≡ h ∷ l ∷ []
+two-iff : (h l : ℕ) → h < 256 → l < 256 → two (h * 256 + l) ≡ h ∷ l ∷ []
 unfolding two
-two-of h l a b =
+two-iff h l a b =
     let x : (h * 256 + l) / 256 % 256 ≡ h = omega arith in
     let y : (h * 256 + l) % 256 ≡ l = omega arith in
     rw (x, y) refl
 
-four-of : (a b c d : ℕ) → a < 256 → b < 256 → c < 256 → d < 256 → four (a * 16777216 + b * 65536 + c * 256 + d) ≡ a ∷ b ∷ c ∷ d ∷ []
+four-iff : (a b c d : ℕ) → a < 256 → b < 256 → c < 256 → d < 256 → four (a * 16777216 + b * 65536 + c * 256 + d) ≡ a ∷ b ∷ c ∷ d ∷ []
 unfolding four
-four-of a b c d w x y z =
+four-iff a b c d w x y z =
     let n : ℕ = a * 16777216 + b * 65536 + c * 256 + d in
     let e : n / 16777216 % 256 ≡ a = omega arith in
     let f : n / 65536 % 256 ≡ b = omega arith in
@@ -210,8 +204,8 @@ pub lists : Lists
 unfolding replyOf
 lists =
     record {
-      two-bytes = two-of;
-      four-bytes = four-of;
+      two-bytes = two-iff;
+      four-bytes = four-iff;
       same-means = λ s t. (same-eq s t, λ e. rw e (same-refl t));
       laid-length = length-lay;
       laid-before = at-before;
