@@ -47,6 +47,7 @@ module _ (r : Reader) (s : List ℕ) (lent : Lent) where
   unfolding fitRoom
   fit-room = (leb→le 700 (length (lent .room)), le→leb 700 (length (lent .room)))
 
+  -- "Order: 1, 2, 3 .. Otherwise the call is carried out."
   pub call-refusals : Follows (call-lines r lent) (Ends r (lent .room) (callOf core r s lent))
   unfolding callOf refusalOf
   call-refusals =
@@ -83,6 +84,7 @@ module _ (r : Reader) where
   switches zero = record { refusal = refl; used = refl; length = refl; room = refl }
   switches (suc n) = (record { refusal = refl; used = refl; length = refl; room = refl }, refl)
 
+  -- otherwise none, whatever the settings
   pub switch-refusals : Follows (switch-lines r) (Switches r (switchOf r))
   unfolding switchOf switchRefusal
   switch-refusals =
@@ -111,6 +113,7 @@ module _ (a : List ℕ) (i : ℕ) (c room : List ℕ) (four : length a ≡ 4) wh
   built zero = let e : length (packet a i c) ≡ length c + 11 = length-packet a i c four in (refl, (e, rw e at (drop-lay (packet a i c) room)))
   built (suc n) = (refl, (refl, refl))
 
+  -- "For the builder 4, then 2"; otherwise a packet of content + 11 bytes
   pub build-refusals : Follows (build-lines i c room) (Builds c room (buildOf a i c room))
   unfolding buildOf buildRefusal
   build-refusals =

@@ -25,13 +25,13 @@ pub used-service : (s : List ℕ) → Finds s (findOf s) (usedService s)
 unfolding usedService
 used-service = finds
 
--- building a packet for an address, high byte first: the builder's own refusals and bytes (Refused, ReadBack)
+-- the builder, for an address as one number, high byte first; Refused and ReadBack say what it returns and leaves
 pub build-service : (a b c d i : ℕ) (content room : List ℕ) → a < 256 → b < 256 → c < 256 → d < 256
     → buildService (a * 16777216 + b * 65536 + c * 256 + d) i content room ≡ buildOf (a ∷ b ∷ c ∷ d ∷ []) i content room
 unfolding buildService
 build-service a b c d i content room w x y z = rw (lists .four-bytes a b c d w x y z) refl
 
--- the number of set bits
+-- the set bits of 32 bytes
 pub count-service : (x : List ℕ) → length x ≡ 32
     → countService x ≡ foldr (λ b n. b % 2 + b / 2 % 2 + b / 4 % 2 + b / 8 % 2 + b / 16 % 2 + b / 32 % 2 + b / 64 % 2 + b / 128 % 2 + n) 0 x
 unfolding countService core

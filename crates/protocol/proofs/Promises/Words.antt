@@ -8,8 +8,8 @@ use native.Mathlib.Omega.{arith}
 use lib.Dec.{T, eqb, T-not, not-T}
 use borrow.Author.Tests.{eqb-true, eq-eqb}
 use lib.ListN.{length, getD, take, replicate}
-use Rattle.protocol.specs.Numbers.{pageBytes, noteBytes, indexPageBytes, replyRoom, fourBytes, lowestLevel, highestLevel, lowestBaud, highestBaud, highestSize, baudParameter, levelParameter, sizeParameter, verifiedStatus, firstMark, secondMark, headBytes, frameBytes, commandPacket, dataPacket, acknowledgePacket, lastPacket, shortest, longest, done, badPacket, badPage, nothingThere, nothingToSend, transferFailed, badRange, wrongPassword, unknownCommand, badParameter, badValue, badNotePage, passwordFirst, badLength, badRoom, badSetting, badContent, noCount}
-use Rattle.protocol.specs.Bytes.{two, four, same, lay, joined}
+use Rattle.protocol.specs.Numbers.{pageBytes, leastPages, mostPages, indexBytes, indexPageBytes, notepadBytes, noteBytes, replyRoom, fourBytes, lowestLevel, highestLevel, lowestBaud, highestBaud, highestSize, baudParameter, levelParameter, sizeParameter, verifiedStatus, firstMark, secondMark, headBytes, frameBytes, commandPacket, dataPacket, acknowledgePacket, lastPacket, shortest, longest, done, badPacket, badPage, nothingThere, nothingToSend, transferFailed, badRange, wrongPassword, unknownCommand, badParameter, badValue, badNotePage, passwordFirst, badLength, badRoom, badSetting, badContent, noCount}
+use Rattle.protocol.specs.Bytes.{Bytes, two, four, same, lay, joined}
 use Rattle.protocol.specs.Index.{bit, stored, setBits}
 use Rattle.protocol.specs.Reader.{closed, opened, unfit, Plain, Guarded, capacity, sizeOf, keyed, locked, bufferOf, emptied, filledWith, fresh, zeroed}
 use Rattle.protocol.specs.Table.{isBuffer, second, statusOf}
@@ -22,7 +22,10 @@ use Rattle.protocol.proofs.Laws.Count.{set-ones}
 -- ---- the numbers, by name
 
 pub record Numbers : Type 0 where
-  pub memory : (pageBytes ∷ noteBytes ∷ indexPageBytes ∷ replyRoom ∷ fourBytes ∷ []) ≡ (512 ∷ 32 ∷ 32 ∷ 700 ∷ 4 ∷ [])
+  -- a page, C from 1 to 256, the index and the part of it that ReadIndexTable gives, the notepad and its page, the reply room, an address
+  pub memory :
+      (pageBytes ∷ leastPages ∷ mostPages ∷ indexBytes ∷ indexPageBytes ∷ notepadBytes ∷ noteBytes ∷ replyRoom ∷ fourBytes ∷ [])
+      ≡ (512 ∷ 1 ∷ 256 ∷ 32 ∷ 32 ∷ 512 ∷ 32 ∷ 700 ∷ 4 ∷ [])
   -- level 1 to 5, baud factor 1 to 12, size code up to 2
   pub ranges : (lowestLevel ∷ highestLevel ∷ lowestBaud ∷ highestBaud ∷ highestSize ∷ []) ≡ (1 ∷ 5 ∷ 1 ∷ 12 ∷ 2 ∷ [])
   pub parameters : (baudParameter ∷ levelParameter ∷ sizeParameter ∷ verifiedStatus ∷ []) ≡ (4 ∷ 5 ∷ 6 ∷ 4 ∷ [])
@@ -164,6 +167,8 @@ kept =
 -- ---- lists of bytes
 
 pub record Lists : Type 0 where
+  -- every cell is a byte
+  pub bytes-means : (s : List ℕ) → Bytes s ↔ ((i : ℕ) → getD s i 0 < 256)
   -- numbers are high byte first
   pub two-bytes : (h l : ℕ) → h < 256 → l < 256 → two (h * 256 + l) ≡ h ∷ l ∷ []
   pub four-bytes : (a b c d : ℕ) → a < 256 → b < 256 → c < 256 → d < 256 → four (a * 16777216 + b * 65536 + c * 256 + d) ≡ a ∷ b ∷ c ∷ d ∷ []
@@ -178,16 +183,16 @@ pub record Lists : Type 0 where
   -- the reply is the front of the reply room, as long as was told
   pub reply-is : (t : Told) → replyOf t ≡ take (t .length) (t .room)
 
-two-iff : (h l : ℕ) → h < 256 → l < 256 → two (h * 256 + l) ≡ h ∷ l ∷ []
+two-of : (h l : ℕ) → h < 256 → l < 256 → two (h * 256 + l) ≡ h ∷ l ∷ []
 unfolding two
-two-iff h l a b =
+two-of h l a b =
     let x : (h * 256 + l) / 256 % 256 ≡ h = omega arith in
     let y : (h * 256 + l) % 256 ≡ l = omega arith in
     rw (x, y) refl
 
-four-iff : (a b c d : ℕ) → a < 256 → b < 256 → c < 256 → d < 256 → four (a * 16777216 + b * 65536 + c * 256 + d) ≡ a ∷ b ∷ c ∷ d ∷ []
+four-of : (a b c d : ℕ) → a < 256 → b < 256 → c < 256 → d < 256 → four (a * 16777216 + b * 65536 + c * 256 + d) ≡ a ∷ b ∷ c ∷ d ∷ []
 unfolding four
-four-iff a b c d w x y z =
+four-of a b c d w x y z =
     let n : ℕ = a * 16777216 + b * 65536 + c * 256 + d in
     let e : n / 16777216 % 256 ≡ a = omega arith in
     let f : n / 65536 % 256 ≡ b = omega arith in
@@ -201,11 +206,12 @@ joined-of [] = refl
 joined-of (s ∷ ss) = ap (λ (t : List ℕ). s ++ t) (joined-of ss)
 
 pub lists : Lists
-unfolding replyOf
+unfolding Bytes replyOf
 lists =
     record {
-      two-bytes = two-iff;
-      four-bytes = four-iff;
+      bytes-means = λ s. (λ h. h, λ h. h);
+      two-bytes = two-of;
+      four-bytes = four-of;
       same-means = λ s t. (same-eq s t, λ e. rw e (same-refl t));
       laid-length = length-lay;
       laid-before = at-before;
