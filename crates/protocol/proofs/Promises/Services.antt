@@ -37,6 +37,6 @@ pub count-service : (x : List ℕ) → length x ≡ 32
 unfolding countService core
 count-service x e = rw e (set-ones x)
 
-pub count-none : (x : List ℕ) → length x ≢ 32 → countService x ≡ 0xffff
+pub count-service-none : (x : List ℕ) → length x ≢ 32 → countService x ≡ 0xffff
 unfolding countService core
-count-none x d = rw (ne-eqb (length x) 32 d) refl
+count-service-none x d = rw (ne-eqb (length x) 32 d) refl

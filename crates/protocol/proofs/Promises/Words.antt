@@ -9,7 +9,7 @@ use lib.Dec.{T, eqb, T-not, not-T}
 use borrow.Author.Tests.{eqb-true, eq-eqb}
 use lib.ListN.{length, getD, take, replicate}
 use Rattle.protocol.specs.Numbers.{pageBytes, leastPages, mostPages, indexBytes, indexPageBytes, notepadBytes, noteBytes, replyRoom, fourBytes, lowestLevel, highestLevel, lowestBaud, highestBaud, highestSize, baudParameter, levelParameter, sizeParameter, verifiedStatus, firstMark, secondMark, headBytes, frameBytes, commandPacket, dataPacket, acknowledgePacket, lastPacket, shortest, longest, done, badPacket, badPage, nothingThere, nothingToSend, transferFailed, badRange, wrongPassword, unknownCommand, badParameter, badValue, badNotePage, passwordFirst, badLength, badRoom, badSetting, badContent, noCount}
-use Rattle.protocol.specs.Bytes.{two, four, same, lay, joined}
+use Rattle.protocol.specs.Bytes.{Bytes, two, four, same, lay, joined}
 use Rattle.protocol.specs.Index.{bit, stored, setBits}
 use Rattle.protocol.specs.Reader.{closed, opened, unfit, Plain, Guarded, capacity, sizeOf, keyed, locked, bufferOf, emptied, filledWith, fresh, zeroed}
 use Rattle.protocol.specs.Table.{isBuffer, second, statusOf}
@@ -167,6 +167,8 @@ kept =
 -- ---- lists of bytes
 
 pub record Lists : Type 0 where
+  -- every cell is a byte
+  pub bytes-means : (s : List ℕ) → Bytes s ↔ ((i : ℕ) → getD s i 0 < 256)
   -- numbers are high byte first
   pub two-bytes : (h l : ℕ) → h < 256 → l < 256 → two (h * 256 + l) ≡ h ∷ l ∷ []
   pub four-bytes : (a b c d : ℕ) → a < 256 → b < 256 → c < 256 → d < 256 → four (a * 16777216 + b * 65536 + c * 256 + d) ≡ a ∷ b ∷ c ∷ d ∷ []
@@ -204,9 +206,10 @@ joined-of [] = refl
 joined-of (s ∷ ss) = ap (λ (t : List ℕ). s ++ t) (joined-of ss)
 
 pub lists : Lists
-unfolding replyOf
+unfolding Bytes replyOf
 lists =
     record {
+      bytes-means = λ s. (λ h. h, λ h. h);
       two-bytes = two-of;
       four-bytes = four-of;
       same-means = λ s t. (same-eq s t, λ e. rw e (same-refl t));
