@@ -16,12 +16,12 @@ pub struct Step {
     pub reply: Vec<u8>,
 }
 
-const HAND_SHAKE: &str = "EF 01 A 01 00 03 40 00 44";
-const COUNT: &str = "EF 01 A 01 00 03 1D 00 21";
+pub const HAND_SHAKE: &str = "EF 01 A 01 00 03 40 00 44";
+pub const COUNT: &str = "EF 01 A 01 00 03 1D 00 21";
 const DELETE_9_1: &str = "EF 01 A 01 00 07 0C 00 09 00 01 00 1E";
 const DELETE_9_2: &str = "EF 01 A 01 00 07 0C 00 09 00 02 00 1F";
 const DELETE_0_0: &str = "EF 01 A 01 00 07 0C 00 00 00 00 00 14";
-const FINE: &str = "EF 01 A 07 00 03 00 00 0A";
+pub const FINE: &str = "EF 01 A 07 00 03 00 00 0A";
 
 pub fn all() -> Vec<Example> {
     let fresh = fresh_reader(10);
@@ -54,12 +54,14 @@ pub fn all() -> Vec<Example> {
     ]
 }
 
-fn count(stored: u8) -> String {
+/// The reply to `COUNT` at the fresh address.
+pub fn count(stored: u8) -> String {
     format!("EF 01 A 07 00 05 00 00 {stored:02X} 00 {:02X}", 0x0C + stored)
 }
 
-/// Bytes in hexadecimal; A stands for FF FF FF FF.
-fn bytes(text: &str) -> Vec<u8> {
-    let text = text.replace(" A ", " FF FF FF FF ");
-    text.split_whitespace().filter_map(|byte| u8::from_str_radix(byte, 16).ok()).collect()
+/// Bytes in hexadecimal, with spaces anywhere between them; A by itself stands for FF FF FF FF.
+pub fn bytes(text: &str) -> Vec<u8> {
+    let digits: String = text.split_whitespace().map(|word| if word == "A" { "FFFFFFFF" } else { word }).collect();
+    let byte = |place: usize| u8::from_str_radix(&digits[place..place + 2], 16).expect("bytes in hexadecimal");
+    (0..digits.len()).step_by(2).map(byte).collect()
 }

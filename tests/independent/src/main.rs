@@ -1,29 +1,37 @@
-//! Pits a reader written from document 01 alone against another implementation of the paper.
+//! Pits a reader written from document 01 alone against another implementation of the paper, and writes the stored
+//! dialogue of the bench program with it.
 
+mod bench;
 mod cases;
 mod chance;
+mod coverage;
+mod dialogue;
 mod examples;
 mod frame;
+mod host;
 mod probe;
 mod reader;
 mod readers;
 mod report;
 mod shrink;
 mod tally;
+mod templates;
 mod wrong;
 
 use cases::Dialogue;
 use chance::Chance;
 use frame::{Outcome, Request};
 use probe::Probe;
+use std::fs;
 use std::io::{self, Write};
 use std::process::ExitCode;
 use std::time::{Duration, Instant};
-use tally::Tally;
+use tally::{Tally, ALL};
 
 const USAGE: &str = "usage: independent [--cases N] [--seed S] [--quiet] -- PROGRAM ARGS...
        independent --answer [ERROR]    be a probe, with a deliberate error if named
-       independent --errors            list the deliberate errors";
+       independent --errors            list the deliberate errors
+       independent --dialogue FOLDER   write the stored dialogue, stdin and stdout, into the folder";
 
 const DEFAULT_CASES: u64 = 10_000;
 /// So many cases or more must reach all that is counted; the examples do not count.
@@ -61,6 +69,7 @@ fn main() -> ExitCode {
     let result = match arguments.first().map(String::as_str) {
         Some("--answer") => answer(&arguments[1..]),
         Some("--errors") if arguments.len() == 1 => list_errors(),
+        Some("--dialogue") if arguments.len() == 2 => write_dialogue(&arguments[1]),
         _ => options(&arguments).map_err(End::Trouble).and_then(compare),
     };
     match result {
@@ -130,6 +139,17 @@ fn answer(arguments: &[String]) -> Result<(), End> {
     })
 }
 
+/// Writes the dialogue of the bench program, if it meets every condition.
+fn write_dialogue(folder: &str) -> Result<(), End> {
+    let stored = bench::stored().map_err(End::Disagreement)?;
+    for (name, bytes) in [("stdin", &stored.sent), ("stdout", &stored.replies)] {
+        let path = format!("{folder}/{name}");
+        fs::write(&path, bytes).map_err(|error| format!("cannot write {path}: {error}"))?;
+    }
+    println!("independent: {}", stored.lines.join("\n  "));
+    Ok(())
+}
+
 /// Sends the examples and the cases to the program, and tells whether it agrees.
 fn compare(options: Options) -> Result<(), End> {
     let mut comparer = Comparer {
@@ -155,7 +175,7 @@ fn compare(options: Options) -> Result<(), End> {
     }
     comparer.probe.finish()?;
 
-    let gaps = comparer.tally.gaps();
+    let gaps = comparer.tally.gaps(ALL);
     if !gaps.is_empty() && options.cases >= COVERING_CASES {
         let heading = "the cases are too weak, these did not occur:".to_string();
         return Err(End::Disagreement([vec![heading], gaps].concat()));
@@ -168,7 +188,7 @@ fn compare(options: Options) -> Result<(), End> {
         options.seed
     );
     if !options.quiet {
-        println!("  {}", comparer.tally.lines().join("\n  "));
+        println!("  {}", comparer.tally.lines(ALL).join("\n  "));
     }
     Ok(())
 }

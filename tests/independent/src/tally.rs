@@ -18,12 +18,16 @@ const DOWNLOADS: usize = 3;
 const REFUSALS: usize = 4;
 const SWITCHES: usize = 5;
 
+/// Every kind.
+pub const ALL: &[usize] = &[ACKNOWLEDGES, FINE, UPLOADS, DOWNLOADS, REFUSALS, SWITCHES];
+/// What a legal reader on a line can bring about.
+pub const ON_A_LINE: &[usize] = &[ACKNOWLEDGES, FINE, UPLOADS, DOWNLOADS];
+
+/// The acknowledge codes of document 01.
+pub const CODES: [u8; 13] = [0x00, 0x01, 0x0B, 0x0C, 0x0D, 0x0E, 0x10, 0x13, 0x19, 0x1A, 0x1B, 0x1C, 0x21];
+
 const KINDS: [Kind; 6] = [
-    Kind {
-        name: "acknowledge codes",
-        codes: true,
-        awaited: &[0x00, 0x01, 0x0B, 0x0C, 0x0D, 0x0E, 0x10, 0x13, 0x19, 0x1A, 0x1B, 0x1C, 0x21],
-    },
+    Kind { name: "acknowledge codes", codes: true, awaited: &CODES },
     Kind { name: "commands answered 00h", codes: true, awaited: &COMMANDS },
     Kind { name: "uploads by size", codes: false, awaited: &[32, 64, 128] },
     Kind { name: "downloads completed by size", codes: false, awaited: &[32, 64, 128] },
@@ -70,20 +74,22 @@ impl Tally {
         *self.counts.entry((kind, which)).or_default() += 1;
     }
 
-    /// A line for each kind.
-    pub fn lines(&self) -> Vec<String> {
-        let each = |(place, kind): (usize, &Kind)| {
+    /// A line for each of these kinds.
+    pub fn lines(&self, kinds: &[usize]) -> Vec<String> {
+        let each = |&place: &usize| {
+            let kind = &KINDS[place];
             let one = |&which: &u8| format!("{}={}", kind.label(which), self.number(place, which));
             let counts: Vec<String> = kind.awaited.iter().map(one).collect();
             format!("{}: {}", kind.name, counts.join(" "))
         };
-        KINDS.iter().enumerate().map(each).collect()
+        kinds.iter().map(each).collect()
     }
 
-    /// What did not occur.
-    pub fn gaps(&self) -> Vec<String> {
+    /// What of these kinds did not occur.
+    pub fn gaps(&self, kinds: &[usize]) -> Vec<String> {
         let mut gaps = Vec::new();
-        for (place, kind) in KINDS.iter().enumerate() {
+        for &place in kinds {
+            let kind = &KINDS[place];
             for &which in kind.awaited {
                 if self.number(place, which) == 0 {
                     gaps.push(format!("{}: {}", kind.name, kind.label(which)));
