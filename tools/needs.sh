@@ -25,7 +25,7 @@ packages_for() {
     for thing in "$@"; do
         if has "$thing"; then continue; fi
         case $thing in
-        serial) packages="$packages python3 python3-serial" ;;
+        serial) packages="$packages python3-serial" ;;
         *) packages="$packages $thing" ;;
         esac
     done
