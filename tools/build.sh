@@ -66,13 +66,15 @@ prove() {
 }
 
 # One start proves at a time, and others wait for it: they lock the repository's folder, which no build removes. The lock
-# ends with the last process that holds it, so a start that is killed leaves none behind. What changes meanwhile is proved
-# again.
+# ends with the last process that holds it, so a start that is killed leaves none behind. What is changed while it is proved
+# is proved once more.
 build() {
     reader="$on_x86 $program"
     if is_built; then return; fi
     exec 9<.
     flock -n 9 || { echo "bystrodol: another start builds the reader, and this one waits for it" >&2 && flock 9; }
-    until is_built; do prove; done
+    is_built || prove
+    is_built || prove
+    is_built || fail "the sources change while they are proved, so there is no reader to run"
     exec 9<&-
 }

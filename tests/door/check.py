@@ -5,6 +5,7 @@ Where it builds, it does so in a copy of the repository, with a stand-in for rt 
 one brings is the proved one. Status: 0 all is well, 1 a check failed, 2 there is no port.
 """
 
+import fcntl
 import os
 import shutil
 import signal
@@ -101,6 +102,10 @@ def build_again(copy):
     began = time.monotonic()
     check(run(copy, "a second start", 0) == [], "a second start says something")
     check(time.monotonic() - began < 1, "a second start takes %.1f s" % (time.monotonic() - began))
+    locked = os.open(copy.folder, os.O_RDONLY)
+    fcntl.flock(locked, fcntl.LOCK_EX)
+    run(copy, "a start of what is built, while another builds", 0)
+    os.close(locked)
     os.utime(copy.path("crates/wire/src/finder.rt"))
     run(copy, "a source with a new time", 0)
     append(copy.path("crates/probe/src/main.rt"), "// more\n")
@@ -119,6 +124,18 @@ def build_again(copy):
     shutil.rmtree(copy.path("target"))
     run(copy, "a change during the build", 2, DURING='[ -e changed ] || echo // more >>crates/wire/src/finder.rt; touch changed')
     run(copy, "after all", 0)
+
+
+def build_beside_reader(copy):
+    """A start that built, and whose reader runs, holds no lock: another start can build."""
+    append(copy.path("crates/wire/src/finder.rt"), "// more\n")
+    reader = copy.start("bench")
+    reader.stdin.write(HANDSHAKE)
+    reader.stdin.flush()
+    check(reader.stdout.read(len(REPLY)) == REPLY, "a reader that was built does not answer")
+    append(copy.path("crates/wire/src/finder.rt"), "// more\n")
+    run(copy, "a build beside a reader", 2)
+    reader.communicate()
 
 
 def build_in_vain(copy):
@@ -140,7 +157,7 @@ def build_killed(copy):
     for whole in (True, False):
         shutil.rmtree(copy.path("target"))
         killed = copy.start("bench", DURING="sleep 1")
-        while not os.path.exists(copy.path("busy")) or not os.path.exists(copy.path("calls")):
+        while not (os.path.exists(copy.path("calls")) and os.path.getsize(copy.path("calls"))):
             time.sleep(0.02)
         if whole:
             os.killpg(killed.pid, signal.SIGKILL)
@@ -154,7 +171,7 @@ def build_killed(copy):
 def refuse_before_building(copy):
     """What cannot be done is said before anything is built."""
     shutil.rmtree(copy.path("target"))
-    for words, said in ((["serve", "nodir/port"], "nodir"), (["serve", "tools"], "is there already"), (["serve", "-x"], "./-x"),
+    for words, said in ((["serve", "nodir/port"], "no folder nodir"), (["serve", "tools"], "is there already"), (["serve", "-x"], "./-x"),
                         (["bench", "more"], "usage:"), (["more"], "usage:"), ([], "usage:")):
         refused = subprocess.run([copy.path("bystrodol"), *words], stdin=subprocess.DEVNULL, capture_output=True, text=True,
                                  cwd=copy.folder, env=copy.environment)
@@ -248,6 +265,7 @@ def main():
             copy = Copy(os.path.join(folder, "copy"))
             check_lines(build_at_once(copy))
             build_again(copy)
+            build_beside_reader(copy)
             build_in_vain(copy)
             build_killed(copy)
             refuse_before_building(copy)
