@@ -212,7 +212,7 @@ def parser():
     options.add_argument("words", metavar="WORDS", nargs="+", help="one of the above")
     options.add_argument("--baud", type=int, default=BAUD * FRESH_BAUD_FACTOR, help="speed of the line, %(default)s")
     options.add_argument("--address", default=FRESH_ADDRESS.hex().upper(), help="of the reader, %(default)s")
-    options.add_argument("--password", help="verified first, on the same open port")
+    options.add_argument("--password", help="verified first, on the same open port; the reader stays unlocked")
     options.add_argument("--wait", type=float, metavar="SECONDS", default=SECONDS,
                          help="the longest wait for a packet, %(default)s")
     options.add_argument("--yes", action="store_true", help="empty does not ask")

@@ -6,6 +6,7 @@
 program=target/bin/bench
 log=target/bench.log
 sums=target/bench.sums
+stamp=target/stamp/bench
 
 # The crates of the program, each behind those that it stands on; the kit's own libraries are not among them.
 crates_of_program() {
@@ -56,13 +57,16 @@ tell() {
     return "$status"
 }
 
+# rt goes by its stamp of a crate and does not look at the program. Where that is gone, or the sources are those of the last
+# build and the program is not, the stamp goes too.
 prove() {
-    { mkdir -p target && rm -f "$sums" && true >"$log"; } || fail "target cannot be written in, so there is no reader to run"
     sum=$(sum_of_sources)
+    if [ ! -f "$program" ] || [ "$sum" = "$(head -n 1 "$sums" 2>/dev/null)" ]; then rm -f "$stamp"; fi
+    { mkdir -p target && rm -f "$sums" && true >"$log"; } || fail "target cannot be written in, so there is no reader to run"
     crates=$(crates_of_program | wc -l)
     echo "bystrodol: rt check bench proves and builds the reader, $crates crates; the first time this takes minutes" >&2
     rt check bench </dev/null 2>&1 | tell "$crates" || fail "rt check bench failed, so there is no reader to run; $log has all that it said"
-    { echo "$sum" && sha256sum "$program"; } >"$sums" || fail "$sums cannot be written"
+    { echo "$sum" && sha256sum "$program"; } >"$sums" || fail "$program is not there, or $sums cannot be written"
 }
 
 # One start proves at a time, and others wait for it: they lock the repository's folder, which no build removes. The lock
