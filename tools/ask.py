@@ -11,11 +11,12 @@ import sys
 
 from line import Line, Refused, Trouble, transfer_size
 from program import TROUBLE, end
-from protocol import (BAUD, BAUD_FACTOR, BY_NAME, FRESH_ADDRESS, FRESH_BAUD_FACTOR, NO_PASSWORD, NOTE, SECURITY_LEVEL,
-                      SIZE_CODE, SIZES, TEMPLATE)
-from words import plural
+from protocol import (BAUD, BAUD_FACTOR, FRESH_ADDRESS, FRESH_BAUD_FACTOR, NO_PASSWORD, NOTE, SECURITY_LEVEL, SIZE_CODE, SIZES,
+                      TEMPLATE)
 
-SECONDS = 3     # the longest wait for a packet, unless --wait says another
+SECONDS = 3                 # the longest wait for a packet, unless --wait says another
+MOST_SECONDS = 3600
+MOST_BAUD = 4000000
 
 
 # ---- what the words mean. What fits its field is sent: the reader is the judge of it.
@@ -226,8 +227,8 @@ def main(words):
         form, values = form_of(given.words)
         address = read_word(ADDRESS, given.address)
         password = given.password and read_word(PASSWORD, given.password)
-        if given.baud < 1 or not given.wait > 0:
-            raise BadWords("--baud and --wait take a number above 0")
+        if not 0 < given.baud <= MOST_BAUD or not 0 < given.wait <= MOST_SECONDS:
+            raise BadWords("--baud is a number up to %d, --wait one up to %d, and neither is 0" % (MOST_BAUD, MOST_SECONDS))
     except BadWords as wrong:
         options.error(str(wrong))
     try:

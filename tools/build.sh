@@ -65,7 +65,8 @@ prove() {
     { mkdir -p target && rm -f "$sums" && true >"$log"; } || fail "target cannot be written in, so there is no reader to run"
     crates=$(crates_of_program | wc -l)
     echo "bystrodol: rt check bench proves and builds the reader, $crates crates; the first time this takes minutes" >&2
-    rt check bench </dev/null 2>&1 | tell "$crates" || fail "rt check bench failed, so there is no reader to run; $log has all that it said"
+    rt check bench </dev/null 2>&1 | tell "$crates" ||
+        fail "rt check bench failed, so there is no reader to run; $log has all that it said"
     { echo "$sum" && sha256sum "$program"; } >"$sums" || fail "$program is not there, or $sums cannot be written"
 }
 

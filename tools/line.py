@@ -9,11 +9,11 @@ import serial
 from explain import explain
 from protocol import (ACKNOWLEDGE, BY_NAME, COMMAND, DATA, DONE, LAST_DATA, IDENTIFIERS, SIZES, TEMPLATE, UNFIT, WHOLE, Packet,
                       content_of, data_packets, fields_of, find, number, packet)
-from words import faults_of, plural, show, show_data
+from words import faults_of, in_hex, plural, show, show_data
 
 SILENCE = 0.3       # seconds: what a reader says of a data packet, if anything, it has begun to say by then
 FAILURES = (OSError, ValueError, termios.error)     # of a port
-HINT = "a reader that is busy with half a packet, has another address or another speed does not answer"
+HINT = "a reader is silent to another address, at another speed, and while it holds half a packet: ask once more"
 
 
 class Trouble(Exception):
@@ -28,7 +28,8 @@ def show_progress(what, done):
     """Where somebody looks: how much of a template has gone over the line."""
     if sys.stderr and sys.stderr.isatty():
         sys.stdout.flush()
-        print("\r%s %d of %d bytes" % (what, done, TEMPLATE), end="\n" if done == TEMPLATE else "", file=sys.stderr, flush=True)
+        end = "\n" if done == TEMPLATE else ""
+        print("\r%s %d of %d bytes" % (what, done, TEMPLATE), end=end, file=sys.stderr, flush=True)
 
 
 class Line:
@@ -79,7 +80,7 @@ class Line:
                 if found.case == UNFIT:
                     continue
                 if passed:
-                    print("   passed over: %s" % passed.hex(" "))
+                    print("   passed over: %s" % in_hex(passed))
                 return run
             if time.monotonic() >= end:
                 raise self.nothing(awaited, asked, passed + self.held)
@@ -94,14 +95,13 @@ class Line:
         return Trouble("%s, and %s came, no whole packet; at another speed bytes come like that" %
                        (waited, plural(len(came), "byte")))
 
-    def check(self, reply, asked, identifier, addresses):
-        """Holds a packet to the identifier and the addresses that it can have, and to its own form."""
+    def check(self, reply, asked, identifier, address):
+        """Holds a packet to the identifier and the address that it must have, and to its own form."""
         faults = faults_of(reply, asked)
         if reply.identifier != identifier:
             faults = ["it is no packet of identifier %d, %s" % (identifier, IDENTIFIERS[identifier])]
-        if reply.address not in addresses:
-            faults.append("it comes from address %s, and not from %s" %
-                          (reply.address.hex().upper(), addresses[-1].hex().upper()))
+        if reply.address != address:
+            faults.append("it comes from address %s, and not from %s" % (reply.address.hex().upper(), address.hex().upper()))
         if faults:
             raise Trouble("the reply is not of document 01: " + "; ".join(faults))
 
@@ -115,10 +115,11 @@ class Line:
         return self.acknowledge(asked, new_address)
 
     def acknowledge(self, asked, new_address=None):
+        """Receives, shows and checks a reply; that of a new address carries it already."""
         reply = Packet(self.receive("the acknowledge of %s" % asked.name, asked))
         show("reader", reply.run, asked)
-        done_from = new_address or self.address
-        self.check(reply, asked, ACKNOWLEDGE, [done_from if reply.code == DONE else self.address])
+        changes = new_address and reply.code == DONE
+        self.check(reply, asked, ACKNOWLEDGE, new_address if changes else self.address)
         if reply.code != DONE:
             raise Refused
         return fields_of(asked.listed, reply.content[1:])
@@ -130,7 +131,7 @@ class Line:
         while len(template) < TEMPLATE:
             is_last = len(template) + size == TEMPLATE
             part = Packet(self.receive("data packet %d of %d" % (len(runs) + 1, TEMPLATE // size), None))
-            self.check(part, None, LAST_DATA if is_last else DATA, [self.address])
+            self.check(part, None, LAST_DATA if is_last else DATA, self.address)
             if len(part.content) != size:
                 raise Trouble("a data packet has %d bytes, and %d are the size" % (len(part.content), size))
             runs.append(part.run)

@@ -147,7 +147,8 @@ BAD_WORDS = (
     "PORT|password|1234", "PORT|password|1234567g", "PORT|password|12 34 56 78", "PORT|set-address|123456789",
     "PORT|set-size|256", "PORT|set-size|1", "PORT|set-level|x", "PORT|set-baud|1000", "PORT|set-baud|2457600",
     "PORT|count|--address|1", "PORT|count|--password|x", "PORT|count|--baud|x", "PORT|count|--baud|0",
-    "PORT|count|--wait|0", "PORT|count|--wait|nan", "PORT|count|--speed|1", "PORT|count|--pass|00000000")
+    "PORT|count|--baud|99999999999", "PORT|count|--wait|0", "PORT|count|--wait|nan", "PORT|count|--wait|inf",
+    "PORT|count|--speed|1", "PORT|count|--pass|00000000")
 
 
 def give_bad_words():

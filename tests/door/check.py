@@ -69,6 +69,8 @@ def finish(process, what):
 
 def run(copy, what, calls, **environment):
     said = finish(copy.start("bench", **environment), what)
+    with open(copy.path("target/bin/bench"), "rb") as built, open(copy.environment["PROGRAM"], "rb") as proved:
+        check(built.read() == proved.read(), "%s: the program is not the one that rt brought" % what)
     called = copy.calls()
     check(called == calls, "%s: rt is called %d times, and not %d\n%s" % (what, called, calls, "\n".join(said)))
     return said
@@ -119,10 +121,16 @@ def build_again(copy):
         run(copy, "a change of " + name, 1)
     os.unlink(copy.path("target/bin/bench"))
     run(copy, "no program", 1)
+    os.unlink(copy.path("target/bin/bench"))
+    os.unlink(copy.path("target/bench.sums"))
+    run(copy, "no program, and no sums of it", 1)
+    os.unlink(copy.path("target/bench.sums"))
+    run(copy, "no sums", 1)
     shutil.rmtree(copy.path("target"))
     run(copy, "no target", 1)
     shutil.rmtree(copy.path("target"))
-    run(copy, "a change during the build", 2, DURING='[ -e changed ] || echo // more >>crates/wire/src/finder.rt; touch changed')
+    during = "[ -e changed ] || echo // more >>crates/wire/src/finder.rt; touch changed"
+    run(copy, "a change during the build", 2, DURING=during)
     run(copy, "after all", 0)
 
 
@@ -168,13 +176,16 @@ def build_killed(copy):
         killed.communicate()
 
 
+REFUSED = {"serve nodir/port": "no folder nodir", "serve tools": "is there already", "serve -x": "./-x", "bench more": "usage:",
+           "more": "usage:", "": "usage:"}
+
+
 def refuse_before_building(copy):
     """What cannot be done is said before anything is built."""
     shutil.rmtree(copy.path("target"))
-    for words, said in ((["serve", "nodir/port"], "no folder nodir"), (["serve", "tools"], "is there already"), (["serve", "-x"], "./-x"),
-                        (["bench", "more"], "usage:"), (["more"], "usage:"), ([], "usage:")):
-        refused = subprocess.run([copy.path("bystrodol"), *words], stdin=subprocess.DEVNULL, capture_output=True, text=True,
-                                 cwd=copy.folder, env=copy.environment)
+    for words, said in REFUSED.items():
+        refused = subprocess.run([copy.path("bystrodol"), *words.split()], stdin=subprocess.DEVNULL, capture_output=True,
+                                 text=True, cwd=copy.folder, env=copy.environment)
         check(refused.returncode == 2 and said in refused.stderr and not refused.stdout,
               "%s: status %d, %s" % (words, refused.returncode, refused.stderr))
     check(copy.calls() == 0, "it builds before it refuses")
@@ -204,7 +215,8 @@ def give_help():
     with tempfile.TemporaryDirectory() as folder:
         for words in ("help", "--help", "-h", "serve --help", "serve -h", "demo --help", "bench -h", "test --help", "ask --help",
                       "explain --help"):
-            told = subprocess.run([BYSTRODOL, *words.split()], stdin=subprocess.DEVNULL, capture_output=True, text=True, cwd=folder)
+            told = subprocess.run([BYSTRODOL, *words.split()], stdin=subprocess.DEVNULL, capture_output=True, text=True,
+                                  cwd=folder)
             check(told.returncode == 0 and told.stdout.startswith("usage: ./bystrodol") and not told.stderr,
                   "%s: status %d, %s" % (words, told.returncode, told.stdout + told.stderr))
         check(os.listdir(folder) == [], "a word for help leaves a file")
