@@ -45,66 +45,71 @@ def side_by_side(function, rows):
 
 # ---- a reader
 
+DONE = "07 00 03 00 00 0a"
+# To a fresh reader, in turn: the words, what goes out and what comes back behind the address, the status, and what is said.
+DIALOGUE = (
+    ("handshake", "01 00 03 40 00 44", DONE, 0, "command 40h HandShake", "acknowledge 00h, done"),
+    ("parameters", "01 00 03 0f 00 13", "07 00 13 00 00 00 00 00 00 40 00 03 ff ff ff ff 00 01 00 06 04 60", 0,
+     "capacity 64 (pages)", "security level 3", "64 bytes in a data packet", "57600 baud", "no password verified"),
+    ("count", "01 00 03 1d 00 21", "07 00 05 00 00 00 00 0c", 0, "templates stored 0"),
+    ("index", "01 00 04 1f 00 00 24", "07 00 23 00 00", 0, "index no page"),
+    ("note|3|Station 12", "01 00 24 18 03 53 74 61 74 69 6f 6e 20 31 32 00", DONE, 0, 'page 3, text "Station 12"'),
+    ("note|3", "01 00 04 19 03 00 21", "07 00 23 00 53 74 61 74 69 6f 6e 20 31 32 00", 0, 'text "Station 12"'),
+    ("note|15|" + "x" * 32, "01 00 24 18 0f 78", DONE, 0),
+    ("note|16", "01 00 04 19 10 00 2e", "07 00 03 1c 00 26", 1, "no such notepad page"),
+    ("note|3|-5 V", "01 00 24 18 03 2d 35 20 56 00", DONE, 0),
+    ("note|3|", "01 00 24 18 03 00", DONE, 0, 'text ""'),
+    ("download|1|FOLDER/template", "01 00 04 09 01 00 0f", DONE, 0, "host    ef 01 ff ff ff ff 02 00 42",
+     "and 6 more like it", "host    ef 01 ff ff ff ff 08 00 42", "buffer 1 holds the 512 bytes that were sent"),
+    ("store|1|7", "01 00 06 06 01 00 07 00 15", DONE, 0, "buffer 1, page 7"),
+    ("store|1|8", "01 00 06 06 01 00 08 00 16", DONE, 0),
+    ("store|1|11", "01 00 06 06 01 00 0b 00 19", DONE, 0),
+    ("store|3|7", "01 00 06 06 03 00 07 00 17", "07 00 03 01 00 0b", 1, "bad parameter"),
+    ("store|1|64", "01 00 06 06 01 00 40 00 4e", "07 00 03 0b 00 15", 1, "no such page"),
+    ("count", "01 00 03 1d 00 21", "07 00 05 00 00 03 00 0f", 0, "templates stored 3"),
+    ("index", "01 00 04 1f 00 00 24", "07 00 23 00 80 09 00", 0, "index pages 7 to 8, 11"),
+    ("upload|2|FOLDER/read-back", "01 00 04 08 02 00 0f", "07 00 03 0d 00 17", 1, "the buffer is not filled"),
+    ("load|2|7", "01 00 06 07 02 00 07 00 17", DONE, 0, "buffer 2, page 7"),
+    ("load|2|9", "01 00 06 07 02 00 09 00 19", "07 00 03 0c 00 16", 1, "nothing is there"),
+    ("set-size|128", "01 00 05 0e 06 02 00 1c", DONE, 0, "number 6, value 2"),
+    ("upload|2|FOLDER/read-back", "01 00 04 08 02 00 0f", DONE, 0, "reader  ef 01 ff ff ff ff 08 00 82",
+     "has the 512 bytes"),
+    ("set-size|32", "01 00 05 0e 06 00 00 1a", DONE, 0),
+    ("download|2|FOLDER/template", "01 00 04 09 02 00 10", DONE, 0, "host    ef 01 ff ff ff ff 08 00 22",
+     "and 14 more like it"),
+    ("set-level|5", "01 00 05 0e 05 05 00 1e", DONE, 0),
+    ("set-level|6", "01 00 05 0e 05 06 00 1f", "07 00 03 1b 00 25", 1, "no such value"),
+    ("set-baud|115200", "01 00 05 0e 04 0c 00 24", DONE, 0, "--baud 115200"),
+    ("delete|7|2", "01 00 07 0c 00 07 00 02 00 1d", DONE, 0, "page 7, count 2"),
+    ("delete|63|2", "01 00 07 0c 00 3f 00 02 00 55", "07 00 03 10 00 1a", 1, "no such pages"),
+    ("delete|11", "01 00 07 0c 00 0b 00 01 00 20", DONE, 0, "page 11, count 1"),
+    ("store|1|0", "01 00 06 06 01 00 00 00 0e", DONE, 0),
+    ("empty|--yes", "01 00 03 0d 00 11", DONE, 0),
+    ("count", "01 00 03 1d 00 21", "07 00 05 00 00 00 00 0c", 0, "templates stored 0"),
+    ("set-password|12345678", "01 00 07 12 12 34 56 78 01 2e", DONE, 0, "--password 12345678"),
+    ("count", "01 00 03 1d 00 21", "07 00 03 21 00 2b", 1, "locked: the password first"),
+    ("upload|1|FOLDER/none", "01 00 03 0f 00 13", "07 00 03 21 00 2b", 1),
+    ("--password|00000005|empty|--yes", "01 00 07 13 00 00 00 05 00 20", "07 00 03 13 00 1d", 1, "wrong password"),
+    ("count|--password|12345678", "01 00 07 13 12 34 56 78 01 2f", DONE, 0, "host    ef 01 ff ff ff ff 01 00 03 1d 00 21",
+     "templates stored 0"),
+    ("password|12345678", "01 00 07 13 12 34 56 78 01 2f", DONE, 0),
+    ("set-password|00000000", "01 00 07 12 00 00 00 00 00 1a", DONE, 0),
+    ("set-address|12345678", "01 00 07 15 12 34 56 78 01 31", DONE, 0, "--address 12345678"),
+    ("--address|12345678|--baud|9600|handshake", "01 00 03 40 00 44", DONE, 0),
+)
+
+
 def ask_each(port, folder):
-    """Each word, on a fresh reader: what goes out, what comes back, and in words."""
-    template, read_back = os.path.join(folder, "template"), os.path.join(folder, "read-back")
-    with open(template, "wb") as file:
+    with open(os.path.join(folder, "template"), "wb") as file:
         file.write(TEMPLATE)
-
-    def ask(words, sent, reply, *said, status=0):
+    for words, sent, reply, status, *said in DIALOGUE:
         address = "12 34 56 78" if "--address" in words else "ff ff ff ff"
-        from_address = "12 34 56 78" if "set-address" in words else address
-        expect(["ask", port, *words.split("|")], status,
-               "host    ef 01 %s %s" % (address, sent), "reader  ef 01 %s %s" % (from_address, reply), *said)
-
-    ok = "07 00 03 00 00 0a"
-    ask("handshake", "01 00 03 40 00 44", ok, "command 40h HandShake", "acknowledge 00h, done")
-    ask("parameters", "01 00 03 0f 00 13", "07 00 13 00 00 00 00 00 00 40 00 03 ff ff ff ff 00 01 00 06 04 60",
-        "capacity 64 (pages)", "security level 3", "64 bytes in a data packet", "57600 baud", "no password verified")
-    ask("count", "01 00 03 1d 00 21", "07 00 05 00 00 00 00 0c", "templates stored 0")
-    ask("index", "01 00 04 1f 00 00 24", "07 00 23 00 00", "index no page")
-    ask("note|3|Station 12", "01 00 24 18 03 53 74 61 74 69 6f 6e 20 31 32 00", ok, 'page 3, text "Station 12"')
-    ask("note|3", "01 00 04 19 03 00 21", "07 00 23 00 53 74 61 74 69 6f 6e 20 31 32 00", 'text "Station 12"')
-    ask("note|15|%s" % ("x" * 32), "01 00 24 18 0f 78", ok)
-    ask("note|16", "01 00 04 19 10 00 2e", "07 00 03 1c 00 26", "no such notepad page", status=1)
-    ask("note|3|-5 V", "01 00 24 18 03 2d 35 20 56 00", ok)
-    ask("note|3|", "01 00 24 18 03 00", ok, 'text ""')
-    ask("download|1|" + template, "01 00 04 09 01 00 0f", ok, "host    ef 01 ff ff ff ff 02 00 42", "and 6 more like it",
-        "host    ef 01 ff ff ff ff 08 00 42", "buffer 1 holds the 512 bytes that were sent")
-    ask("store|1|7", "01 00 06 06 01 00 07 00 15", ok, "buffer 1, page 7")
-    ask("store|1|8", "01 00 06 06 01 00 08 00 16", ok)
-    ask("store|1|11", "01 00 06 06 01 00 0b 00 19", ok)
-    ask("store|3|7", "01 00 06 06 03 00 07 00 17", "07 00 03 01 00 0b", "bad parameter", status=1)
-    ask("store|1|64", "01 00 06 06 01 00 40 00 4e", "07 00 03 0b 00 15", "no such page", status=1)
-    ask("count", "01 00 03 1d 00 21", "07 00 05 00 00 03 00 0f", "templates stored 3")
-    ask("index", "01 00 04 1f 00 00 24", "07 00 23 00 80 09 00", "index pages 7 to 8, 11")
-    ask("upload|2|" + read_back, "01 00 04 08 02 00 0f", "07 00 03 0d 00 17", "the buffer is not filled", status=1)
-    check(not os.path.exists(read_back), "an upload that is refused leaves a file")
-    ask("load|2|7", "01 00 06 07 02 00 07 00 17", ok, "buffer 2, page 7")
-    ask("load|2|9", "01 00 06 07 02 00 09 00 19", "07 00 03 0c 00 16", "nothing is there", status=1)
-    ask("set-size|128", "01 00 05 0e 06 02 00 1c", ok, "number 6, value 2")
-    ask("upload|2|" + read_back, "01 00 04 08 02 00 0f", ok, "reader  ef 01 ff ff ff ff 08 00 82", "has the 512 bytes")
-    with open(read_back, "rb") as file:
+        new_address = "12 34 56 78" if "set-address" in words else address
+        expect(["ask", port, *words.replace("FOLDER", folder).split("|")], status, "host    ef 01 %s %s" % (address, sent),
+               "reader  ef 01 %s %s" % (new_address, reply), *said)
+    with open(os.path.join(folder, "read-back"), "rb") as file:
         check(file.read() == TEMPLATE, "what is uploaded is not what was downloaded")
-    ask("set-size|32", "01 00 05 0e 06 00 00 1a", ok)
-    ask("download|2|" + template, "01 00 04 09 02 00 10", ok, "host    ef 01 ff ff ff ff 08 00 22", "and 14 more like it")
-    ask("set-level|5", "01 00 05 0e 05 05 00 1e", ok)
-    ask("set-level|6", "01 00 05 0e 05 06 00 1f", "07 00 03 1b 00 25", "no such value", status=1)
-    ask("set-baud|115200", "01 00 05 0e 04 0c 00 24", ok, "--baud 115200")
-    ask("delete|7|2", "01 00 07 0c 00 07 00 02 00 1d", ok, "page 7, count 2")
-    ask("delete|63|2", "01 00 07 0c 00 3f 00 02 00 55", "07 00 03 10 00 1a", "no such pages", status=1)
-    ask("delete|11", "01 00 07 0c 00 0b 00 01 00 20", ok, "page 11, count 1")
-    ask("empty|--yes", "01 00 03 0d 00 11", ok)
-    ask("set-password|12345678", "01 00 07 12 12 34 56 78 01 2e", ok, "--password 12345678")
-    ask("count", "01 00 03 1d 00 21", "07 00 03 21 00 2b", "locked: the password first", status=1)
-    ask("upload|1|" + os.path.join(folder, "none"), "01 00 03 0f 00 13", "07 00 03 21 00 2b", status=1)
-    ask("--password|00000005|empty|--yes", "01 00 07 13 00 00 00 05 00 20", "07 00 03 13 00 1d", "wrong password", status=1)
-    ask("count|--password|12345678", "01 00 07 13 12 34 56 78 01 2f", ok, "host    ef 01 ff ff ff ff 01 00 03 1d 00 21",
-        "templates stored 0")
-    ask("password|12345678", "01 00 07 13 12 34 56 78 01 2f", ok)
-    ask("set-password|00000000", "01 00 07 12 00 00 00 00 00 1a", ok)
-    ask("set-address|12345678", "01 00 07 15 12 34 56 78 01 31", ok, "--address 12345678")
-    ask("--address|12345678|--baud|9600|handshake", "01 00 03 40 00 44", ok)
+    check(sorted(os.listdir(folder)) == ["read-back", "template"], "an upload that is refused leaves a file")
     expect(["ask", "--wait", WAIT, port, "handshake"], 2, "waited 1 s for the acknowledge of HandShake", "nothing came")
 
 
