@@ -1,5 +1,7 @@
 """A serial port with a reader behind it: commands go out, and what comes back is held to document 01."""
 
+import errno
+import os
 import sys
 import termios
 import time
@@ -24,6 +26,14 @@ class Refused(Exception):
     """The reader answers a code other than 00h."""
 
 
+def reason(failure):
+    """Why a port failed, in the system's words."""
+    code = getattr(failure, "errno", None)
+    if code == errno.EAGAIN:
+        return "another program has it"
+    return os.strerror(code) if code else str(failure.args[-1])
+
+
 def show_progress(what, done):
     """Where somebody looks: how much of a template has gone over the line."""
     if sys.stderr and sys.stderr.isatty():
@@ -38,7 +48,7 @@ class Line:
         try:
             self.port = serial.Serial(name, baud, timeout=seconds, write_timeout=seconds, exclusive=True)
         except FAILURES as failure:
-            raise Trouble("%s cannot be opened at %d baud: %s" % (name, baud, failure))
+            raise Trouble("%s cannot be opened at %d baud: %s" % (name, baud, reason(failure)))
 
     def __enter__(self):
         return self
@@ -52,14 +62,14 @@ class Line:
         try:
             self.port.reset_input_buffer()
         except FAILURES as failure:
-            raise Trouble("the port failed: %s" % failure)
+            raise Trouble("the port failed: %s" % reason(failure))
 
     def send(self, run):
         try:
             self.port.write(run)
             self.port.flush()
         except FAILURES as failure:
-            raise Trouble("the port takes no more bytes: %s" % failure)
+            raise Trouble("the port takes no more bytes: %s" % reason(failure))
 
     def read(self, seconds):
         """What is there; if nothing is, what comes within so many seconds."""
@@ -67,7 +77,7 @@ class Line:
             self.port.timeout = max(seconds, 0)
             return self.port.read(max(self.port.in_waiting, 1))
         except FAILURES as failure:
-            raise Trouble("the port gives no more bytes: %s" % failure)
+            raise Trouble("the port gives no more bytes: %s" % reason(failure))
 
     def receive(self, awaited, asked):
         """The next packet. What comes before it is passed over as document 01 says, and told."""

@@ -6,6 +6,7 @@ for readers that answer what no reader should. Status: 0 all is well, 1 a check 
 """
 
 import concurrent.futures
+import fcntl
 import os
 import subprocess
 import sys
@@ -174,6 +175,9 @@ def give_bad_words():
         expect(["ask", peer.name, "upload", "1", os.path.join(folder, "none", "file")], 2, "cannot be made")
         expect(["ask", os.path.join(folder, "none"), "count"], 2, "cannot be opened")
         expect(["ask", os.devnull, "count"], 2, "cannot be opened")
+        with open(peer.name, "rb", buffering=0) as port:
+            fcntl.flock(port, fcntl.LOCK_EX)
+            expect(["ask", peer.name, "count"], 2, "another program has it")
         check(peer.heard == b"", "bad words send a packet")
 
 
