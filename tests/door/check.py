@@ -21,7 +21,7 @@ ROOT = os.path.dirname(os.path.dirname(HERE))
 HANDSHAKE = bytes.fromhex("ef01ffffffff010003400044")
 REPLY = bytes.fromhex("ef01ffffffff07000300000a")
 CRATES = ["protocol", "wire", "library", "reader", "place", "bench"]
-STARTS = 4      # at once
+STARTS = 4      # at once, and of those that are timed
 ENDINGS = (signal.SIGINT, signal.SIGQUIT, signal.SIGTERM, signal.SIGHUP)
 
 
@@ -99,11 +99,17 @@ def check_lines(lines):
     check(lines[1:] == expected and "6 crates" in lines[0], "a first start says: %s" % lines)
 
 
-def build_again(copy):
-    """What is built of the very sources is started without rt; anything else is proved."""
+def time_of_start(copy):
+    """Seconds from a start of what is built to the reader's end."""
     began = time.monotonic()
     check(run(copy, "a second start", 0) == [], "a second start says something")
-    check(time.monotonic() - began < 1, "a second start takes %.1f s" % (time.monotonic() - began))
+    return time.monotonic() - began
+
+
+def build_again(copy):
+    """What is built of the very sources is started without rt; anything else is proved."""
+    took = min(time_of_start(copy) for _ in range(STARTS))
+    check(took < 1, "a second start takes %.1f s" % took)
     locked = os.open(copy.folder, os.O_RDONLY)
     fcntl.flock(locked, fcntl.LOCK_EX)
     run(copy, "a start of what is built, while another builds", 0)
