@@ -226,7 +226,7 @@ def main(words):
     try:
         form, values = form_of(given.words)
         address = read_word(ADDRESS, given.address)
-        password = given.password and read_word(PASSWORD, given.password)
+        password = None if given.password is None else read_word(PASSWORD, given.password)
         if not 0 < given.baud <= MOST_BAUD or not 0 < given.wait <= MOST_SECONDS:
             raise BadWords("--baud is a number up to %d, --wait one up to %d, and neither is 0" % (MOST_BAUD, MOST_SECONDS))
     except BadWords as wrong:

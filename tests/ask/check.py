@@ -152,7 +152,7 @@ BAD_WORDS = (
     "PORT|store|-1|1", "PORT|delete|1|2|3", "PORT|note|256", "PORT|note|1|" + "x" * 33, "PORT|note|1|a|b", "PORT|password",
     "PORT|password|1234", "PORT|password|1234567g", "PORT|password|12 34 56 78", "PORT|set-address|123456789",
     "PORT|set-size|256", "PORT|set-size|1", "PORT|set-level|x", "PORT|set-baud|1000", "PORT|set-baud|2457600",
-    "PORT|count|--address|1", "PORT|count|--password|x", "PORT|count|--baud|x", "PORT|count|--baud|0",
+    "PORT|count|--address|1", "PORT|count|--password|x", "PORT|count|--password|", "PORT|count|--baud|x", "PORT|count|--baud|0",
     "PORT|count|--baud|99999999999", "PORT|count|--wait|0", "PORT|count|--wait|nan", "PORT|count|--wait|inf",
     "PORT|count|--speed|1", "PORT|count|--pass|00000000")
 
