@@ -4,124 +4,25 @@
     demo.py READER ARGS...
 
 READER ARGS... starts a fresh reader of 64 pages: packets in on standard input, replies out on standard output.
-Every answer is held to document 01. Ends 0 if all are as it says, 1 if one is not, 2 if no reader can be started.
+Every answer is held to document 01. Ends 0 if all are as it says, 1 if one is not, 2 if it cannot be shown.
 """
 
-import os
 import select
 import subprocess
 import sys
 
+from program import TROUBLE, end
+from protocol import (ACKNOWLEDGE, BY_NAME, COMMAND, DAMAGED, FRESH_ADDRESS, FRESH_BAUD_FACTOR, FRESH_SIZE_CODE, HEAD,
+                      NOTE, SIZES, TEMPLATE, content_of, data_packets, number, packet, two_bytes)
+from words import show, show_data
+
 SECONDS = 10                        # the longest wait for an answer
-ADDRESS = b"\xff" * 4               # of a fresh reader, and so is the size code
-SIZE_CODE = 1
-SIZES = {0: 32, 1: 64, 2: 128}      # the bytes in a data packet, by size code
-
-COMMAND, DATA, ACKNOWLEDGE, LAST_DATA = 1, 2, 7, 8
-IDENTIFIERS = {COMMAND: "command", DATA: "data", ACKNOWLEDGE: "acknowledge", LAST_DATA: "last data"}
-
-# A command's name, its parameters, and what a reply of 00h lists, each with its length in bytes.
-COMMANDS = {
-    0x06: ("Store", {"buffer": 1, "page": 2}, {}),
-    0x07: ("LoadChar", {"buffer": 1, "page": 2}, {}),
-    0x08: ("UpChar", {"buffer": 1}, {}),
-    0x09: ("DownChar", {"buffer": 1}, {}),
-    0x0C: ("DeletChar", {"page": 2, "count": 2}, {}),
-    0x0D: ("Empty", {}, {}),
-    0x0E: ("SetSysPara", {"number": 1, "value": 1}, {}),
-    0x0F: ("ReadSysPara", {}, {"status": 2, "sensor type": 2, "capacity": 2, "security level": 2, "address": 4,
-                               "size code": 2, "baud factor": 2}),
-    0x12: ("SetPwd", {"password": 4}, {}),
-    0x13: ("VfyPwd", {"password": 4}, {}),
-    0x15: ("SetAdder", {"address": 4}, {}),
-    0x18: ("WriteNotepad", {"page": 1, "text": 32}, {}),
-    0x19: ("ReadNotepad", {"page": 1}, {"text": 32}),
-    0x1D: ("TempleteNum", {}, {"templates stored": 2}),
-    0x1F: ("ReadIndexTable", {"page": 1}, {"index": 32}),
-    0x40: ("HandShake", {}, {}),
-}
-
-ACKNOWLEDGES = {
-    0x00: "done",
-    0x01: "damaged packet or bad parameter",
-    0x0B: "no such page",
-    0x0C: "nothing is there",
-    0x0D: "the buffer is not filled",
-    0x0E: "the transfer failed",
-    0x10: "no such pages",
-    0x13: "wrong password",
-    0x19: "unknown command",
-    0x1A: "no such parameter",
-    0x1B: "no such value",
-    0x1C: "no such notepad page",
-    0x21: "locked: the password first",
-}
-
-# What the numbers of some fields mean.
-MEANINGS = {
-    "status": lambda n: "password verified" if n & 4 else "no password verified",
-    "capacity": lambda n: "pages",
-    "security level": lambda n: "of 1 to 5",
-    "size code": lambda n: "%s bytes in a data packet" % SIZES.get(n, "no"),
-    "baud factor": lambda n: "%d baud" % (9600 * n),
-}
+CAPACITY = 64
+SIZE = SIZES[FRESH_SIZE_CODE]
 
 
 class Wrong(Exception):
     """The reader does not do what document 01 says."""
-
-
-def two_bytes(number):
-    return number.to_bytes(2, "big")
-
-
-def packet(identifier, content):
-    summed = bytes([identifier]) + two_bytes(len(content) + 2) + content
-    return b"\xef\x01" + ADDRESS + summed + two_bytes(sum(summed) % 65536)
-
-
-def in_hex(run):
-    """All bytes of a run; the ends of a long one."""
-    return run.hex(" ") if len(run) <= 32 else "%s .. %s (%d bytes)" % (run[:13].hex(" "), run[-6:].hex(" "), len(run))
-
-
-def field_in_words(name, value):
-    if len(value) > 2:
-        return "%s %s" % (name, value.hex().upper() if len(value) == 4 else in_hex(value))
-    number = int.from_bytes(value, "big")
-    return "%s %d" % (name, number) + (" (%s)" % MEANINGS[name](number) if name in MEANINGS else "")
-
-
-def fields_in_words(fields, run):
-    words = []
-    for name, length in fields.items():
-        words.append(field_in_words(name, run[:length]))
-        run = run[length:]
-    return words
-
-
-def in_words(run, asked):
-    """What a packet is, and its fields; asked is the code of the command that it answers."""
-    identifier, content = run[6], run[9:-2]
-    kind = IDENTIFIERS.get(identifier, "identifier %d" % identifier)
-    if identifier not in (COMMAND, ACKNOWLEDGE) or not content:
-        return "%s, %d bytes" % (kind, len(content)), []
-    code = content[0]
-    if identifier == COMMAND:
-        name, fields, _ = COMMANDS.get(code, ("unknown", {}, {}))
-        said = " " + name
-    else:
-        fields = COMMANDS[asked][2] if code == 0 else {}
-        said = ", " + ACKNOWLEDGES.get(code, "not a code of document 01")
-    return "%s %02Xh%s" % (kind, code, said), fields_in_words(fields, content[1:])
-
-
-def show(who, run, asked=None):
-    what, fields = in_words(run, asked)
-    line = "%s: %s" % (what, ", ".join(fields)) if fields else what
-    print("   %-6s  %s" % (who, in_hex(run)))
-    for one in [line] if len(line) <= 80 else [what] + ["  " + field for field in fields]:
-        print("           " + one)
 
 
 class Reader:
@@ -148,29 +49,43 @@ class Reader:
             run += got
         return run
 
-    def ask(self, title, content, code=0, listed=b""):
-        """Sends a command, and holds the reply to the code and the listed bytes that document 01 says."""
+    def receive_packet(self):
+        head = self.receive(HEAD)
+        return head + self.receive(number(head[7:]))
+
+    def exchange(self, title, command, asked, code, listed):
+        """Sends a command packet, and holds the reply to the code and the listed bytes that document 01 says."""
         self.answers += 1
         print("\n%d. %s" % (self.answers, title))
-        command, expected = packet(COMMAND, content), packet(ACKNOWLEDGE, bytes([code]) + listed)
         show("host", command)
         self.send(command)
-        head = self.receive(9)
-        reply = head + self.receive(int.from_bytes(head[7:], "big"))
-        show("reader", reply, content[0])
+        reply, expected = self.receive_packet(), packet(ACKNOWLEDGE, bytes([code]) + listed)
+        show("reader", reply, asked)
         if reply != expected:
-            show("doc 01", expected, content[0])
+            show("doc 01", expected, asked)
             raise Wrong("The reader does not answer what document 01 says.")
 
-    def download(self, content):
+    def ask(self, title, name, *values, code=0, listed=b""):
+        self.exchange(title, packet(COMMAND, content_of(name, *values)), BY_NAME[name], code, listed)
+
+    def ask_damaged(self, title, name, *values):
+        """Sends a command with a bit of its sum turned."""
+        whole = packet(COMMAND, content_of(name, *values))
+        self.exchange(title, whole[:-1] + bytes([whole[-1] ^ 1]), BY_NAME[name], DAMAGED, b"")
+
+    def download(self, template):
         """Sends the data packets of a transfer, which are taken in silence."""
-        size = SIZES[SIZE_CODE]
-        parts = [content[at:at + size] for at in range(0, len(content), size)]
-        packets = [packet(DATA, part) for part in parts[:-1]] + [packet(LAST_DATA, parts[-1])]
+        packets = data_packets(template, SIZE)
         self.send(b"".join(packets))
-        show("host", packets[0])
-        print("           and %d more like it" % (len(packets) - 2))
-        show("host", packets[-1])
+        show_data("host", packets)
+
+    def upload(self, template):
+        """Receives the data packets of a transfer."""
+        expected = data_packets(template, SIZE)
+        packets = [self.receive_packet() for _ in expected]
+        show_data("reader", packets)
+        if packets != expected:
+            raise Wrong("The reader does not give back the template that it was sent.")
 
     def end(self):
         """Ends the reader's input: it has nothing more to say."""
@@ -181,20 +96,29 @@ class Reader:
 
 def dialogue(reader):
     password = bytes.fromhex("12345678")
-    page = two_bytes(7)
+    template = bytes(3 * i % 251 for i in range(TEMPLATE))
+    note = b"Station 12, vault 3".ljust(NOTE, b"\0")
     print("A packet: ef 01, address (4 bytes), identifier (1), length (2), content, sum (2).")
-    reader.ask("Is a reader there?", b"\x40")
-    reader.ask("What are its parameters?", b"\x0f", 0, b"".join(
-        [two_bytes(0), two_bytes(0), two_bytes(64), two_bytes(3), ADDRESS, two_bytes(SIZE_CODE), two_bytes(6)]))
-    reader.ask("A template goes into buffer 1.", b"\x09\x01")
-    reader.download(bytes(3 * i % 251 for i in range(512)))
-    reader.ask("Buffer 1 is stored on page 7.", b"\x06\x01" + page)
-    reader.ask("How many templates are stored?", b"\x1d", 0, two_bytes(1))
-    reader.ask("A password is set. From now on the reader is locked.", b"\x12" + password)
-    reader.ask("How many templates are stored?", b"\x1d", 0x21)
-    reader.ask("The right password unlocks it.", b"\x13" + password)
-    reader.ask("Page 7 is deleted.", b"\x0c" + page + two_bytes(1))
-    reader.ask("How many templates are stored?", b"\x1d", 0, two_bytes(0))
+    reader.ask("Is a reader there?", "HandShake")
+    reader.ask("What are its parameters?", "ReadSysPara", listed=b"".join(
+        [two_bytes(0), two_bytes(0), two_bytes(CAPACITY), two_bytes(3), FRESH_ADDRESS, two_bytes(FRESH_SIZE_CODE),
+         two_bytes(FRESH_BAUD_FACTOR)]))
+    reader.ask("A template goes into buffer 1.", "DownChar", 1)
+    reader.download(template)
+    reader.ask("Buffer 1 is stored on page 7.", "Store", 1, 7)
+    reader.ask("How many templates are stored?", "TempleteNum", listed=two_bytes(1))
+    reader.ask("Page 7 is loaded into buffer 2.", "LoadChar", 2, 7)
+    reader.ask("What buffer 2 holds is the template that was sent.", "UpChar", 2)
+    reader.upload(template)
+    reader.ask("A note is written on notepad page 3.", "WriteNotepad", 3, note)
+    reader.ask("What is on notepad page 3?", "ReadNotepad", 3, listed=note)
+    reader.ask_damaged("All pages are deleted, but on the way a bit of the packet has turned.", "Empty")
+    reader.ask("So nothing is lost. How many templates are stored?", "TempleteNum", listed=two_bytes(1))
+    reader.ask("A password is set. From now on the reader is locked.", "SetPwd", password)
+    reader.ask("How many templates are stored?", "TempleteNum", code=0x21)
+    reader.ask("The right password unlocks it.", "VfyPwd", password)
+    reader.ask("Page 7 is deleted.", "DeletChar", 7, 1)
+    reader.ask("How many templates are stored?", "TempleteNum", listed=two_bytes(0))
     reader.end()
 
 
@@ -203,7 +127,7 @@ def main(command):
         reader = Reader(command)
     except (IndexError, OSError) as trouble:
         print("demo: cannot start a reader by %s: %s" % (command, trouble), file=sys.stderr)
-        return 2
+        return TROUBLE
     try:
         dialogue(reader)
     except (Wrong, subprocess.TimeoutExpired) as wrong:
@@ -216,9 +140,4 @@ def main(command):
 
 
 if __name__ == "__main__":
-    try:
-        sys.exit(main(sys.argv[1:]))
-    except BrokenPipeError:
-        # Nobody reads the rest.
-        os.dup2(os.open(os.devnull, os.O_WRONLY), sys.stdout.fileno())
-        sys.exit(1)
+    end("demo", main)

@@ -8,33 +8,18 @@ server, of which nothing may be left. Status: 0 all is well, 1 a check failed, 2
 
 import itertools
 import os
-import secrets
 import signal
 import subprocess
 import sys
 import tempfile
 
 import serial
+from server import BYSTRODOL, SECONDS, Failed, NoPort, Server, check
 
-BYSTRODOL = os.path.join(os.path.dirname(os.path.abspath(__file__)), "..", "..", "bystrodol")
-SECONDS = 10            # the longest wait for a reply, and for the server's end
 ADDRESS = b"\xff" * 4
 OTHER_ADDRESS = b"\x00\x00\x00\x01"
 SIZE = 64               # bytes in a data packet
 COMMAND, DATA, ACKNOWLEDGE, LAST_DATA = 1, 2, 7, 8
-
-
-class Failed(Exception):
-    """A check failed."""
-
-
-class NoPort(Exception):
-    """The server did not come up."""
-
-
-def check(holds, what):
-    if not holds:
-        raise Failed(what)
 
 
 def two_bytes(number):
@@ -186,51 +171,6 @@ def disturb(host):
         host.exchange("an unfinished packet, %d bytes" % at, COUNT[:at], b"")
         host.exchange("its rest", COUNT[at:], acknowledge(0, two_bytes(0)))
     host.check_silent("after unfinished packets")
-
-
-class Server:
-    """./bystrodol serve, known by a mark in the environment of all its processes."""
-
-    def __init__(self, *link):
-        self.mark = secrets.token_hex(16)
-        self.process = subprocess.Popen([BYSTRODOL, "serve", *link], stdin=subprocess.DEVNULL, stdout=subprocess.PIPE,
-                                        text=True, env=dict(os.environ, SERIAL_TEST=self.mark))
-
-    def __enter__(self):
-        return self
-
-    def __exit__(self, *_):
-        self.process.terminate()
-        self.process.wait()
-
-    def port_name(self):
-        name = self.process.stdout.readline().rstrip("\n")
-        if not name:
-            raise NoPort("./bystrodol serve ended with status %d" % self.process.wait())
-        return name
-
-    def processes(self):
-        found = []
-        for number in filter(str.isdigit, os.listdir("/proc")):
-            try:
-                with open("/proc/%s/environ" % number, "rb") as environment:
-                    if self.mark.encode() in environment.read():
-                        found.append(number)
-            except OSError:
-                pass
-        return found
-
-    def end(self, by):
-        """Ends it by a signal: well, at once, and whole."""
-        check(len(self.processes()) >= 3, "the script, socat and the reader are not all seen")
-        self.process.send_signal(by)
-        try:
-            rest, _ = self.process.communicate(timeout=SECONDS)
-        except subprocess.TimeoutExpired:
-            raise Failed("%s does not end the server" % by.name)
-        check(rest == "", "the server writes more than its port's name: " + rest)
-        check(self.process.returncode == 0, "%s: the server's status is %d" % (by.name, self.process.returncode))
-        check(not self.processes(), "%s: processes are left: %s" % (by.name, self.processes()))
 
 
 def check_refusal(link):

@@ -1,0 +1,152 @@
+"""A packet in words: what it is, its fields, and what is wrong with it by document 01."""
+
+from protocol import (ACKNOWLEDGE, ACKNOWLEDGES, BAUD, BY_CODE, COMMAND, COMMANDS, DATA, DONE, IDENTIFIERS, LAST_DATA, SIZES,
+                      Packet, fields_of, number, sum_of)
+
+WIDTH = 80      # of a line of words
+ROW = 32        # bytes of a line of hex
+ROWS = 2        # lines of hex; of a longer run only the ends are shown
+
+
+def rows_of(run):
+    """A run in hex: all bytes, or the ends of a long one."""
+    if len(run) > ROW * ROWS:
+        return ["%s .. %s (%d bytes)" % (run[:13].hex(" "), run[-6:].hex(" "), len(run))]
+    return [run[at:at + ROW].hex(" ") for at in range(0, len(run), ROW)]
+
+
+def in_hex(run):
+    return " ".join(rows_of(run))
+
+
+def plural(count, what):
+    return "%d %s%s" % (count, what, "" if count == 1 else "s")
+
+
+def in_text(note):
+    """A notepad page: its text without the zero bytes behind it, or its bytes if it is no text."""
+    try:
+        text = note.rstrip(b"\0").decode()
+    except UnicodeDecodeError:
+        return in_hex(note)
+    return '"%s"' % text if text.isprintable() else in_hex(note)
+
+
+def pages_in_words(index):
+    """The pages stored, neighbours as a range."""
+    pages = [page for page in range(8 * len(index)) if index[page // 8] >> page % 8 & 1]
+    starts = [page for page in pages if page - 1 not in pages]
+    ends = [page for page in pages if page + 1 not in pages]
+    ranges = ["%d" % first if first == last else "%d to %d" % (first, last) for first, last in zip(starts, ends)]
+    return "page%s %s" % ("" if len(pages) == 1 else "s", ", ".join(ranges)) if pages else "no page"
+
+
+# What the numbers of some fields mean.
+MEANINGS = {
+    "status": lambda n: "password verified" if n & 4 else "no password verified",
+    "capacity": lambda n: "pages",
+    "security level": lambda n: "of 1 to 5",
+    "size code": lambda n: "%s bytes in a data packet" % SIZES.get(n, "no"),
+    "baud factor": lambda n: "%d baud" % (BAUD * n),
+}
+# How longer fields are written; others stand as digits.
+LONG = {"text": in_text, "index": pages_in_words}
+
+
+def field_in_words(name, value):
+    if len(value) > 2:
+        return "%s %s" % (name, LONG[name](value) if name in LONG else value.hex().upper())
+    n = number(value)
+    return "%s %d" % (name, n) + (" (%s)" % MEANINGS[name](n) if name in MEANINGS else "")
+
+
+def length_of(names):
+    return sum(names.values())
+
+
+def listed_by(asked, length):
+    """What a reply of 00h lists in so many bytes. If it is not known which command was asked: the one listing that it can be."""
+    possible = [asked] if asked else COMMANDS
+    listings = [command.listed for command in possible if length_of(command.listed) == length]
+    return listings[0] if len(listings) == 1 or not length else {}
+
+
+def fields_in_words(packet, asked):
+    run = packet.content[1:]
+    if packet.identifier == COMMAND:
+        names = BY_CODE[packet.code].parameters if packet.code in BY_CODE else {}
+    else:
+        names = listed_by(asked, len(run)) if packet.code == DONE else {}
+    if length_of(names) != len(run):
+        return ["%s: %s" % (plural(len(run), "byte"), in_hex(run))]
+    return [field_in_words(name, value) for name, value in fields_of(names, run).items()]
+
+
+def in_words(packet, asked=None):
+    """What a packet is, and its fields; asked is the command that it answers, if that is known."""
+    kind = IDENTIFIERS[packet.identifier]
+    if packet.identifier in (DATA, LAST_DATA):
+        return "%s, %s" % (kind, plural(len(packet.content), "byte")), []
+    if packet.identifier == COMMAND:
+        said = " " + (BY_CODE[packet.code].name if packet.code in BY_CODE else "unknown")
+    else:
+        said = ", " + ACKNOWLEDGES.get(packet.code, "not a code of document 01")
+    return "%s %02Xh%s" % (kind, packet.code, said), fields_in_words(packet, asked) if len(packet.content) > 1 else []
+
+
+def lines_of(packet, asked=None):
+    """A packet in words: one line, or one for each field where that is too long."""
+    what, fields = in_words(packet, asked)
+    line = "%s: %s" % (what, ", ".join(fields)) if fields else what
+    return [line] if len(line) <= WIDTH else [what] + ["  " + field for field in fields]
+
+
+def show(who, run, asked=None):
+    """A packet in hex and in words, and what is wrong with it."""
+    packet = Packet(run)
+    lines = rows_of(run) + lines_of(packet, asked) + ["WRONG: " + fault for fault in faults_of(packet, asked)]
+    print("   %-6s  %s" % (who, lines[0]))
+    for line in lines[1:]:
+        print("           " + line)
+
+
+def show_data(who, packets):
+    """The data packets of a transfer, the first and the last."""
+    show(who, packets[0])
+    print("           and %d more like it" % (len(packets) - 2))
+    show(who, packets[-1])
+
+
+def faults_of(packet, asked=None):
+    """What is wrong with a whole packet, in the order in which document 01 tests it."""
+    faults = []
+    right = sum_of(packet.identifier, packet.content)
+    if packet.sum != right:
+        faults.append("its sum is %04X, and %04X is right" % (packet.sum, right))
+    if packet.identifier == COMMAND:
+        faults += faults_of_command(packet)
+    elif packet.identifier == ACKNOWLEDGE:
+        faults += faults_of_acknowledge(packet, asked)
+    elif len(packet.content) not in SIZES.values():
+        faults.append("it has %s, and a data packet has 32, 64 or 128" % plural(len(packet.content), "byte"))
+    return faults
+
+
+def faults_of_command(packet):
+    command = BY_CODE.get(packet.code)
+    if not command:
+        return ["document 01 has no command %02Xh" % packet.code]
+    length = 3 + length_of(command.parameters)
+    return [] if packet.length == length else ["its length is %d, and that of %s is %d" % (packet.length, command.name, length)]
+
+
+def faults_of_acknowledge(packet, asked):
+    if packet.code not in ACKNOWLEDGES:
+        return ["document 01 has no code %02Xh" % packet.code]
+    possible = [asked] if asked else COMMANDS
+    lengths = {3 + length_of(command.listed) if packet.code == DONE else 3 for command in possible}
+    if packet.length in lengths:
+        return []
+    told = " or ".join(map(str, sorted(lengths)))
+    return ["its length is %d, and that of code %02Xh%s is %s" %
+            (packet.length, packet.code, " to " + asked.name if asked else "", told)]
