@@ -1,12 +1,15 @@
 -- Bytes moved to the front of a list, one by one: the front is what was moved so far, and what lies behind it is as it was.
 use mathlib.Core.Path.{_≡_, sym, ap, ap₂, _∙_}
 use mathlib.Core.List.{List, [], _∷_, _++_}
-use Prim.Native.Nat.{ℕ, suc, _+_, _<_}
+use Prim.Native.Nat.{ℕ, suc, _+_, _-_, _≤_, _<_}
 use native.Mathlib.Omega.{arith}
 use lib.ListN.{length, getD, take, drop, set, length-drop}
 use lib.Seq.{take-suc, take-suc-set, getD-drop, drop-set-lt, drop-drop}
 
-module _ (s d : List ℕ) (from i : ℕ) (m : from + i < length d) (n : length s ≡ length d) (g : drop i s ≡ drop i d) where
+module _ (s d : List ℕ) (from to i : ℕ) (u : i < to - from) (l : to ≤ length d) (n : length s ≡ length d) (g : drop i s ≡ drop i d) where
+  inside : from + i < length d
+  inside = omega arith
+
   moved-byte : getD s (from + i) 0 ≡ getD (drop from d) i 0
   moved-byte =
       let k : from + i ≡ i + from = omega arith in
@@ -20,6 +23,7 @@ module _ (s d : List ℕ) (from i : ℕ) (m : from + i < length d) (n : length s
   pub moved-front : take i s ≡ take i (drop from d) → take (i + 1) (set s i (getD s (from + i) 0)) ≡ take (i + 1) (drop from d)
   moved-front f =
       let k : i + 1 ≡ suc i = omega arith in
+      let m = inside in
       let l : i < length (drop from d) = simp length-drop (omega arith) in
       rw k
       (take-suc-set s i (getD s (from + i) 0) (omega arith)
@@ -27,4 +31,6 @@ module _ (s d : List ℕ) (from i : ℕ) (m : from + i < length d) (n : length s
       ∙ sym (take-suc (drop from d) i 0 l))
 
   pub moved-back : drop (i + 1) (set s i (getD s (from + i) 0)) ≡ drop (i + 1) d
-  moved-back = drop-set-lt (i + 1) s i (getD s (from + i) 0) (omega arith) ∙ sym (drop-drop 1 i s) ∙ ap (drop 1) g ∙ drop-drop 1 i d
+  moved-back =
+      drop-set-lt (i + 1) s i (getD s (from + i) 0) (omega arith)
+      ∙ sym (drop-drop 1 i s) ∙ ap (drop 1) g ∙ drop-drop 1 i d

@@ -3,6 +3,7 @@ mod serve;
 
 ghost use Prim.Native.Nat.{_≤_};
 ghost use lib.ListN.{length};
+ghost use Rattle.bench.specs.Serve.{Received};
 use libc::STDIN_FILENO;
 use libc::STDOUT_FILENO;
 use protocol::Settings;
@@ -71,7 +72,7 @@ fn answer(
 // failed read.
 fn receive(line: &mut [u8], held: usize) -> usize
     requires { ⌜ held ≤ length (now line) ⌝ }
-    ensures { λ r. ⌜ (held ≤ r) × (r ≤ length (now (line .entry))) ⌝ }
+    ensures { λ r. ⌜ Received held (length (now (line .entry))) r ⌝ }
 {
     let got = libc::read(STDIN_FILENO, &mut line[held..]);
     if got < 0 {

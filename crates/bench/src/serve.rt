@@ -4,7 +4,7 @@ ghost use Prim.Native.Nat.{suc, _-_, _≤_};
 ghost use lib.ListN.{length, take, drop};
 ghost use Rattle.protocol.specs.Call.{core, callOf};
 ghost use Rattle.protocol.specs.Records.{readerOf, endedOf};
-ghost use Rattle.bench.specs.Serve.{served, serviceOf, serveOf};
+ghost use Rattle.bench.specs.Serve.{Once, Serviced, served, serviceOf, serveOf};
 use place::step_through;
 use protocol::Called;
 use protocol::Settings;
@@ -27,8 +27,7 @@ fn call_once(
     run: &[u8],
     out: &mut [u8],
 ) -> Called
-    ensures call { λ r. ⌜ endedOf r (now (templates .exit)) (now (index .exit)) (now (notepad .exit)) (now (buffer1 .exit)) (now (buffer2 .exit)) (now (out .exit)) ≡ callOf core (readerOf settings (now (templates .entry)) (now (index .entry)) (now (notepad .entry)) (now (buffer1 .entry)) (now (buffer2 .entry))) (now (run .entry)) (now (out .entry)) ⌝ }
-    ensures within { λ r. ⌜ (r .used ≤ length (now (run .entry))) × (r .length ≤ length (now (out .entry))) ⌝ }
+    ensures { λ r. ⌜ Once (callOf core (readerOf settings (now (templates .entry)) (now (index .entry)) (now (notepad .entry)) (now (buffer1 .entry)) (now (buffer2 .entry))) (now (run .entry)) (now (out .entry))) (length (now (run .entry))) (length (now (out .entry))) (endedOf r (now (templates .exit)) (now (index .exit)) (now (notepad .exit)) (now (buffer1 .exit)) (now (buffer2 .exit)) (now (out .exit))) ⌝ }
 {
     step_through(
         settings,
@@ -63,8 +62,7 @@ pub(crate) fn serve(
     run: &[u8],
     out: &mut [u8],
 ) -> Served
-    ensures service { λ r. ⌜ serviceOf r (now (templates .exit)) (now (index .exit)) (now (notepad .exit)) (now (buffer1 .exit)) (now (buffer2 .exit)) (now (out .exit)) ≡ serveOf (suc (length (now (run .entry)))) (readerOf settings (now (templates .entry)) (now (index .entry)) (now (notepad .entry)) (now (buffer1 .entry)) (now (buffer2 .entry))) (now (run .entry)) (now (out .entry)) 0 0 ⌝ }
-    ensures within { λ r. ⌜ (r .used ≤ length (now (run .entry))) × (r .written ≤ length (now (out .entry))) ⌝ }
+    ensures { λ r. ⌜ Serviced (serveOf (suc (length (now (run .entry)))) (readerOf settings (now (templates .entry)) (now (index .entry)) (now (notepad .entry)) (now (buffer1 .entry)) (now (buffer2 .entry))) (now (run .entry)) (now (out .entry)) 0 0) (length (now (run .entry))) (length (now (out .entry))) (serviceOf r (now (templates .exit)) (now (index .exit)) (now (notepad .exit)) (now (buffer1 .exit)) (now (buffer2 .exit)) (now (out .exit))) ⌝ }
 {
     let mut current = settings;
     let mut from = 0;

@@ -6,6 +6,8 @@ use Prim.Native.Nat.{ℕ, zero, suc, _+_, _-_, _*_, _/_, _%_, _^_, _≤_, _<_}
 use native.Mathlib.Nat.{not-suc-le-zero, add-zero, add-suc, div-one}
 use native.Mathlib.Omega.{arith}
 use lib.Dec.{T, eqb, lit<}
+use mir.Syntax.{w8}
+use mir.Val.{Fits}
 use lib.Bits.{bitOr, bitAnd, or-add-and, and-le-l, and-le-r}
 use lib.ListN.{length, getD, set, List·getD-eq-default}
 use lib.Seq.{set-out}
@@ -18,52 +20,58 @@ use Rattle.protocol.proofs.Laws.Index.{bit-zero, set-or, clear-and}
 
 -- ---- one bit
 
-module _ (x : List ℕ) (p : ℕ) (h : (i : ℕ) → getD x i 0 < 256) where
-  bytes : Bytes x
-  unfolding Bytes
-  bytes = h
+-- what is known of a slice's bytes, as the definitions say it
+bytes : (x : List ℕ) → ((i : ℕ) → Fits w8 (getD x i 0)) → Bytes x
+unfolding Bytes
+bytes x h i = h i .fits
 
+module _ (x : List ℕ) (p : ℕ) (h : (i : ℕ) → Fits w8 (getD x i 0)) where
   pub set-mask : set x (p / 8) (bitOr (byteAt x (p / 8)) (1 * 2 ^ (p % 8) % 256)) ≡ setBit x p
-  set-mask = ap (λ (m : ℕ). set x (p / 8) (bitOr (byteAt x (p / 8)) m)) (shift-byte (p % 8) (omega arith)) ∙ sym (set-or x p bytes)
+  set-mask = ap (λ (m : ℕ). set x (p / 8) (bitOr (byteAt x (p / 8)) m)) (shift-byte (p % 8) (omega arith)) ∙ sym (set-or x p (bytes x h))
 
   pub clear-mask : set x (p / 8) (bitAnd (byteAt x (p / 8)) (255 - 1 * 2 ^ (p % 8) % 256)) ≡ clearBit x p
-  clear-mask = ap (λ (m : ℕ). set x (p / 8) (bitAnd (byteAt x (p / 8)) (255 - m))) (shift-byte (p % 8) (omega arith)) ∙ sym (clear-and x p bytes)
+  clear-mask = ap (λ (m : ℕ). set x (p / 8) (bitAnd (byteAt x (p / 8)) (255 - m))) (shift-byte (p % 8) (omega arith)) ∙ sym (clear-and x p (bytes x h))
 
 -- a page that the index has no byte for
 module _ (x : List ℕ) (p : ℕ) (h : length x ≤ p / 8) where
-  pub stored-out : stored x p ≡ false
+  pub not-stored : false ≡ stored x p
   unfolding stored
-  stored-out =
+  not-stored =
       let e : byteAt x (p / 8) ≡ 0 = List·getD-eq-default x 0 {n = p / 8} h in
-      ap (λ (b : ℕ). eqb (bit b (p % 8)) 1) e ∙ ap (λ (b : ℕ). eqb b 1) (bit-zero (p % 8))
+      sym (ap (λ (b : ℕ). eqb (bit b (p % 8)) 1) e ∙ ap (λ (b : ℕ). eqb b 1) (bit-zero (p % 8)))
 
-  pub set-out-bit : setBit x p ≡ x
+  pub not-set : x ≡ setBit x p
   unfolding setBit
-  set-out-bit = rw stored-out (set-out x (p / 8) _ h)
+  not-set = sym (rw (← not-stored) (set-out x (p / 8) _ h))
 
-  pub clear-out-bit : clearBit x p ≡ x
+  pub not-cleared : x ≡ clearBit x p
   unfolding clearBit
-  clear-out-bit = rw stored-out refl
+  not-cleared = rw (← not-stored) refl
 
 -- ---- n bits cleared, one by one
 
-pub clear-more : (x : List ℕ) (p n : ℕ) → 0 < n → clearBits x p n ≡ clearBits (clearBit x p) (p + 1) (n - 1)
-unfolding clearBits
-clear-more x p zero h = absurd (not-suc-le-zero h)
-clear-more x p (suc n) h =
-    let a : suc p ≡ p + 1 = omega arith in
-    let b : suc n - 1 ≡ n = omega arith in
-    rw (b, ← a)
+-- z is what is to come of x
+module _ (z x : List ℕ) (p n : ℕ) (e : z ≡ clearBits x p n) where
+  pub clear-more : (y : List ℕ) → 0 < n → y ≡ clearBit x p → z ≡ clearBits y (p + 1) (n - 1)
+  unfolding clearBits
+  clear-more y h f = e ∙ go n h ∙ ap (λ (w : List ℕ). clearBits w (p + 1) (n - 1)) (sym f)
+    where
+      go : (m : ℕ) → 0 < m → clearBits x p m ≡ clearBits (clearBit x p) (p + 1) (m - 1)
+      go zero h = absurd (not-suc-le-zero h)
+      go (suc m) h =
+          let a : suc p ≡ p + 1 = omega arith in
+          let b : suc m - 1 ≡ m = omega arith in
+          rw (b, ← a)
 
-pub clear-none : (x : List ℕ) (p n : ℕ) → n ≡ 0 → clearBits x p n ≡ x
-unfolding clearBits
-clear-none x p n e = rw e
+  pub clear-none : n ≤ 0 → x ≡ z
+  unfolding clearBits
+  clear-none h = let none : n ≡ 0 = omega arith in sym (rw none at e)
 
 -- ---- the set bits, one by one
 
-pub count-more : (x : List ℕ) (p v : ℕ) → v ≡ bit (byteAt x (p / 8)) (p % 8) → v ≤ 1 → countBelow (stored x) (p + 1) ≡ countBelow (stored x) p + v
+pub count-more : (x : List ℕ) (n p v : ℕ) → n ≡ countBelow (stored x) p → v ≡ bit (byteAt x (p / 8)) (p % 8) → v ≤ 1 → n + v ≡ countBelow (stored x) (p + 1)
 unfolding countBelow stored
-count-more x p v e l = let s : p + 1 ≡ suc p = omega arith in rw (s, ← e) (go v l)
+count-more x n p v f e l = let s : p + 1 ≡ suc p = omega arith in sym (rw (s, ← e, f) (go v l))
   where
     go : (w : ℕ) → w ≤ 1 → cond (eqb w 1) 1 0 + countBelow (stored x) p ≡ countBelow (stored x) p + w
     go zero m = omega arith
@@ -122,11 +130,11 @@ abbrev pub clearTo : List ℕ → ℕ → ℕ → Bool
 clearTo x c i = every (λ q. not (stored x (c + q))) (8 * i - c)
 
 -- the rest of c's byte
-pub clear-first : (x : List ℕ) (c : ℕ) → ((i : ℕ) → getD x i 0 < 256) → eqb (byteAt x (c / 8) / 2 ^ (c % 8)) 0 ≡ clearTo x c (c / 8 + 1)
+pub clear-first : (x : List ℕ) (c : ℕ) → ((i : ℕ) → Fits w8 (getD x i 0)) → eqb (byteAt x (c / 8) / 2 ^ (c % 8)) 0 ≡ clearTo x c (c / 8 + 1)
 unfolding stored
 clear-first x c h =
     let n : 8 * (c / 8 + 1) - c ≡ 8 - c % 8 = omega arith in
-    high-bits (byteAt x (c / 8)) (c % 8) (h (c / 8)) (omega arith)
+    high-bits (byteAt x (c / 8)) (c % 8) (h (c / 8) .fits) (omega arith)
     ∙ every-ext (λ j. not (eqb (bit (byteAt x (c / 8)) (c % 8 + j)) 1)) (λ q. not (stored x (c + q))) (8 - c % 8)
     (λ q l.
     let d : (c + q) / 8 ≡ c / 8 = omega arith in
@@ -135,13 +143,13 @@ clear-first x c h =
     ∙ ap (every (λ q. not (stored x (c + q)))) (sym n)
 
 -- one byte more
-pub clear-next : (x : List ℕ) (c i f : ℕ) → ((k : ℕ) → getD x k 0 < 256) → c ≤ 8 * i → eqb f 0 ≡ clearTo x c i → eqb (bitOr f (byteAt x i)) 0 ≡ clearTo x c (i + 1)
+pub clear-next : (x : List ℕ) (c i f : ℕ) → ((k : ℕ) → Fits w8 (getD x k 0)) → c ≤ 8 * i → eqb f 0 ≡ clearTo x c i → eqb (bitOr f (byteAt x i)) 0 ≡ clearTo x c (i + 1)
 unfolding stored
 clear-next x c i f h l e =
     let n : 8 * (i + 1) - c ≡ 8 * i - c + 8 = omega arith in
     or-none f (byteAt x i)
     ∙ ap₂ _&&_ e
-    (all-bits (byteAt x i) (h i)
+    (all-bits (byteAt x i) (h i .fits)
     ∙ every-ext (λ j. not (eqb (bit (byteAt x i) j) 1)) (λ q. not (stored x (c + (8 * i - c + q)))) 8
     (λ q l.
     let d : (c + (8 * i - c + q)) / 8 ≡ i = omega arith in
@@ -151,6 +159,6 @@ clear-next x c i f h l e =
     ∙ ap (every (λ q. not (stored x (c + q)))) (sym n)
 
 -- no bit at all
-pub clear-past : (x : List ℕ) (c : ℕ) → length x ≤ c / 8 → clearFrom x c ≡ true
+pub clear-past : (x : List ℕ) (c : ℕ) → length x ≤ c / 8 → true ≡ clearFrom x c
 unfolding clearFrom every
 clear-past x c h = let n : bits x - c ≡ 0 = omega arith in rw n refl

@@ -49,17 +49,22 @@ part-read a n xs d e h =
 
 -- ---- pages zeroed one after the other
 
-pub zero-more : (t : List ℕ) (p n : ℕ) → 0 < n → zeroPages p n t ≡ zeroPages (p + 1) (n - 1) (zeroPage p t)
-unfolding zeroPages
-zero-more t p zero h = absurd (not-suc-le-zero h)
-zero-more t p (suc n) h =
-    let a : suc p ≡ p + 1 = omega arith in
-    let b : suc n - 1 ≡ n = omega arith in
-    rw (b, ← a)
+-- z is what is to come of the templates t
+module _ (z t : List ℕ) (p n : ℕ) (e : z ≡ zeroPages p n t) where
+  pub zero-more : (u : List ℕ) → 0 < n → u ≡ zeroPage p t → z ≡ zeroPages (p + 1) (n - 1) u
+  unfolding zeroPages
+  zero-more u h f = e ∙ go n h ∙ ap (zeroPages (p + 1) (n - 1)) (sym f)
+    where
+      go : (m : ℕ) → 0 < m → zeroPages p m t ≡ zeroPages (p + 1) (m - 1) (zeroPage p t)
+      go zero h = absurd (not-suc-le-zero h)
+      go (suc m) h =
+          let a : suc p ≡ p + 1 = omega arith in
+          let b : suc m - 1 ≡ m = omega arith in
+          rw (b, ← a)
 
-pub zero-none : (t : List ℕ) (p n : ℕ) → n ≡ 0 → zeroPages p n t ≡ t
-unfolding zeroPages
-zero-none t p n e = rw e
+  pub zero-none : n ≤ 0 → t ≡ z
+  unfolding zeroPages
+  zero-none h = let none : n ≡ 0 = omega arith in sym (rw none at e)
 
 -- within the templates they are one run of zeros
 pub zeroed : (p n : ℕ) (t : List ℕ) → p + n ≤ length t / pageBytes → zeroPages p n t ≡ lay (pageBytes * p) (zeros (pageBytes * n)) t

@@ -1,5 +1,5 @@
 -- What the library's functions do to any lent memory: as document 01 says where it fits, and otherwise nothing.
-use mathlib.Core.Bool.{_&&_, cond}
+use mathlib.Core.Bool.{cond}
 use mathlib.Core.List.{List}
 use Prim.Native.Nat.{ℕ, zero, suc, _*_, _/_}
 use lib.Dec.{eqb, ltb}

@@ -105,6 +105,10 @@ shortest = 3
 unfoldable pub longest : ℕ
 longest = 256
 
+-- the code's numbers of places and lengths wrap at 2^64
+abbrev pub wrapsAt : ℕ
+wrapsAt = 18446744073709551616
+
 -- ---- acknowledge codes
 
 abbrev pub done : ℕ

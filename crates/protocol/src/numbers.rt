@@ -9,8 +9,10 @@ pub const PAGE: usize = 512;
 // The most pages that a library has.
 pub const MOST_PAGES: usize = 256;
 
-// The bytes of an index.
+// The bytes of an index, and of the part of it that one ReadIndexTable gives.
 pub const INDEX: usize = 32;
+
+pub const INDEX_PAGE: usize = 32;
 
 // The bytes of a notepad, and of one of its pages.
 pub const NOTEPAD: usize = 512;

@@ -172,11 +172,11 @@ pub(crate) fn read_index(settings: Settings, index: &[u8], page: u8) -> Answer
     ensures { λ r. ⌜ ((t m b c : List ℕ) → saidOf r t (now (index .entry)) m b c ≡ obeyed settings t (now (index .entry)) m b c (readIndexTable page)) × Ready r ⌝ }
 {
     let p = bytes::wide(page);
-    if index.len() / numbers::INDEX <= p {
+    if index.len() / numbers::INDEX_PAGE <= p {
         return answers::plain(codes::BAD_PAGE, settings);
     }
-    let a = numbers::INDEX * p;
-    let e = a + numbers::INDEX;
+    let a = numbers::INDEX_PAGE * p;
+    let e = a + numbers::INDEX_PAGE;
     let mut bytes = [0u8; 32];
     bytes::put(&mut bytes, &index[a..e]);
     answers::listed(bytes, 32, settings)

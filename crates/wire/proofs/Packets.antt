@@ -1,15 +1,16 @@
 -- A packet laid piece by piece: head, content, sum.
 use mathlib.Core.Path.{_≡_, refl, ap, _∙_}
 use mathlib.Core.List.{List, [], _∷_, _++_, append-assoc}
-use Prim.Native.Nat.{ℕ, _+_, _/_, _%_, _≤_}
+use Prim.Native.Nat.{ℕ, _+_, _/_, _%_, _≤_, _<_}
 use native.Mathlib.Nat.{add-mod-mod}
 use native.Mathlib.Omega.{arith}
-use lib.ListN.{length, getD, length-append}
-use Rattle.protocol.specs.Numbers.{firstMark, secondMark}
+use lib.ListN.{length, getD, set, take, length-append}
+use lib.Seq.{take-all}
+use Rattle.protocol.specs.Numbers.{firstMark, secondMark, headBytes, frameBytes}
 use Rattle.protocol.specs.Bytes.{two, total, lay}
 use Rattle.protocol.specs.Packet.{lengthOf, sumOf, packet}
-use Rattle.protocol.proofs.Laws.Lists.{by-four, lay-lay}
-use Rattle.wire.specs.Laying.{headOf}
+use Rattle.protocol.proofs.Laws.Lists.{by-four, lay-lay, lay-more}
+use Rattle.wire.specs.Laying.{headOf, Laid}
 
 -- the content's sum may be taken modulo 65536 first
 pub packet-sum : (i : ℕ) (c : List ℕ) → (i + total (two (lengthOf c)) + total c % 65536) % 65536 ≡ sumOf i c
@@ -28,7 +29,7 @@ length-head : (a : List ℕ) (i n : ℕ) → length a ≡ 4 → length (headOf a
 unfolding headOf two
 length-head a i n e = simp length-append (omega arith)
 
-pub packet-laid : (a : List ℕ) (i : ℕ) (c d : List ℕ) → length a ≡ 4 → length c + 11 ≤ length d
+packet-laid : (a : List ℕ) (i : ℕ) (c d : List ℕ) → length a ≡ 4 → length c + frameBytes ≤ length d
     → lay (9 + length c) (two (sumOf i c)) (lay 9 c (lay 0 (headOf a i (lengthOf c)) d)) ≡ lay 0 (packet a i c) d
 unfolding headOf packet two
 packet-laid a i c d e h =
@@ -39,3 +40,27 @@ packet-laid a i c d e h =
     ap (lay (9 + length c) sum) (lay-lay 0 9 head c d (omega arith) (omega arith))
     ∙ lay-lay 0 (9 + length c) (head ++ c) sum d (omega arith) (omega arith)
     ∙ ap (λ (x : List ℕ). lay 0 x d) (append-assoc head c sum ∙ simp append-assoc)
+
+-- the three pieces one behind the other: p, t and r are what is given back, q is the sum, and x, y, z are the room after each piece
+pub pieces : (a : List ℕ) (i : ℕ) (c d x y z : List ℕ) (p t q r : ℕ) → length a ≡ 4 → length c + frameBytes ≤ length d
+    → Laid headBytes 0 (headOf a i (lengthOf c)) d p x
+    → Laid (total c % 65536) p c x t y
+    → q ≡ (i + total (two (lengthOf c)) + t) % 65536
+    → Laid (p + length c + 2) (p + length c) (two q) y r z
+    → Laid (length c + frameBytes) 0 (packet a i c) d r z
+pieces a i c d x y z p t q r e h f g s k =
+    let sum : q ≡ sumOf i c = s ∙ rw (g .given) (packet-sum i c) in
+    record {
+      given = let n = f .given in k .given ∙ omega arith;
+      laid = k .laid ∙ rw (sum, g .laid, f .laid, f .given) (packet-laid a i c d e h);
+    }
+
+-- ---- a list laid byte by byte: at place k its first k bytes lie there
+
+-- x is the room as it is, d as it was
+module _ (i k : ℕ) (s d x : List ℕ) (e : x ≡ lay i (take k s) d) where
+  pub byte-laid : k < length s → i + length s ≤ length d → set x (i + k) (getD s k 0) ≡ lay i (take (k + 1) s) d
+  byte-laid h l = rw e (lay-more i k s d h l)
+
+  pub all-laid : length s ≤ k → x ≡ lay i s d
+  all-laid h = e ∙ rw (take-all k s h)

@@ -2,10 +2,11 @@
 ghost use mathlib.Core.Path.{_≡_};
 ghost use Prim.Native.Nat.{_+_, _%_, _≤_};
 ghost use lib.ListN.{length};
-ghost use Rattle.protocol.specs.Bytes.{two, total, lay};
+ghost use Rattle.protocol.specs.Numbers.{headBytes, frameBytes};
+ghost use Rattle.protocol.specs.Bytes.{two, total};
 ghost use Rattle.protocol.specs.Packet.{sumOf, packet, buildOf};
 ghost use Rattle.protocol.specs.Records.{madeOf};
-ghost use Rattle.wire.specs.Laying.{headOf, built};
+ghost use Rattle.wire.specs.Laying.{headOf, Laid, built};
 use crate::bytes;
 use crate::finder;
 use protocol::Built;
@@ -14,8 +15,8 @@ use protocol::refusals;
 
 // The nine bytes before a packet's content, n its length field.
 fn lay_head(room: &mut [u8], address: [u8; 4], identifier: u8, n: usize) -> usize
-    requires { ⌜ 9 ≤ length (now room) ⌝ }
-    ensures { λ r. ⌜ (r ≡ 9) × (now (room .exit) ≡ lay 0 (headOf address identifier n) (now (room .entry))) ⌝ }
+    requires { ⌜ headBytes ≤ length (now room) ⌝ }
+    ensures { λ r. ⌜ Laid headBytes 0 (headOf address identifier n) (now (room .entry)) r (now (room .exit)) ⌝ }
 {
     let head = [
         numbers::FIRST_MARK,
@@ -34,7 +35,7 @@ fn lay_head(room: &mut [u8], address: [u8; 4], identifier: u8, n: usize) -> usiz
 // A number as two bytes, high byte first.
 fn lay_word(room: &mut [u8], at: usize, n: usize) -> usize
     requires { ⌜ at + 2 ≤ length (now room) ⌝ }
-    ensures { λ r. ⌜ (r ≡ at + 2) × (now (room .exit) ≡ lay at (two n) (now (room .entry))) ⌝ }
+    ensures { λ r. ⌜ Laid (at + 2) at (two n) (now (room .entry)) r (now (room .exit)) ⌝ }
 {
     let w = [(n / 256 % 256) as u8, (n % 256) as u8];
     bytes::lay_at(room, at, &w)
@@ -43,7 +44,7 @@ fn lay_word(room: &mut [u8], at: usize, n: usize) -> usize
 // Lays the content from place at on and adds it up on the way, so that it is read once.
 fn lay_content(room: &mut [u8], at: usize, content: &[u8]) -> u16
     requires { ⌜ at + length (now content) ≤ length (now room) ⌝ }
-    ensures { λ r. ⌜ (r ≡ total (now (content .entry)) % 65536) × (now (room .exit) ≡ lay at (now (content .entry)) (now (room .entry))) ⌝ }
+    ensures { λ r. ⌜ Laid (total (now (content .entry)) % 65536) at (now (content .entry)) (now (room .entry)) r (now (room .exit)) ⌝ }
 {
     let mut acc: u16 = 0;
     let mut i = 0;
@@ -73,8 +74,8 @@ pub fn packet_sum(identifier: u8, content: &[u8]) -> usize
 
 // A packet at the front of the room.
 fn lay_packet(room: &mut [u8], address: [u8; 4], identifier: u8, content: &[u8]) -> usize
-    requires { ⌜ (length (now content) + 11 ≤ length (now room)) × (length (now content) ≤ 65535) ⌝ }
-    ensures { λ r. ⌜ (r ≡ length (now (content .entry)) + 11) × (now (room .exit) ≡ lay 0 (packet address identifier (now (content .entry))) (now (room .entry))) ⌝ }
+    requires { ⌜ length (now content) + frameBytes ≤ length (now room) ⌝ }
+    ensures { λ r. ⌜ Laid (length (now (content .entry)) + frameBytes) 0 (packet address identifier (now (content .entry))) (now (room .entry)) r (now (room .exit)) ⌝ }
 {
     let n = content.len() + 2;
     let a = lay_head(room, address, identifier, n);

@@ -2,8 +2,8 @@
 ghost use mathlib.Core.Path.{_≡_};
 ghost use Prim.Native.Nat.{_+_, _%_, _≤_, _<_};
 ghost use lib.ListN.{length};
-ghost use Rattle.protocol.specs.Bytes.{total, same, lay};
-ghost use Rattle.wire.specs.Laying.{layFront};
+ghost use Rattle.protocol.specs.Bytes.{total, same};
+ghost use Rattle.wire.specs.Laying.{layFront, Laid};
 
 // A byte as a number.
 pub fn wide(x: u8) -> usize
@@ -37,7 +37,7 @@ pub fn is_same(a: [u8; 4], b: [u8; 4]) -> bool
 // Lays src over dst from place at on, and returns the place after it.
 pub(crate) fn lay_at(dst: &mut [u8], at: usize, src: &[u8]) -> usize
     requires { ⌜ at + length (now src) ≤ length (now dst) ⌝ }
-    ensures { λ r. ⌜ (r ≡ at + length (now (src .entry))) × (now (dst .exit) ≡ lay at (now (src .entry)) (now (dst .entry))) ⌝ }
+    ensures { λ r. ⌜ Laid (at + length (now (src .entry))) at (now (src .entry)) (now (dst .entry)) r (now (dst .exit)) ⌝ }
 {
     let mut i = 0;
     while i < src.len() {

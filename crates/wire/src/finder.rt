@@ -1,7 +1,8 @@
 // Finding a packet: steps 1 to 4 of document 01.
 ghost use mathlib.Core.Path.{_≡_};
-ghost use Prim.Native.Nat.{_+_, _*_, _%_, _<_};
+ghost use Prim.Native.Nat.{_+_, _%_, _<_};
 ghost use lib.ListN.{length};
+ghost use Rattle.protocol.specs.Numbers.{wrapsAt};
 ghost use Rattle.protocol.specs.Bytes.{wordAt};
 ghost use Rattle.protocol.specs.Packet.{isIdentifier, accepts};
 ghost use Rattle.protocol.specs.Finder.{startOf, allBut, findOf, usedOf};
@@ -105,7 +106,7 @@ pub fn find(s: &[u8]) -> Found
 
 // The bytes used, by what was found. What was found in a run lies in it, so that nothing wraps there.
 pub fn used_of(f: Found) -> usize
-    ensures { λ r. ⌜ r ≡ usedOf f % 18446744073709551616 ⌝ }
+    ensures { λ r. ⌜ r ≡ usedOf f % wrapsAt ⌝ }
 {
     match f {
         Found::Noise { used } => used,

@@ -1,31 +1,39 @@
--- Each turn but the last uses at least one byte.
-use mathlib.Core.Path.{_≡_, refl, sym, _∙_}
-use Prim.Native.Nat.{_-_, _≤_}
+-- The bytes used never pass the run, and each turn but the last uses at least one, so that the loop ends.
+use mathlib.Core.Path.{_≡_, refl}
+use Prim.Native.Nat.{_-_, _≤_, _<_}
 use native.Mathlib.Omega.{arith}
 use lib.ListN.{length}
-use lib.Seq.{length-take-le}
 use denote.Ref.{now}
 use borrow.Author.Needs.{needs}
-use Rattle.bench.proofs.Calls.{rest-long}
+use Rattle.protocol.specs.Numbers.{wrapsAt}
+use Rattle.protocol.specs.Records.{readerOf}
+use Rattle.bench.proofs.Lengths.{Kept, kept-all, kept-on, front-in, front-long, further, place-fits, nearer}
 use Rattle.bench.proofs.answer.Statement.{statement}
 use Rattle.bench.proofs.answer.Tie as tie
-use Rattle.bench.proofs.answer.Reads as reads
-use Rattle.bench.proofs.answer.Lts as lts
-use Rattle.bench.proofs.serve.serve.Reads as serve-reads
-use Rattle.io.proofs.write_all.Reads as write-all-reads
-use Rattle.os.proofs.fail.Reads as fail-reads
 
 abbrev Inv-loop : tie.InvT-loop
 Inv-loop templates₀ index₀ notepad₀ buffer1₀ buffer2₀ run out₀ current₀ used₀ t14 templates index notepad buffer1 buffer2 out current used =
-    (used ≤ length run)
-    × ((length templates ≡ length templates₀) × ((length index ≡ length index₀) × ((length notepad ≡ length notepad₀) × ((length buffer1 ≡ length buffer1₀) × ((length buffer2 ≡ length buffer2₀) × ((length out ≡ length out₀)))))))
+    (used ≤ length run) × (Kept (readerOf current₀ templates₀ index₀ notepad₀ buffer1₀ buffer2₀) (readerOf current templates index notepad buffer1 buffer2) × (length out ≡ length out₀))
 
 abbrev μ-loop : tie.MeasureT-loop
 μ-loop templates₀ index₀ notepad₀ buffer1₀ buffer2₀ run out₀ current₀ used₀ t14 templates index notepad buffer1 buffer2 out current used =
     length run - used
 
+-- from behind the call of serve back to it, to the loop's test, and to the start
+unfoldable served : tie.After-current Inv-loop μ-loop → tie.After-serve Inv-loop μ-loop
+served c = search
+
+unfoldable looped : tie.After-serve Inv-loop μ-loop → tie.At-loop Inv-loop μ-loop
+looped c = search
+
+unfoldable start : tie.At-loop Inv-loop μ-loop → tie.Start Inv-loop μ-loop
+start c = search
+
+run-long : (c : tie.Start Inv-loop μ-loop) → length (now (c .args .run)) < wrapsAt
+run-long c = omega arith
+
 loop-holds : tie.Need-loop-holds Inv-loop μ-loop
-loop-holds c = (omega arith, (refl, (refl, (refl, (refl, (refl, refl))))))
+loop-holds c = (omega arith, (search kept-all, refl))
 
 sub-serve : tie.Need-sub-serve Inv-loop μ-loop
 sub-serve c = search needs
@@ -40,14 +48,12 @@ serve-requires : tie.Need-serve-requires Inv-loop μ-loop
 serve-requires c κs = search needs
 
 slice-reshare-prefix-write-all : tie.Need-slice-reshare-prefix-write-all Inv-loop μ-loop
-slice-reshare-prefix-write-all c =
-    let o = c .before .before .before .before .before .before .before .before .before .before .before .before .before .serve in
-    omega (arith, o .ensures .1 .1, o .kept .1 .1 .1 .1 .1 .1 .1 .0)
+unfolding served
+slice-reshare-prefix-write-all c = let o = served c .serve in search front-in
 
 slice-aggregate-write-all : tie.Need-slice-aggregate-write-all Inv-loop μ-loop
-slice-aggregate-write-all c =
-    let o = c .before .before .before .before .before .before .before .before .before .before .before .before .before .before .serve in
-    sym (length-take-le (o .result .written) (o .last .1 .1 .1 .1 .1 .1 .1 .0) (omega (arith, o .ensures .1 .1, o .kept .1 .1 .1 .1 .1 .1 .1 .0)))
+unfolding served
+slice-aggregate-write-all c = let o = served (search) .serve in search front-long
 
 write-all-requires : tie.Need-write-all-requires Inv-loop μ-loop
 write-all-requires c κs = search needs
@@ -59,67 +65,82 @@ fail-requires : tie.Need-fail-requires Inv-loop μ-loop
 fail-requires c κs = search needs
 
 same-length : tie.Need-same-length Inv-loop μ-loop
-same-length c = c .before .before .before .before .before .before .before .before .before .before .before .before .before .before .before .before .before .before .serve .kept .1 .0 ∙ c .before .before .before .before .before .before .before .before .before .before .before .before .before .before .before .before .before .before .before .before .before .before .before .before .before .before .loop .inv .1 .0
+unfolding served looped
+same-length c = let o = served (search) .serve in let l = looped (served (search)) .loop in omega arith
 
 same-length-2 : tie.Need-same-length-2 Inv-loop μ-loop
-same-length-2 c = c .before .before .before .before .before .before .before .before .before .before .before .before .before .before .before .before .before .before .serve .kept .1 .1 .0 ∙ c .before .before .before .before .before .before .before .before .before .before .before .before .before .before .before .before .before .before .before .before .before .before .before .before .before .before .loop .inv .1 .1 .0
+unfolding served looped
+same-length-2 c = let o = served (search) .serve in let l = looped (served (search)) .loop in omega arith
 
 same-length-3 : tie.Need-same-length-3 Inv-loop μ-loop
-same-length-3 c = c .before .before .before .before .before .before .before .before .before .before .before .before .before .before .before .before .before .before .serve .kept .1 .1 .1 .0 ∙ c .before .before .before .before .before .before .before .before .before .before .before .before .before .before .before .before .before .before .before .before .before .before .before .before .before .before .loop .inv .1 .1 .1 .0
+unfolding served looped
+same-length-3 c = let o = served (search) .serve in let l = looped (served (search)) .loop in omega arith
 
 same-length-4 : tie.Need-same-length-4 Inv-loop μ-loop
-same-length-4 c = c .before .before .before .before .before .before .before .before .before .before .before .before .before .before .before .before .before .before .serve .kept .1 .1 .1 .1 .0 ∙ c .before .before .before .before .before .before .before .before .before .before .before .before .before .before .before .before .before .before .before .before .before .before .before .before .before .before .loop .inv .1 .1 .1 .1 .0
+unfolding served looped
+same-length-4 c = let o = served (search) .serve in let l = looped (served (search)) .loop in omega arith
 
 same-length-5 : tie.Need-same-length-5 Inv-loop μ-loop
-same-length-5 c = c .before .before .before .before .before .before .before .before .before .before .before .before .before .before .before .before .before .before .serve .kept .1 .1 .1 .1 .1 .0 ∙ c .before .before .before .before .before .before .before .before .before .before .before .before .before .before .before .before .before .before .before .before .before .before .before .before .before .before .loop .inv .1 .1 .1 .1 .1 .0
+unfolding served looped
+same-length-5 c = let o = served (search) .serve in let l = looped (served (search)) .loop in omega arith
 
 same-length-6 : tie.Need-same-length-6 Inv-loop μ-loop
-same-length-6 c = c .before .before .before .before .before .before .before .before .before .before .before .before .before .before .before .before .before .before .serve .kept .1 .1 .1 .1 .1 .1 .1 .0 ∙ c .before .before .before .before .before .before .before .before .before .before .before .before .before .before .before .before .before .before .before .before .before .before .before .before .before .before .loop .inv .1 .1 .1 .1 .1 .1
+unfolding served looped
+same-length-6 c = let o = served (search) .serve in let l = looped (served (search)) .loop in omega arith
 
 returns : tie.Need-returns Inv-loop μ-loop
-returns c = c .before .before .before .before .before .before .before .before .before .before .before .before .before .before .before .before .before .before .before .before .before .before .before .before .before .before .loop .inv .0
+unfolding served looped
+returns c = let l = looped (served (search)) .loop .inv in search
 
 same-length-7 : tie.Need-same-length-7 Inv-loop μ-loop
-same-length-7 c = c .before .before .before .before .before .before .before .before .before .before .before .before .before .before .before .before .before .before .serve .kept .1 .0 ∙ c .before .before .before .before .before .before .before .before .before .before .before .before .before .before .before .before .before .before .before .before .before .before .before .before .before .before .loop .inv .1 .0
+unfolding served looped
+same-length-7 c = let o = served (search) .serve in let l = looped (served (search)) .loop in omega arith
 
 same-length-8 : tie.Need-same-length-8 Inv-loop μ-loop
-same-length-8 c = c .before .before .before .before .before .before .before .before .before .before .before .before .before .before .before .before .before .before .serve .kept .1 .1 .0 ∙ c .before .before .before .before .before .before .before .before .before .before .before .before .before .before .before .before .before .before .before .before .before .before .before .before .before .before .loop .inv .1 .1 .0
+unfolding served looped
+same-length-8 c = let o = served (search) .serve in let l = looped (served (search)) .loop in omega arith
 
 same-length-9 : tie.Need-same-length-9 Inv-loop μ-loop
-same-length-9 c = c .before .before .before .before .before .before .before .before .before .before .before .before .before .before .before .before .before .before .serve .kept .1 .1 .1 .0 ∙ c .before .before .before .before .before .before .before .before .before .before .before .before .before .before .before .before .before .before .before .before .before .before .before .before .before .before .loop .inv .1 .1 .1 .0
+unfolding served looped
+same-length-9 c = let o = served (search) .serve in let l = looped (served (search)) .loop in omega arith
 
 same-length-10 : tie.Need-same-length-10 Inv-loop μ-loop
-same-length-10 c = c .before .before .before .before .before .before .before .before .before .before .before .before .before .before .before .before .before .before .serve .kept .1 .1 .1 .1 .0 ∙ c .before .before .before .before .before .before .before .before .before .before .before .before .before .before .before .before .before .before .before .before .before .before .before .before .before .before .loop .inv .1 .1 .1 .1 .0
+unfolding served looped
+same-length-10 c = let o = served (search) .serve in let l = looped (served (search)) .loop in omega arith
 
 same-length-11 : tie.Need-same-length-11 Inv-loop μ-loop
-same-length-11 c = c .before .before .before .before .before .before .before .before .before .before .before .before .before .before .before .before .before .before .serve .kept .1 .1 .1 .1 .1 .0 ∙ c .before .before .before .before .before .before .before .before .before .before .before .before .before .before .before .before .before .before .before .before .before .before .before .before .before .before .loop .inv .1 .1 .1 .1 .1 .0
+unfolding served looped
+same-length-11 c = let o = served (search) .serve in let l = looped (served (search)) .loop in omega arith
 
 same-length-12 : tie.Need-same-length-12 Inv-loop μ-loop
-same-length-12 c = c .before .before .before .before .before .before .before .before .before .before .before .before .before .before .before .before .before .before .serve .kept .1 .1 .1 .1 .1 .1 .1 .0 ∙ c .before .before .before .before .before .before .before .before .before .before .before .before .before .before .before .before .before .before .before .before .before .before .before .before .before .before .loop .inv .1 .1 .1 .1 .1 .1
+unfolding served looped
+same-length-12 c = let o = served (search) .serve in let l = looped (served (search)) .loop in omega arith
 
 returns-2 : tie.Need-returns-2 Inv-loop μ-loop
-returns-2 c = c .before .before .before .before .before .before .before .before .before .before .before .before .before .before .before .before .before .before .before .before .before .before .before .before .before .before .loop .inv .0
+unfolding served looped
+returns-2 c = let l = looped (served (search)) .loop .inv in search
 
 add-used : tie.Need-add-used Inv-loop μ-loop
+unfolding served looped start
 add-used c =
-    let a = c .before .before .before .before .before .before .before .before .before .before .before .before .before .before .before .before .before .before .before .before .before .before .before .before .before .before .before .before .before .before .before .before .before .before .before .args in
-    let l = c .before .before .before .before .before .before .before .before .before .before .before .before .before .before .before .before .before .before .before .before .before .before .before .before .before .before .before .loop in
-    let o = c .before .before .before .before .before .before .before .before .before .before .before .before .before .before .before .before .before .before .before .serve in
-    omega (arith, c .before .before .before .before .before .before .before .before .before .before .before .before .before .before .before .before .before .before .before .before .before .before .before .before .before .before .before .before .before .before .before .before .before .before .before .good .1 .1 .1 .1 .1 .1 .0 .0, o .ensures .1 .0, rest-long (l .used) (now (a .run)), l .inv .0, c .before .if2 .left)
+    let o = served (search) .serve in
+    let l = looped (served (search)) .loop in
+    let w = run-long (start (looped (served (search)))) in
+    search place-fits
 
 loop-less : tie.Need-loop-less Inv-loop μ-loop
+unfolding served looped
 loop-less c =
-    let a = c .before .before .before .before .before .before .before .before .before .before .before .before .before .before .before .before .before .before .before .before .before .before .before .before .before .before .before .before .before .before .before .before .before .before .before .args in
-    let l = c .before .before .before .before .before .before .before .before .before .before .before .before .before .before .before .before .before .before .before .before .before .before .before .before .before .before .before .loop in
-    let o = c .before .before .before .before .before .before .before .before .before .before .before .before .before .before .before .before .before .before .before .serve in
-    omega (arith, o .ensures .1 .0, rest-long (l .used) (now (a .run)), l .inv .0, c .before .if2 .left)
+    let o = served (search) .serve in
+    let l = looped (served (search)) .loop in
+    search nearer
 
 loop-again : tie.Need-loop-again Inv-loop μ-loop
+unfolding served looped
 loop-again c =
-    let a = c .before .before .before .before .before .before .before .before .before .before .before .before .before .before .before .before .before .before .before .before .before .before .before .before .before .before .before .before .before .before .before .before .before .before .before .args in
-    let l = c .before .before .before .before .before .before .before .before .before .before .before .before .before .before .before .before .before .before .before .before .before .before .before .before .before .before .before .loop in
-    let o = c .before .before .before .before .before .before .before .before .before .before .before .before .before .before .before .before .before .before .before .serve in
-    (omega (arith, o .ensures .1 .0, rest-long (l .used) (now (a .run)), l .inv .0), (o .kept .1 .0 ∙ l .inv .1 .0, (o .kept .1 .1 .0 ∙ l .inv .1 .1 .0, (o .kept .1 .1 .1 .0 ∙ l .inv .1 .1 .1 .0, (o .kept .1 .1 .1 .1 .0 ∙ l .inv .1 .1 .1 .1 .0, (o .kept .1 .1 .1 .1 .1 .0 ∙ l .inv .1 .1 .1 .1 .1 .0, (o .kept .1 .1 .1 .1 .1 .1 .1 .0 ∙ l .inv .1 .1 .1 .1 .1 .1)))))))
+    let o = served (search) .serve in
+    let l = looped (served (search)) .loop in
+    (search further, (search kept-on, omega arith))
 
 pub answer-spec : {M : Type 1} → statement M
 answer-spec =

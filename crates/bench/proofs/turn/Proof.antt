@@ -1,15 +1,19 @@
--- What is answered and what is kept lie in the line.
-use mathlib.Core.Path.{sym}
+-- What is read lies in the line, what is answered lies in what was read, and what is kept is the rest of it.
 use native.Mathlib.Omega.{arith}
-use lib.Seq.{length-take-le}
 use borrow.Author.Needs.{needs}
+use Rattle.bench.proofs.Lengths.{front-long, front-most}
 use Rattle.bench.proofs.turn.Statement.{statement}
 use Rattle.bench.proofs.turn.Tie as tie
-use Rattle.bench.proofs.turn.Reads as reads
-use Rattle.bench.proofs.turn.Lts as lts
-use Rattle.bench.proofs.answer.Reads as answer-reads
-use Rattle.bench.proofs.receive.Reads as receive-reads
-use Rattle.bench.proofs.serve.keep.Reads as keep-reads
+
+-- back to the read, and from behind the answer to it
+unfoldable received : tie.Else1 → tie.After-receive
+received c = search
+
+unfoldable answered : tie.After-keep-arg → tie.After-answer
+answered c = search
+
+unfoldable asked : tie.After-answer → tie.Else1
+asked c = search
 
 receive-requires : tie.Need-receive-requires
 receive-requires c κs = search needs
@@ -24,17 +28,19 @@ slice-reshare-prefix-answer : tie.Need-slice-reshare-prefix-answer
 slice-reshare-prefix-answer c = search needs
 
 slice-aggregate-answer : tie.Need-slice-aggregate-answer
-slice-aggregate-answer c =
-    let o = c .before .before .before .before .before .before .before .before .before .receive in
-    sym (length-take-le (o .result) (o .last .0) (omega (arith, o .ensures .1, o .kept .0)))
+unfolding received
+slice-aggregate-answer c = let o = received (search) .receive in search front-long
 
 answer-requires : tie.Need-answer-requires
 answer-requires c κs = search needs
 
 keep-requires : tie.Need-keep-requires
+unfolding received answered asked
 keep-requires c κs =
-    let o = c .before .before .before .before .before .before .before .before .before .before .before .before .before .before .before .before .before .before .before .before .before .before .before .before .before .receive in
-    (omega (arith, c .before .before .before .before .before .before .before .before .before .before .before .before .before .before .answer .ensures, length-take-le (o .result) (o .last .0) (omega (arith, o .ensures .1, o .kept .0))), omega (arith, o .ensures .1, o .kept .0))
+    let a = answered c .answer .ensures in
+    let o = received (asked (answered c)) .receive in
+    let k = o .kept in
+    (front-most _ _ _ _ a (o .ensures .inside) (search), omega arith)
 
 same-length-2 : tie.Need-same-length-2
 same-length-2 c = search needs
@@ -58,8 +64,10 @@ same-length-8 : tie.Need-same-length-8
 same-length-8 c = search needs
 
 returns-2 : tie.Need-returns-2
+unfolding received answered asked
 returns-2 c =
-    omega (arith, c .before .before .keep .ensures .0, c .before .before .before .before .before .before .before .before .before .before .before .before .before .before .before .before .before .before .before .before .before .before .before .before .before .before .before .before .receive .ensures .1)
+    let o = received (asked (answered (search))) .receive .ensures in
+    omega arith
 
 pub turn-spec : {M : Type 1} → statement M
 turn-spec =

@@ -1,18 +1,21 @@
--- A call keeps within its run and its room.
+-- The call is the reader's; what it uses lies in the run, and what it writes in the room.
 use mathlib.Core.Path.{_≡_}
-use native.Mathlib.Omega.{arith}
 use lib.ListN.{length}
-use denote.Ref.{now}
-use Rattle.protocol.specs.Bytes.{Bytes}
-use Rattle.protocol.specs.Call.{Typed}
-use Rattle.protocol.specs.Records.{readerOf, endedOf}
-use Rattle.bench.proofs.Calls.{within}
 use borrow.Author.Needs.{needs}
+use Rattle.protocol.specs.Numbers.{fourBytes}
+use Rattle.bench.proofs.Calls.{call-within}
 use Rattle.bench.proofs.serve.call_once.Statement.{statement}
 use Rattle.bench.proofs.serve.call_once.Tie as tie
-use Rattle.bench.proofs.serve.call_once.Reads as reads
-use Rattle.bench.proofs.serve.call_once.Lts as lts
-use Rattle.place.proofs.step_through.Reads as step-through-reads
+
+-- from the end back to the call, and from there to the start, where the settings' and the index's bytes are known
+unfoldable called : tie.After-slice-known12 → tie.After-step-through
+called c = search
+
+unfoldable indexed : tie.After-step-through → tie.After-slice-known2
+indexed c = search
+
+unfoldable start : tie.After-step-through → tie.Start
+start c = search
 
 step-through-requires : tie.Need-step-through-requires
 step-through-requires c κs = search needs
@@ -36,16 +39,14 @@ same-length-6 : tie.Need-same-length-6
 same-length-6 c = search needs
 
 returns : tie.Need-returns
-unfolding Bytes
+unfolding called indexed start
 returns c =
-    let a = c .before .before .before .before .before .before .before .before .before .before .before .before .before .before .before .before .before .before .before .before .before .before .before .before .before .before .args in
-    let r = readerOf (a .settings) (now (a .templates)) (now (a .index)) (now (a .notepad)) (now (a .buffer1)) (now (a .buffer2)) in
-    let o = c .before .before .before .before .before .before .before .before .before .before .before .before .step-through in
-    let e = endedOf (o .result) (o .last .1 .0) (o .last .1 .1 .0) (o .last .1 .1 .1 .0) (o .last .1 .1 .1 .1 .0) (o .last .1 .1 .1 .1 .1 .0) (o .last .1 .1 .1 .1 .1 .1 .1 .0) in
-    let p : length (a .settings .password) ≡ 4 = search (needs, c .before .before .before .before .before .before .before .before .before .before .before .before .before .before .before .before .before .before .before .before .before .before .before .before .before .before .good) in
-    let q : length (a .settings .address) ≡ 4 = search (needs, c .before .before .before .before .before .before .before .before .before .before .before .before .before .before .before .before .before .before .before .before .before .before .before .before .before .before .good) in
-    let h : Typed r = record { password = p; address = q; index = λ i. omega (arith, c .before .before .before .before .before .before .before .before .before .before .before .before .before .before .before .before .before .before .before .before .before .before .before .before .slice-known2 .given i) } in
-    (o .ensures, within r h (now (a .run)) (now (a .out)) e (o .ensures))
+    let o = called c .step-through .ensures in
+    let k = indexed (called c) .slice-known2 .given in
+    let s = start (called c) in
+    let p : length (s .args .settings .password) ≡ fourBytes = search (needs, s .good) in
+    let a : length (s .args .settings .address) ≡ fourBytes = search (needs, s .good) in
+    search call-within
 
 pub call-once-spec : {M : Type 1} → statement M
 call-once-spec =

@@ -1,32 +1,42 @@
--- What is left to serve gives the whole, and each turn but the last uses at least one byte.
-use mathlib.Core.Path.{_≡_, refl, _∙_}
-use Prim.Native.Nat.{_-_, _≤_}
+-- What is left to serve gives the whole, and each call but the last uses at least one byte, so that the loop ends.
+use Prim.Native.Nat.{_-_, _<_}
 use native.Mathlib.Omega.{arith}
 use lib.ListN.{length}
 use denote.Ref.{now}
 use borrow.Author.Needs.{needs}
-use Rattle.protocol.specs.Records.{readerOf, endedOf}
-use Rattle.bench.proofs.Calls.{rest-long, room-same, Serving, again, over}
+use Rattle.protocol.specs.Numbers.{wrapsAt}
+use Rattle.protocol.specs.Records.{readerOf}
+use Rattle.bench.proofs.Lengths.{place-fits, nearer}
+use Rattle.bench.proofs.Calls.{Serving, begins, room-kept, room-fits, used-inside, written-inside, again, over}
 use Rattle.bench.proofs.serve.serve.Statement.{statement}
 use Rattle.bench.proofs.serve.serve.Tie as tie
-use Rattle.bench.proofs.serve.serve.Reads as reads
-use Rattle.bench.proofs.serve.serve.Lts as lts
-use Rattle.bench.proofs.serve.call_once.Reads as call-once-reads
-use Rattle.bench.proofs.serve.served_of.Reads as served-of-reads
 
 abbrev Inv-loop : tie.InvT-loop
 Inv-loop templates₀ index₀ notepad₀ buffer1₀ buffer2₀ run out₀ current₀ from₀ at₀ templates index notepad buffer1 buffer2 out current from at =
     Serving run (readerOf current₀ templates₀ index₀ notepad₀ buffer1₀ buffer2₀) out₀ (readerOf current templates index notepad buffer1 buffer2) out from at
-    × ((length templates ≡ length templates₀) × ((length index ≡ length index₀) × ((length notepad ≡ length notepad₀) × ((length buffer1 ≡ length buffer1₀) × (length buffer2 ≡ length buffer2₀)))))
 
 abbrev μ-loop : tie.MeasureT-loop
 μ-loop templates₀ index₀ notepad₀ buffer1₀ buffer2₀ run out₀ current₀ from₀ at₀ templates index notepad buffer1 buffer2 out current from at =
     length run - from
 
+-- from behind the call back to it, to the loop's test, and to the start
+unfoldable called : tie.After-struct-known Inv-loop μ-loop → tie.After-call-once Inv-loop μ-loop
+called c = search
+
+unfoldable looped : tie.After-call-once Inv-loop μ-loop → tie.At-loop Inv-loop μ-loop
+looped c = search
+
+unfoldable start : tie.At-loop Inv-loop μ-loop → tie.Start Inv-loop μ-loop
+start c = search
+
+run-long : (c : tie.Start Inv-loop μ-loop) → length (now (c .args .run)) < wrapsAt
+run-long c = omega arith
+
+out-long : (c : tie.Start Inv-loop μ-loop) → length (now (c .args .out)) < wrapsAt
+out-long c = omega arith
+
 loop-holds : tie.Need-loop-holds Inv-loop μ-loop
-loop-holds c =
-    let a = c .before .before .before .before .before .before .before .args in
-    (record { inside = omega arith; fits = omega arith; same = refl; calls = length (now (a .run)); enough = omega arith; left = refl }, (refl, (refl, (refl, (refl, refl)))))
+loop-holds c = search begins
 
 sub-call-once : tie.Need-sub-call-once Inv-loop μ-loop
 sub-call-once c = search needs
@@ -53,77 +63,69 @@ served-of-requires : tie.Need-served-of-requires Inv-loop μ-loop
 served-of-requires c κs = search needs
 
 same-length : tie.Need-same-length Inv-loop μ-loop
-same-length c =
-    let l = c .before .before .before .before .before .before .before .before .before .before .before .before .before .before .before .before .before .before .before .before .before .before .before .before .loop in
-    let o = c .before .before .before .before .before .before .before .before .before .before .before .before .before .before .before .before .call-once in
-    o .kept .1 .0 ∙ l .inv .1 .0
+unfolding called looped
+same-length c = let o = called (search) .call-once in let l = looped (called (search)) .loop in omega arith
 
 same-length-2 : tie.Need-same-length-2 Inv-loop μ-loop
-same-length-2 c =
-    let l = c .before .before .before .before .before .before .before .before .before .before .before .before .before .before .before .before .before .before .before .before .before .before .before .before .loop in
-    let o = c .before .before .before .before .before .before .before .before .before .before .before .before .before .before .before .before .call-once in
-    o .kept .1 .1 .0 ∙ l .inv .1 .1 .0
+unfolding called looped
+same-length-2 c = let o = called (search) .call-once in let l = looped (called (search)) .loop in omega arith
 
 same-length-3 : tie.Need-same-length-3 Inv-loop μ-loop
-same-length-3 c =
-    let l = c .before .before .before .before .before .before .before .before .before .before .before .before .before .before .before .before .before .before .before .before .before .before .before .before .loop in
-    let o = c .before .before .before .before .before .before .before .before .before .before .before .before .before .before .before .before .call-once in
-    o .kept .1 .1 .1 .0 ∙ l .inv .1 .1 .1 .0
+unfolding called looped
+same-length-3 c = let o = called (search) .call-once in let l = looped (called (search)) .loop in omega arith
 
 same-length-4 : tie.Need-same-length-4 Inv-loop μ-loop
-same-length-4 c =
-    let l = c .before .before .before .before .before .before .before .before .before .before .before .before .before .before .before .before .before .before .before .before .before .before .before .before .loop in
-    let o = c .before .before .before .before .before .before .before .before .before .before .before .before .before .before .before .before .call-once in
-    o .kept .1 .1 .1 .1 .0 ∙ l .inv .1 .1 .1 .1 .0
+unfolding called looped
+same-length-4 c = let o = called (search) .call-once in let l = looped (called (search)) .loop in omega arith
 
 same-length-5 : tie.Need-same-length-5 Inv-loop μ-loop
-same-length-5 c =
-    let l = c .before .before .before .before .before .before .before .before .before .before .before .before .before .before .before .before .before .before .before .before .before .before .before .before .loop in
-    let o = c .before .before .before .before .before .before .before .before .before .before .before .before .before .before .before .before .call-once in
-    o .kept .1 .1 .1 .1 .1 .0 ∙ l .inv .1 .1 .1 .1 .1
+unfolding called looped
+same-length-5 c = let o = called (search) .call-once in let l = looped (called (search)) .loop in omega arith
 
 same-length-6 : tie.Need-same-length-6 Inv-loop μ-loop
-same-length-6 c =
-    let l = c .before .before .before .before .before .before .before .before .before .before .before .before .before .before .before .before .before .before .before .before .before .before .before .before .loop in
-    let o = c .before .before .before .before .before .before .before .before .before .before .before .before .before .before .before .before .call-once in
-    room-same (l .out) (o .last .1 .1 .1 .1 .1 .1 .1 .0) (l .at) (l .inv .0 .fits) (o .kept .1 .1 .1 .1 .1 .1 .1 .0) ∙ l .inv .0 .same
+unfolding called looped
+same-length-6 c = let o = called (search) .call-once in let l = looped (called (search)) .loop in search room-kept
 
 returns : tie.Need-returns Inv-loop μ-loop
+unfolding called looped
 returns c =
-    let l = c .before .before .before .before .before .before .before .before .before .before .before .before .before .before .before .before .before .before .before .before .before .before .before .before .loop in
-    let o = c .before .before .before .before .before .before .before .before .before .before .before .before .before .before .before .before .call-once in
-    let e = endedOf (o .result) (o .last .1 .0) (o .last .1 .1 .0) (o .last .1 .1 .1 .0) (o .last .1 .1 .1 .1 .0) (o .last .1 .1 .1 .1 .1 .0) (o .last .1 .1 .1 .1 .1 .1 .1 .0) in
-    let z : o .result .used ≡ 0 = omega (arith, c .before .if1 .taken) in
-    rw (c .served-of .ensures)
-    (over _ _ _ _ _ _ _ (l .inv .0) e (o .ensures .0) (o .kept .1 .1 .1 .1 .1 .1 .1 .0) z, (l .inv .0 .inside, omega (arith, l .inv .0 .fits, l .inv .0 .same)))
+    let o = called (search) .call-once in
+    let l = looped (called (search)) .loop in
+    record {
+      service = over (o .result) _ _ _ _ _ _ _ _ _ _ _ _ _ _ (c .served-of .ensures) (o .ensures .call) (search) (search) (l .inv);
+      used = search used-inside;
+      written = search written-inside;
+    }
 
 add-from : tie.Need-add-from Inv-loop μ-loop
+unfolding called looped start
 add-from c =
-    let a = c .before .before .before .before .before .before .before .before .before .before .before .before .before .before .before .before .before .before .before .before .before .before .before .before .before .before .before .before .before .before .before .before .args in
-    let l = c .before .before .before .before .before .before .before .before .before .before .before .before .before .before .before .before .before .before .before .before .before .before .before .before .loop in
-    let o = c .before .before .before .before .before .before .before .before .before .before .before .before .before .before .before .before .call-once in
-    omega (arith, c .before .before .before .before .before .before .before .before .before .before .before .before .before .before .before .before .before .before .before .before .before .before .before .before .before .before .before .before .before .before .before .before .good .1 .1 .1 .1 .1 .1 .0 .0, o .ensures .1 .0, rest-long (l .from) (now (a .run)), l .inv .0 .inside, c .before .if1 .left)
+    let o = called (search) .call-once in
+    let l = looped (called (search)) .loop in
+    let w = run-long (start (looped (called (search)))) in
+    search place-fits
 
 add-at : tie.Need-add-at Inv-loop μ-loop
+unfolding called looped start
 add-at c =
-    let l = c .before .before .before .before .before .before .before .before .before .before .before .before .before .before .before .before .before .before .before .before .before .before .before .before .before .loop in
-    let o = c .before .before .before .before .before .before .before .before .before .before .before .before .before .before .before .before .before .call-once in
-    omega (arith, c .before .before .before .before .before .before .before .before .before .before .before .before .before .before .before .before .before .before .before .before .before .before .before .before .before .before .before .before .before .before .before .before .before .good .1 .1 .1 .1 .1 .1 .1 .0 .0, o .ensures .1 .1, rest-long (l .at) (l .out), l .inv .0 .fits, l .inv .0 .same)
+    let o = called (search) .call-once in
+    let l = looped (called (search)) .loop in
+    let w = out-long (start (looped (called (search)))) in
+    search room-fits
 
 loop-less : tie.Need-loop-less Inv-loop μ-loop
+unfolding called looped
 loop-less c =
-    let a = c .before .before .before .before .before .before .before .before .before .before .before .before .before .before .before .before .before .before .before .before .before .before .before .before .before .before .before .before .before .before .before .before .before .args in
-    let l = c .before .before .before .before .before .before .before .before .before .before .before .before .before .before .before .before .before .before .before .before .before .before .before .before .before .loop in
-    let o = c .before .before .before .before .before .before .before .before .before .before .before .before .before .before .before .before .before .call-once in
-    omega (arith, o .ensures .1 .0, rest-long (l .from) (now (a .run)), l .inv .0 .inside, c .before .before .if1 .left)
+    let o = called (search) .call-once in
+    let l = looped (called (search)) .loop in
+    search nearer
 
 loop-again : tie.Need-loop-again Inv-loop μ-loop
+unfolding called looped
 loop-again c =
-    let l = c .before .before .before .before .before .before .before .before .before .before .before .before .before .before .before .before .before .before .before .before .before .before .before .before .before .loop in
-    let o = c .before .before .before .before .before .before .before .before .before .before .before .before .before .before .before .before .before .call-once in
-    let e = endedOf (o .result) (o .last .1 .0) (o .last .1 .1 .0) (o .last .1 .1 .1 .0) (o .last .1 .1 .1 .1 .0) (o .last .1 .1 .1 .1 .1 .0) (o .last .1 .1 .1 .1 .1 .1 .1 .0) in
-    let u : 1 ≤ o .result .used = omega (arith, c .before .before .if1 .left) in
-    (again _ _ _ _ _ _ _ (l .inv .0) e (o .ensures .0) (o .kept .1 .1 .1 .1 .1 .1 .1 .0) u (o .ensures .1 .0) (o .ensures .1 .1), (o .kept .1 .0 ∙ l .inv .1 .0, (o .kept .1 .1 .0 ∙ l .inv .1 .1 .0, (o .kept .1 .1 .1 .0 ∙ l .inv .1 .1 .1 .0, (o .kept .1 .1 .1 .1 .0 ∙ l .inv .1 .1 .1 .1 .0, (o .kept .1 .1 .1 .1 .1 .0 ∙ l .inv .1 .1 .1 .1 .1))))))
+    let o = called (search) .call-once in
+    let l = looped (called (search)) .loop in
+    search again
 
 pub serve-spec : {M : Type 1} → statement M
 serve-spec =

@@ -1,17 +1,17 @@
--- The mask leaves the lowest bit of the byte shifted down.
-use denote.Ref.{now}
+-- The byte shifted down by the place has the page's bit lowest, and the mask leaves that bit alone.
+use mathlib.Core.Path.{_≡_, _∙_}
+use Prim.Native.Nat.{ℕ, _/_, _^_, _≤_}
 use native.Mathlib.Omega.{arith}
-use Prim.Native.Nat.{_-_, _/_, _%_}
-use mathlib.Core.Path.{_∙_}
+use lib.Bits.{bitAnd}
 use borrow.Author.Needs.{needs}
-use Rattle.protocol.specs.Bytes.{byteAt}
 use Rattle.protocol.specs.Index.{bit}
 use Rattle.protocol.proofs.Laws.Bits.{shift-bit}
 use Rattle.library.proofs.index.bit_at.Statement.{statement}
 use Rattle.library.proofs.index.bit_at.Tie as tie
-use Rattle.library.proofs.index.bit_at.Reads as reads
-use Rattle.library.proofs.index.bit_at.Lts as lts
-use Rattle.wire.proofs.bytes.wide.Reads as wide-reads
+
+masked : (b k r : ℕ) → r ≡ bitAnd (b / 2 ^ k) 1 → (r ≡ bit b k) × (r ≤ 1)
+unfolding bit
+masked b k r e = let f : r ≡ bit b k = e ∙ shift-bit b k in (f, omega arith)
 
 shared-slice-read-b : tie.Need-shared-slice-read-b
 shared-slice-read-b c = search needs
@@ -26,11 +26,7 @@ wide-requires : tie.Need-wide-requires
 wide-requires c κs = search needs
 
 returns : tie.Need-returns
-unfolding bit
-returns c =
-    let a = c .before .before .before .args in
-    let f = c .wide .ensures .0 ∙ shift-bit (byteAt (now (a .index)) (a .p / 8)) (a .p % 8) in
-    (f, omega (arith, f))
+returns c = search masked
 
 pub bit-at-spec : {M : Type 1} → statement M
 bit-at-spec = tie.close (tie.spec shared-slice-read-b cast-v shr-v wide-requires returns)

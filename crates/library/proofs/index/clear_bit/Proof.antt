@@ -1,14 +1,8 @@
--- One bit of one byte, by a mask; or the index has no byte for the page.
-use denote.Ref.{now}
-use native.Mathlib.Omega.{arith}
-use Prim.Native.Nat.{_-_}
-use mathlib.Core.Path.{sym}
+-- The mask clears the page's bit and keeps the others; where the index has no byte for the page, no bit of it is set.
 use borrow.Author.Needs.{needs}
-use Rattle.library.proofs.Bits.{clear-mask, clear-out-bit}
+use Rattle.library.proofs.Bits.{clear-mask, not-cleared}
 use Rattle.library.proofs.index.clear_bit.Statement.{statement}
 use Rattle.library.proofs.index.clear_bit.Tie as tie
-use Rattle.library.proofs.index.clear_bit.Reads as reads
-use Rattle.library.proofs.index.clear_bit.Lts as lts
 
 slice-read-b : tie.Need-slice-read-b
 slice-read-b c = search needs
@@ -26,10 +20,10 @@ same-length : tie.Need-same-length
 same-length c = search needs
 
 returns : tie.Need-returns
-returns c = clear-mask (now (c .before .before .args .index)) (c .before .before .args .p) (λ i. omega (arith, c .slice-known .given i))
+returns c = search clear-mask
 
 returns-2 : tie.Need-returns-2
-returns-2 c = sym (clear-out-bit (now (c .before .args .index)) (c .before .args .p) (omega arith))
+returns-2 c = search not-cleared
 
 pub clear-bit-spec : {M : Type 1} → statement M
 clear-bit-spec =

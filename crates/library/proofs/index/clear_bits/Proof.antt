@@ -1,26 +1,22 @@
--- What is left to clear, cleared, gives the whole.
-use lib.ListN.{length}
+-- The bits still to be cleared, cleared from the index as it is, give the whole; at the end none is left.
+use mathlib.Core.Path.{_≡_}
+use Prim.Native.Nat.{_+_}
 use native.Mathlib.Omega.{arith}
-use Prim.Native.Nat.{ℕ, _+_, _-_, _≤_}
-use mathlib.Core.List.{List}
-use mathlib.Core.Path.{_≡_, refl, sym, ap, _∙_}
+use lib.ListN.{length}
 use borrow.Author.Needs.{needs}
-use Rattle.library.proofs.Bits.{clear-more, clear-none}
 use Rattle.protocol.specs.Index.{clearBits}
+use Rattle.library.proofs.Bits.{clear-more, clear-none}
 use Rattle.library.proofs.index.clear_bits.Statement.{statement}
 use Rattle.library.proofs.index.clear_bits.Tie as tie
-use Rattle.library.proofs.index.clear_bits.Reads as reads
-use Rattle.library.proofs.index.clear_bits.Lts as lts
-use Rattle.library.proofs.index.clear_bit.Reads as clear-bit-reads
 
 abbrev Inv-loop : tie.InvT-loop
-Inv-loop index₀ p n q₀ left₀ index q left = (q + left ≤ 131070) × ((length index ≡ length index₀) × (clearBits index₀ p n ≡ clearBits index q left))
+Inv-loop index₀ p n q₀ left₀ index q left = (q + left ≡ p + n) × ((length index ≡ length index₀) × (clearBits index₀ p n ≡ clearBits index q left))
 
 abbrev μ-loop : tie.MeasureT-loop
 μ-loop index₀ p n q₀ left₀ index q left = left
 
 loop-holds : tie.Need-loop-holds Inv-loop μ-loop
-loop-holds c = (omega arith, (refl, refl))
+loop-holds c = search needs
 
 clear-bit-requires : tie.Need-clear-bit-requires Inv-loop μ-loop
 clear-bit-requires c κs = search needs
@@ -35,15 +31,13 @@ loop-less : tie.Need-loop-less Inv-loop μ-loop
 loop-less c = search needs
 
 loop-again : tie.Need-loop-again Inv-loop μ-loop
-loop-again c =
-    let l = c .before .before .before .before .before .loop in
-    (omega arith, (omega arith, l .inv .1 .1 ∙ clear-more (l .index) (l .q) (l .left) (c .before .before .before .before .loop-test .taken) ∙ ap (λ (x : List ℕ). clearBits x (l .q + 1) (l .left - 1)) (sym (c .before .before .clear-bit .ensures))))
+loop-again c = (omega arith, (omega arith, search clear-more))
 
 same-length : tie.Need-same-length Inv-loop μ-loop
 same-length c = search needs
 
 returns : tie.Need-returns Inv-loop μ-loop
-returns c = let z : c .before .loop .left ≡ 0 = omega arith in sym (c .before .loop .inv .1 .1 ∙ clear-none (c .before .loop .index) (c .before .loop .q) (c .before .loop .left) z)
+returns c = search clear-none
 
 pub clear-bits-spec : {M : Type 1} → statement M
 clear-bits-spec =

@@ -1,15 +1,24 @@
--- The length that is asked for, or FFFFh.
+-- Where the index has the length that is asked for, its set bits are counted; otherwise the answer is FFFFh.
+use mathlib.Core.Path.{_≡_, sym, _∙_}
+use mathlib.Core.List.{List}
+use Prim.Native.Nat.{ℕ}
+use lib.ListN.{length}
 use borrow.Author.Tests.{eq-eqb, ne-eqb}
-use Prim.Native.Nat.{_-_}
-use mathlib.Core.Path.{refl, sym, _∙_}
 use borrow.Author.Needs.{needs}
+use Rattle.protocol.specs.Numbers.{noCount}
+use Rattle.protocol.specs.Index.{setBits}
 use Rattle.library.specs.Lent.{countOf}
 use Rattle.library.proofs.index.count.Statement.{statement}
 use Rattle.library.proofs.index.count.Tie as tie
-use Rattle.library.proofs.index.count.Reads as reads
-use Rattle.library.proofs.index.count.Lts as lts
-use Rattle.library.proofs.index.count_bits.Reads as count-bits-reads
-use Rattle.wire.proofs.bytes.wide.Reads as wide-reads
+
+module _ (x : List ℕ) (n k : ℕ) (e : k ≡ n) where
+  counted : (r : ℕ) → length x ≡ k → r ≡ setBits x → r ≡ countOf n x
+  unfolding countOf
+  counted r h f = rw (eq-eqb _ _ (h ∙ e)) f
+
+  not-counted : (length x ≡ k → ⊥) → noCount ≡ countOf n x
+  unfolding countOf
+  not-counted h = rw (ne-eqb _ _ (λ f. h (f ∙ sym e)))
 
 wide-requires : tie.Need-wide-requires
 wide-requires c κs = search needs
@@ -21,14 +30,10 @@ cast-result : tie.Need-cast-result
 cast-result c = search needs
 
 returns : tie.Need-returns
-unfolding countOf
-returns c =
-    let e = c .before .if1 .taken ∙ c .before .before .wide .ensures .0 in
-    rw (eq-eqb _ _ e) (c .count-bits .ensures .0)
+returns c = search counted
 
 returns-2 : tie.Need-returns-2
-unfolding countOf
-returns-2 c = rw (ne-eqb _ _ (λ e. c .if1 .left (e ∙ sym (c .before .wide .ensures .0)))) refl
+returns-2 c = search not-counted
 
 pub count-spec : {M : Type 1} → statement M
 count-spec = tie.close (tie.spec wide-requires count-bits-requires cast-result returns returns-2)

@@ -1,18 +1,19 @@
--- The bits before page p are counted.
-use lib.ListN.{length}
-use denote.Ref.{now}
+-- The bits before page p are counted, and a bit is at most 1, so that the count fits.
+use mathlib.Core.Path.{_≡_, refl}
+use mathlib.Core.List.{List}
+use Prim.Native.Nat.{ℕ, _-_, _*_, _≤_}
 use native.Mathlib.Omega.{arith}
-use Prim.Native.Nat.{ℕ, _+_, _-_, _*_, _≤_}
-use mathlib.Core.Path.{_≡_, refl, sym, ap, _∙_}
+use lib.ListN.{length}
 use borrow.Author.Needs.{needs}
 use Rattle.protocol.specs.Tests.{countBelow}
-use Rattle.library.proofs.Bits.{count-more}
 use Rattle.protocol.specs.Index.{stored, setBits}
+use Rattle.library.proofs.Bits.{count-more}
 use Rattle.library.proofs.index.count_bits.Statement.{statement}
 use Rattle.library.proofs.index.count_bits.Tie as tie
-use Rattle.library.proofs.index.count_bits.Reads as reads
-use Rattle.library.proofs.index.count_bits.Lts as lts
-use Rattle.library.proofs.index.bit_at.Reads as bit-at-reads
+
+all-counted : (x : List ℕ) (n p : ℕ) → n ≡ countBelow (stored x) p → p ≤ 8 * length x → 8 * length x ≤ p → n ≡ setBits x
+unfolding setBits
+all-counted x n p e h l = let all : p ≡ 8 * length x = omega arith in rw all at e
 
 abbrev Inv-loop : tie.InvT-loop
 Inv-loop index end n₀ p₀ n p = (p ≤ end) × ((n ≤ p) × (n ≡ countBelow (stored index) p))
@@ -40,16 +41,10 @@ loop-less : tie.Need-loop-less Inv-loop μ-loop
 loop-less c = search needs
 
 loop-again : tie.Need-loop-again Inv-loop μ-loop
-loop-again c =
-    let l = c .before .before .loop in
-    (omega arith, (omega (arith, c .bit-at .ensures .1), sym (count-more (now (c .before .before .before .before .args .index)) (l .p) (c .bit-at .result) (c .bit-at .ensures .0) (c .bit-at .ensures .1) ∙ ap (λ (k : ℕ). k + c .bit-at .result) (sym (l .inv .1 .1)))))
+loop-again c = (omega arith, (omega arith, search count-more))
 
 returns : tie.Need-returns Inv-loop μ-loop
-unfolding setBits
-returns c =
-    let l = c .before .loop in
-    let e : l .p ≡ 8 * length (now (c .before .before .before .args .index)) = omega arith in
-    (l .inv .1 .1 ∙ ap (countBelow (stored (now (c .before .before .before .args .index)))) e, omega arith)
+returns c = (search all-counted, omega arith)
 
 pub count-bits-spec : {M : Type 1} → statement M
 count-bits-spec =

@@ -1,26 +1,27 @@
--- The bit is 1, or the index has no byte for the page.
-use denote.Ref.{now}
-use native.Mathlib.Omega.{arith}
-use Prim.Native.Nat.{_-_}
-use mathlib.Core.Path.{refl, sym}
+-- A page is stored where its bit is 1; where the index has no byte for it, it is not.
+use mathlib.Core.Path.{_≡_}
+use mathlib.Core.List.{List}
+use Prim.Native.Nat.{ℕ, _/_, _%_}
+use lib.Dec.{eqb}
 use borrow.Author.Needs.{needs}
-use Rattle.protocol.specs.Index.{stored}
-use Rattle.library.proofs.Bits.{stored-out}
+use Rattle.protocol.specs.Bytes.{byteAt}
+use Rattle.protocol.specs.Index.{bit, stored}
+use Rattle.library.proofs.Bits.{not-stored}
 use Rattle.library.proofs.index.has_bit.Statement.{statement}
 use Rattle.library.proofs.index.has_bit.Tie as tie
-use Rattle.library.proofs.index.has_bit.Reads as reads
-use Rattle.library.proofs.index.has_bit.Lts as lts
-use Rattle.library.proofs.index.bit_at.Reads as bit-at-reads
+
+by-bit : (x : List ℕ) (p v : ℕ) → v ≡ bit (byteAt x (p / 8)) (p % 8) → eqb v 1 ≡ stored x p
+unfolding stored
+by-bit x p v e = rw e
 
 bit-at-requires : tie.Need-bit-at-requires
 bit-at-requires c κs = search needs
 
 returns : tie.Need-returns
-unfolding stored
-returns c = rw (← c .bit-at .ensures .0) refl
+returns c = search by-bit
 
 returns-2 : tie.Need-returns-2
-returns-2 c = sym (stored-out (now (c .before .before .args .index)) (c .before .before .args .p) (omega arith))
+returns-2 c = search not-stored
 
 pub has-bit-spec : {M : Type 1} → statement M
 has-bit-spec = tie.close (tie.spec bit-at-requires returns returns-2)

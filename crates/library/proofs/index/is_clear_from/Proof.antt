@@ -1,17 +1,20 @@
--- What is found so far is 0 just where the bits so far are clear.
+-- What is found so far is 0 just where the bits so far are clear; the loop looks at every later byte.
+use mathlib.Core.Path.{_≡_, ap, _∙_}
+use mathlib.Core.Bool.{Bool}
+use mathlib.Core.List.{List}
+use Prim.Native.Nat.{ℕ, _-_, _*_, _≤_}
+use native.Mathlib.Omega.{arith}
 use lib.Dec.{eqb}
 use lib.ListN.{length}
-use denote.Ref.{now}
-use native.Mathlib.Omega.{arith}
-use Prim.Native.Nat.{_-_, _*_, _≤_}
-use mathlib.Core.Path.{_≡_, sym, ap, _∙_}
 use borrow.Author.Needs.{needs}
-use Rattle.library.proofs.Bits.{clearTo, clear-first, clear-next, clear-past}
 use Rattle.protocol.specs.Index.{clearFrom}
+use Rattle.library.proofs.Bits.{clearTo, clear-first, clear-next, clear-past}
 use Rattle.library.proofs.index.is_clear_from.Statement.{statement}
 use Rattle.library.proofs.index.is_clear_from.Tie as tie
-use Rattle.library.proofs.index.is_clear_from.Reads as reads
-use Rattle.library.proofs.index.is_clear_from.Lts as lts
+
+done : (x : List ℕ) (c i : ℕ) (b : Bool) → b ≡ clearTo x c i → i ≤ length x → length x ≤ i → b ≡ clearFrom x c
+unfolding clearFrom
+done x c i b e h l = let n : i ≡ length x = omega arith in e ∙ ap (clearTo x c) n
 
 abbrev Inv-loop : tie.InvT-loop
 Inv-loop index c at found₀ i₀ found i = (c ≤ 8 * i) × ((i ≤ length index) × (eqb found 0 ≡ clearTo index c i))
@@ -32,7 +35,7 @@ add-i : tie.Need-add-i Inv-loop μ-loop
 add-i c = search needs
 
 loop-holds : tie.Need-loop-holds Inv-loop μ-loop
-loop-holds c = (omega arith, (omega arith, clear-first (now (c .before .before .args .index)) (c .before .before .args .c) (λ i. omega (arith, c .shared-slice-known .given i))))
+loop-holds c = (omega arith, (omega arith, search clear-first))
 
 shared-slice-read-found-2 : tie.Need-shared-slice-read-found-2 Inv-loop μ-loop
 shared-slice-read-found-2 c = search needs
@@ -44,19 +47,13 @@ loop-less : tie.Need-loop-less Inv-loop μ-loop
 loop-less c = search needs
 
 loop-again : tie.Need-loop-again Inv-loop μ-loop
-loop-again c =
-    let l = c .before .before .loop in
-    (omega arith, (omega arith, clear-next (now (c .before .before .before .before .before .args .index)) (c .before .before .before .before .before .args .c) (l .i) (l .found) (λ i. omega (arith, c .shared-slice-known2 .given i)) (l .inv .0) (l .inv .1 .1)))
+loop-again c = (omega arith, (omega arith, search clear-next))
 
 returns : tie.Need-returns Inv-loop μ-loop
-unfolding clearFrom
-returns c =
-    let l = c .before .loop in
-    let n : l .i ≡ length (now (c .before .before .before .before .args .index)) = omega arith in
-    l .inv .1 .1 ∙ ap (clearTo (now (c .before .before .before .before .args .index)) (c .before .before .before .before .args .c)) n
+returns c = search done
 
 returns-2 : tie.Need-returns-2 Inv-loop μ-loop
-returns-2 c = sym (clear-past (now (c .before .args .index)) (c .before .args .c) (omega arith))
+returns-2 c = search clear-past
 
 pub is-clear-from-spec : {M : Type 1} → statement M
 is-clear-from-spec =

@@ -1,17 +1,31 @@
--- The part that is put is the page.
-use denote.Ref.{now}
-use borrow.Author.Tests.{lt-ltb, le-ltb, eq-eqb, ne-eqb}
+-- The part that is put over the 512 bytes is the page; where there is no such page, or the bytes are not 512, nothing is put.
+use mathlib.Core.Path.{_≡_, _∙_}
+use mathlib.Core.List.{List}
+use Prim.Native.Nat.{ℕ, _+_, _-_, _*_, _/_, _≤_, _<_}
 use native.Mathlib.Omega.{arith}
-use Prim.Native.Nat.{_-_, _*_}
-use mathlib.Core.Path.{refl, _∙_}
+use lib.ListN.{length, take, drop}
+use borrow.Author.Tests.{lt-ltb, le-ltb, eq-eqb, ne-eqb}
 use borrow.Author.Needs.{needs}
+use Rattle.protocol.specs.Numbers.{pageBytes}
+use Rattle.wire.specs.Laying.{layFront}
 use Rattle.library.specs.Lent.{readPage}
 use Rattle.library.proofs.Parts.{part-read}
 use Rattle.library.proofs.pages.read_page.Statement.{statement}
 use Rattle.library.proofs.pages.read_page.Tie as tie
-use Rattle.library.proofs.pages.read_page.Reads as reads
-use Rattle.library.proofs.pages.read_page.Lts as lts
-use Rattle.wire.proofs.bytes.put.Reads as put-reads
+
+module _ (p : ℕ) (t d : List ℕ) where
+  page-put : (y : List ℕ) → p < length t / pageBytes → length d ≡ pageBytes
+      → y ≡ layFront (take (pageBytes * p + pageBytes - pageBytes * p) (drop (pageBytes * p) t)) d → y ≡ readPage p t d
+  unfolding readPage
+  page-put y h e f = rw (lt-ltb _ _ h, eq-eqb _ _ e) (f ∙ part-read (pageBytes * p) pageBytes t d e (omega arith))
+
+  not-long : p < length t / pageBytes → (length d ≡ pageBytes → ⊥) → d ≡ readPage p t d
+  unfolding readPage
+  not-long h n = rw (lt-ltb _ _ h, ne-eqb _ _ n)
+
+  no-page : length t / pageBytes ≤ p → d ≡ readPage p t d
+  unfolding readPage
+  no-page h = rw (le-ltb _ _ h)
 
 mul-a : tie.Need-mul-a
 mul-a c = search needs
@@ -35,18 +49,13 @@ same-length : tie.Need-same-length
 same-length c = search needs
 
 returns : tie.Need-returns
-unfolding readPage
-returns c =
-    let a = c .before .before .before .before .before .before .before .before .before .args in
-    rw (lt-ltb _ _ (c .before .before .before .before .before .before .if1 .taken), eq-eqb _ _ (c .before .before .before .before .before .if2 .taken)) (c .before .before .put .ensures ∙ part-read (512 * a .page) 512 (now (a .templates)) (now (a .dst)) (c .before .before .before .before .before .if2 .taken) (omega arith))
+returns c = search page-put
 
 returns-2 : tie.Need-returns-2
-unfolding readPage
-returns-2 c = rw (lt-ltb _ _ (c .before .if1 .taken), ne-eqb _ _ (c .if2 .left)) refl
+returns-2 c = search not-long
 
 returns-3 : tie.Need-returns-3
-unfolding readPage
-returns-3 c = rw (le-ltb _ _ (c .if1 .left)) refl
+returns-3 c = search no-page
 
 pub read-page-spec : {M : Type 1} → statement M
 read-page-spec =

@@ -1,17 +1,33 @@
--- The part that is lent and comes back is the page.
-use denote.Ref.{now}
-use borrow.Author.Tests.{lt-ltb, le-ltb, eq-eqb, ne-eqb}
+-- The part that is lent is the page, and it comes back as the 512 bytes; where there is no such page, or the bytes are not 512, nothing is lent.
+use mathlib.Core.Path.{_≡_}
+use mathlib.Core.List.{List}
+use Prim.Native.Nat.{ℕ, _+_, _-_, _*_, _/_, _≤_, _<_}
 use native.Mathlib.Omega.{arith}
-use Prim.Native.Nat.{_-_, _*_}
-use mathlib.Core.Path.{refl}
+use lib.ListN.{length, take, drop}
+use borrow.Author.Tests.{lt-ltb, le-ltb, eq-eqb, ne-eqb}
 use borrow.Author.Needs.{needs}
+use borrow.Rule.Slice.PartMut.{putMid}
+use Rattle.protocol.specs.Numbers.{pageBytes}
+use Rattle.wire.specs.Laying.{layFront}
 use Rattle.library.specs.Lent.{writePage}
 use Rattle.library.proofs.Parts.{part-put}
 use Rattle.library.proofs.pages.write_page.Statement.{statement}
 use Rattle.library.proofs.pages.write_page.Tie as tie
-use Rattle.library.proofs.pages.write_page.Reads as reads
-use Rattle.library.proofs.pages.write_page.Lts as lts
-use Rattle.wire.proofs.bytes.put.Reads as put-reads
+
+module _ (p : ℕ) (t x : List ℕ) where
+  written : (y : List ℕ) → p < length t / pageBytes → length x ≡ pageBytes
+      → y ≡ layFront x (take (pageBytes * p + pageBytes - pageBytes * p) (drop (pageBytes * p) t))
+      → putMid (pageBytes * p) (pageBytes * p + pageBytes - pageBytes * p) t y ≡ writePage p x t
+  unfolding writePage
+  written y h e f = rw (lt-ltb _ _ h, eq-eqb _ _ e) (part-put (pageBytes * p) pageBytes t x y e (omega arith) f)
+
+  not-long : p < length t / pageBytes → (length x ≡ pageBytes → ⊥) → t ≡ writePage p x t
+  unfolding writePage
+  not-long h n = rw (lt-ltb _ _ h, ne-eqb _ _ n)
+
+  no-page : length t / pageBytes ≤ p → t ≡ writePage p x t
+  unfolding writePage
+  no-page h = rw (le-ltb _ _ h)
 
 mul-a : tie.Need-mul-a
 mul-a c = search needs
@@ -35,18 +51,13 @@ same-length : tie.Need-same-length
 same-length c = search needs
 
 returns : tie.Need-returns
-unfolding writePage
-returns c =
-    let a = c .before .before .before .before .before .before .before .before .args in
-    rw (lt-ltb _ _ (c .before .before .before .before .before .if1 .taken), eq-eqb _ _ (c .before .before .before .before .if2 .taken)) (part-put (512 * a .page) 512 (now (a .templates)) (now (a .src)) _ (c .before .before .before .before .if2 .taken) (omega arith) (c .before .before .put .ensures))
+returns c = search written
 
 returns-2 : tie.Need-returns-2
-unfolding writePage
-returns-2 c = rw (lt-ltb _ _ (c .before .if1 .taken), ne-eqb _ _ (c .if2 .left)) refl
+returns-2 c = search not-long
 
 returns-3 : tie.Need-returns-3
-unfolding writePage
-returns-3 c = rw (le-ltb _ _ (c .if1 .left)) refl
+returns-3 c = search no-page
 
 pub write-page-spec : {M : Type 1} → statement M
 write-page-spec =

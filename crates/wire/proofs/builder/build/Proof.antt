@@ -1,34 +1,49 @@
--- Refusal 4 by the limits of a packet, then 2 by the room; then the packet.
-use lib.ListN.{length}
-use denote.Ref.{now}
-use borrow.Author.Tests.{le-leb, lt-leb}
+-- Refusal 4 goes by the limits of a packet, then 2 by the room; what is left is built.
+use mathlib.Core.Path.{_≡_}
+use mathlib.Core.Bool.{Bool, true, false}
+use mathlib.Core.List.{List}
+use Prim.Native.Nat.{ℕ, _+_, _≤_, _<_}
 use native.Mathlib.Omega.{arith}
-use Prim.Native.Nat.{ℕ, _+_, _-_, _≤_}
-use mathlib.Core.Bool.{false}
-use mathlib.Core.Path.{_≡_, refl, sym, ap}
+use lib.ListN.{length}
+use borrow.Author.Tests.{le-leb, lt-leb}
 use borrow.Author.Needs.{needs}
-use Rattle.protocol.specs.Bytes.{lay}
+use Rattle.protocol.specs.declared.Built.{Built}
+use Rattle.protocol.specs.Numbers.{frameBytes, fourBytes, badRoom, badContent}
 use Rattle.protocol.specs.Tests.{verdict}
-use Rattle.protocol.specs.Packet.{accepts, packet, buildOf, buildRefusal, buildAs}
+use Rattle.protocol.specs.Packet.{lengthOf, accepts, packet, buildOf, buildRefusal, buildAs}
+use Rattle.protocol.specs.Records.{madeOf}
 use Rattle.protocol.proofs.Laws.Finder.{length-packet, longest-word, too-long}
+use Rattle.wire.specs.Laying.{Laid, built}
 use Rattle.wire.proofs.builder.build.Statement.{statement}
 use Rattle.wire.proofs.builder.build.Tie as tie
-use Rattle.wire.proofs.builder.build.Reads as reads
-use Rattle.wire.proofs.builder.build.Lts as lts
-use Rattle.wire.proofs.builder.built_of.Reads as built-of-reads
-use Rattle.wire.proofs.builder.lay_packet.Reads as lay-packet-reads
-use Rattle.wire.proofs.finder.is_head.Reads as is-head-reads
+
+-- the content c for the room d, b what is returned
+module _ (a : List ℕ) (i : ℕ) (c d : List ℕ) (b : Built) where
+  far-too-long : 65535 < length c → b ≡ built badContent 0 → madeOf b d ≡ buildOf a i c d
+  unfolding buildOf buildRefusal buildAs verdict
+  far-too-long h e =
+      let off : accepts i (lengthOf c) ≡ false = too-long i (lengthOf c) (omega (arith, longest-word)) in
+      rw (e, off)
+
+  module _ (fit : Bool) (f : fit ≡ accepts i (lengthOf c)) where
+    unfit : fit ≡ false → b ≡ built badContent 0 → madeOf b d ≡ buildOf a i c d
+    unfolding buildOf buildRefusal buildAs verdict
+    unfit n e = rw (e, ← f, n)
+
+    no-room : fit ≡ true → length d < length c + frameBytes → b ≡ built badRoom 0 → madeOf b d ≡ buildOf a i c d
+    unfolding buildOf buildRefusal buildAs verdict
+    no-room y h e = rw (e, ← f, y, lt-leb _ _ h)
+
+    made : (n : ℕ) (x : List ℕ) → fit ≡ true → length c + frameBytes ≤ length d → length a ≡ fourBytes
+        → Laid (length c + frameBytes) 0 (packet a i c) d n x → b ≡ built 0 n → madeOf b x ≡ buildOf a i c d
+    unfolding buildOf buildRefusal buildAs verdict
+    made n x y h l k e = rw (e, k .laid, k .given, ← f, y, le-leb _ _ h, length-packet a i c l)
 
 built-of-requires : tie.Need-built-of-requires
 built-of-requires c κs = search needs
 
 returns : tie.Need-returns
-unfolding buildOf buildRefusal buildAs verdict
-returns c =
-    let a = c .before .before .before .before .args in
-    let n = length (now (a .content)) in
-    let off : accepts (a .identifier) (n + 2) ≡ false = too-long (a .identifier) (n + 2) (omega (arith, longest-word)) in
-    rw (c .built-of .ensures, off) refl
+returns c = search far-too-long
 
 add-is-head : tie.Need-add-is-head
 add-is-head c = search needs
@@ -43,8 +58,7 @@ built-of-requires-2 : tie.Need-built-of-requires-2
 built-of-requires-2 c κs = search needs
 
 returns-2 : tie.Need-returns-2
-unfolding buildOf buildRefusal buildAs verdict
-returns-2 c = rw (c .built-of2 .ensures, ← c .before .before .before .is-head .ensures, c .before .before .if2 .taken, lt-leb _ _ (c .before .if3 .taken)) refl
+returns-2 c = search no-room
 
 lay-packet-requires : tie.Need-lay-packet-requires
 lay-packet-requires c κs = search needs
@@ -56,20 +70,13 @@ same-length : tie.Need-same-length
 same-length c = search needs
 
 returns-3 : tie.Need-returns-3
-unfolding buildOf buildRefusal buildAs verdict
-returns-3 c =
-    let a = c .before .before .before .before .before .before .before .before .before .before .before .args in
-    let e : length (a .address) ≡ 4 = search needs in
-    let h : length (now (a .content)) + 11 ≤ length (now (a .room)) = omega arith in
-    rw (c .built-of3 .ensures, c .before .before .before .lay-packet .ensures .0, c .before .before .before .lay-packet .ensures .1, ← c .before .before .before .before .before .before .before .is-head .ensures, c .before .before .before .before .before .before .if2 .taken, le-leb _ _ h)
-    (ap (λ (n : ℕ). record { refusal = 0; length = n; room = lay 0 (packet (a .address) (a .identifier) (now (a .content))) (now (a .room)) }) (sym (length-packet (a .address) (a .identifier) (now (a .content)) e)))
+returns-3 c = search (made, needs)
 
 built-of-requires-4 : tie.Need-built-of-requires-4
 built-of-requires-4 c κs = search needs
 
 returns-4 : tie.Need-returns-4
-unfolding buildOf buildRefusal buildAs verdict
-returns-4 c = rw (c .built-of4 .ensures, ← c .before .before .is-head .ensures, c .before .if2 .left) refl
+returns-4 c = search unfit
 
 pub build-spec : {M : Type 1} → statement M
 build-spec =

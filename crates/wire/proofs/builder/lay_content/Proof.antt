@@ -1,19 +1,15 @@
--- The bytes before place i of the content are laid and summed.
-use lib.ListN.{length, take, length-set}
-use denote.Ref.{now}
-use native.Mathlib.Omega.{arith}
+-- The bytes before place i of the content are laid and summed; at the end that is all of them.
+use mathlib.Core.Path.{_≡_, refl, sym}
 use Prim.Native.Nat.{_-_, _≤_}
-use mathlib.Core.Path.{_≡_, refl, sym, _∙_}
+use native.Mathlib.Omega.{arith}
+use lib.ListN.{length, take, length-set}
 use borrow.Author.Needs.{needs}
 use Rattle.protocol.specs.Bytes.{lay}
-use Rattle.protocol.proofs.Laws.Lists.{lay-nothing, lay-more}
-use lib.Seq.{take-all}
-use Rattle.wire.proofs.Sums.{Summed, sum-none, sum-more, sum-all}
+use Rattle.protocol.proofs.Laws.Lists.{lay-nothing}
+use Rattle.wire.proofs.Sums.{Summed, sum-none, sum-more, sum-all, byte-as-word}
+use Rattle.wire.proofs.Packets.{byte-laid, all-laid}
 use Rattle.wire.proofs.builder.lay_content.Statement.{statement}
 use Rattle.wire.proofs.builder.lay_content.Tie as tie
-use Rattle.wire.proofs.builder.lay_content.Reads as reads
-use Rattle.wire.proofs.builder.lay_content.Lts as lts
-use Rattle.std.proofs.num.wrapping_add_u16.Reads as wrapping-add-u16-reads
 
 abbrev Inv-loop : tie.InvT-loop
 Inv-loop room₀ at content acc₀ i₀ room acc i = (i ≤ length content) × ((room ≡ lay at (take i content) room₀) × ((length room ≡ length room₀) × Summed content acc i))
@@ -37,7 +33,7 @@ shared-slice-read-wrapping-add-u16 : tie.Need-shared-slice-read-wrapping-add-u16
 shared-slice-read-wrapping-add-u16 c = search needs
 
 cast-wrapping-add-u16 : tie.Need-cast-wrapping-add-u16 Inv-loop μ-loop
-cast-wrapping-add-u16 c = omega (arith, c .shared-slice-known3 .given (c .before .before .before .loop .i))
+cast-wrapping-add-u16 c = search byte-as-word
 
 wrapping-add-u16-requires : tie.Need-wrapping-add-u16-requires Inv-loop μ-loop
 wrapping-add-u16-requires c κs = search needs
@@ -49,19 +45,13 @@ loop-less : tie.Need-loop-less Inv-loop μ-loop
 loop-less c = search needs
 
 loop-again : tie.Need-loop-again Inv-loop μ-loop
-loop-again c =
-    let a = c .before .before .before .before .before .before .before .args in
-    let l = c .before .before .before .before .loop in
-    (search needs, (rw (l .inv .1 .0) (lay-more (a .at) (l .i) (now (a .content)) (now (a .room)) (omega arith) (omega arith)), (simp length-set (omega arith), sum-more _ _ _ _ (search needs) (l .inv .1 .1 .1) (c .wrapping-add-u16 .ensures))))
+loop-again c = (search needs, (search byte-laid, (simp length-set (omega arith), search sum-more)))
 
 same-length : tie.Need-same-length Inv-loop μ-loop
 same-length c = search needs
 
 returns : tie.Need-returns Inv-loop μ-loop
-returns c =
-    let s = now (c .before .before .before .before .args .content) in
-    let l = c .before .loop in
-    (sum-all s _ (l .i) (omega arith) (l .inv .1 .1 .1), l .inv .1 .0 ∙ rw (take-all (l .i) s (omega arith)))
+returns c = record { given = search sum-all; laid = search all-laid }
 
 pub lay-content-spec : {M : Type 1} → statement M
 lay-content-spec =

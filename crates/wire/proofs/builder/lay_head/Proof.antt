@@ -1,17 +1,20 @@
--- The nine bytes as the code lists them are the head.
-use lib.ListN.{length}
-use denote.Ref.{now}
-use Prim.Native.Nat.{ℕ, _-_}
-use mathlib.Core.List.{List}
+-- The nine bytes that the code lists are the head.
 use mathlib.Core.Path.{_≡_, ap, _∙_}
+use mathlib.Core.List.{List, [], _∷_}
+use Prim.Native.Nat.{ℕ, _/_, _%_}
+use lib.ListN.{length, getD}
 use borrow.Author.Needs.{needs}
+use Rattle.protocol.specs.Numbers.{firstMark, secondMark, headBytes, fourBytes}
 use Rattle.protocol.specs.Bytes.{lay}
+use Rattle.wire.specs.Laying.{headOf, Laid}
 use Rattle.wire.proofs.Packets.{head-list}
 use Rattle.wire.proofs.builder.lay_head.Statement.{statement}
 use Rattle.wire.proofs.builder.lay_head.Tie as tie
-use Rattle.wire.proofs.builder.lay_head.Reads as reads
-use Rattle.wire.proofs.builder.lay_head.Lts as lts
-use Rattle.wire.proofs.bytes.lay_at.Reads as lay-at-reads
+
+head-laid : (a : List ℕ) (i n : ℕ) (d : List ℕ) (r : ℕ) (e : List ℕ) → length a ≡ fourBytes
+    → Laid headBytes 0 (firstMark ∷ secondMark ∷ getD a 0 0 ∷ getD a 1 0 ∷ getD a 2 0 ∷ getD a 3 0 ∷ i ∷ n / 256 % 256 ∷ n % 256 ∷ []) d r e
+    → Laid headBytes 0 (headOf a i n) d r e
+head-laid a i n d r e l h = record { given = h .given; laid = h .laid ∙ ap (λ (s : List ℕ). lay 0 s d) (head-list a i n l) }
 
 array-read-t9 : tie.Need-array-read-t9
 array-read-t9 c = search needs
@@ -41,10 +44,7 @@ same-length : tie.Need-same-length
 same-length c = search needs
 
 returns : tie.Need-returns
-returns c =
-    let a = c .before .before .before .before .before .before .args in
-    let e : length (a .t2) ≡ 4 = search needs in
-    (search needs, c .before .before .lay-at .ensures .1 ∙ ap (λ (l : List ℕ). lay 0 l (now (a .room))) (head-list (a .t2) (a .identifier) (a .n) e))
+returns c = search (head-laid, needs)
 
 pub lay-head-spec : {M : Type 1} → statement M
 lay-head-spec =

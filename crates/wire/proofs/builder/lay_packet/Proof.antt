@@ -1,19 +1,8 @@
--- Head, content and sum, one behind the other, are the packet.
-use lib.ListN.{length}
-use denote.Ref.{now}
-use native.Mathlib.Omega.{arith}
-use Prim.Native.Nat.{_-_}
-use mathlib.Core.Path.{_≡_}
+-- Head, content and sum, laid one behind the other, are the packet.
 use borrow.Author.Needs.{needs}
-use Rattle.wire.proofs.Packets.{packet-sum, packet-laid}
+use Rattle.wire.proofs.Packets.{pieces}
 use Rattle.wire.proofs.builder.lay_packet.Statement.{statement}
 use Rattle.wire.proofs.builder.lay_packet.Tie as tie
-use Rattle.wire.proofs.builder.lay_packet.Reads as reads
-use Rattle.wire.proofs.builder.lay_packet.Lts as lts
-use Rattle.wire.proofs.builder.lay_content.Reads as lay-content-reads
-use Rattle.wire.proofs.builder.lay_head.Reads as lay-head-reads
-use Rattle.wire.proofs.builder.lay_word.Reads as lay-word-reads
-use Rattle.wire.proofs.builder.sum_of.Reads as sum-of-reads
 
 add-n : tie.Need-add-n
 add-n c = search needs
@@ -37,10 +26,7 @@ same-length : tie.Need-same-length
 same-length c = search needs
 
 returns : tie.Need-returns
-returns c =
-    let a = c .before .before .before .before .before .before .before .before .before .before .before .before .before .before .before .args in
-    let e : length (a .address) ≡ 4 = search needs in
-    (search needs, cc (packet-sum (a .identifier) (now (a .content)), packet-laid (a .address) (a .identifier) (now (a .content)) (now (a .room)) e (omega arith)))
+returns c = search (pieces, needs)
 
 pub lay-packet-spec : {M : Type 1} → statement M
 lay-packet-spec =

@@ -1,12 +1,8 @@
--- High byte first.
-use Prim.Native.Nat.{_-_}
+-- The two bytes that the code lists are the number, high byte first.
 use borrow.Author.Needs.{needs}
 use Rattle.protocol.specs.Bytes.{two}
 use Rattle.wire.proofs.builder.lay_word.Statement.{statement}
 use Rattle.wire.proofs.builder.lay_word.Tie as tie
-use Rattle.wire.proofs.builder.lay_word.Reads as reads
-use Rattle.wire.proofs.builder.lay_word.Lts as lts
-use Rattle.wire.proofs.bytes.lay_at.Reads as lay-at-reads
 
 cast-t7 : tie.Need-cast-t7
 cast-t7 c = search needs
@@ -25,7 +21,7 @@ same-length c = search needs
 
 returns : tie.Need-returns
 unfolding two
-returns c = (search needs, c .before .before .lay-at .ensures .1)
+returns c = search
 
 pub lay-word-spec : {M : Type 1} → statement M
 lay-word-spec =

@@ -1,15 +1,16 @@
--- The sum as the definition adds it.
-use denote.Ref.{now}
-use Prim.Native.Nat.{_-_}
-use mathlib.Core.Path.{_∙_}
+-- The content's sum may be taken modulo 65536 before the rest is added.
+use mathlib.Core.Path.{_≡_, _∙_}
+use mathlib.Core.List.{List}
+use Prim.Native.Nat.{ℕ, _+_, _%_}
 use borrow.Author.Needs.{needs}
+use Rattle.protocol.specs.Bytes.{two, total}
+use Rattle.protocol.specs.Packet.{lengthOf, sumOf}
 use Rattle.wire.proofs.Packets.{packet-sum}
 use Rattle.wire.proofs.builder.packet_sum.Statement.{statement}
 use Rattle.wire.proofs.builder.packet_sum.Tie as tie
-use Rattle.wire.proofs.builder.packet_sum.Reads as reads
-use Rattle.wire.proofs.builder.packet_sum.Lts as lts
-use Rattle.wire.proofs.builder.sum_of.Reads as sum-of-reads
-use Rattle.wire.proofs.bytes.sum.Reads as sum-reads
+
+summed : (i : ℕ) (c : List ℕ) (t q : ℕ) → t ≡ total c % 65536 → q ≡ (i + total (two (lengthOf c)) + t) % 65536 → q ≡ sumOf i c
+summed i c t q e f = f ∙ rw e (packet-sum i c)
 
 add-sum-of : tie.Need-add-sum-of
 add-sum-of c = search needs
@@ -21,7 +22,7 @@ sum-of-requires : tie.Need-sum-of-requires
 sum-of-requires c κs = search needs
 
 returns : tie.Need-returns
-returns c = c .sum-of .ensures ∙ rw (c .before .sum .ensures) (packet-sum (c .before .before .before .args .identifier) (now (c .before .before .before .args .content)))
+returns c = search summed
 
 pub packet-sum-spec : {M : Type 1} → statement M
 packet-sum-spec = tie.close (tie.spec add-sum-of sum-requires sum-of-requires returns)

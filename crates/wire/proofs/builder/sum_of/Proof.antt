@@ -1,14 +1,11 @@
--- The two length bytes add up as the definition's list of them does.
-use native.Mathlib.Omega.{arith}
-use Prim.Native.Nat.{ℕ, _-_, _%_}
+-- Identifier, both length bytes and the content's sum are added before the one remainder is taken.
 use mathlib.Core.Path.{ap}
+use Prim.Native.Nat.{ℕ, _%_}
+use native.Mathlib.Omega.{arith}
 use borrow.Author.Needs.{needs}
 use Rattle.protocol.specs.Bytes.{two, total}
 use Rattle.wire.proofs.builder.sum_of.Statement.{statement}
 use Rattle.wire.proofs.builder.sum_of.Tie as tie
-use Rattle.wire.proofs.builder.sum_of.Reads as reads
-use Rattle.wire.proofs.builder.sum_of.Lts as lts
-use Rattle.wire.proofs.bytes.wide.Reads as wide-reads
 
 wide-requires : tie.Need-wide-requires
 wide-requires c κs = search needs

@@ -1,8 +1,4 @@
 -- As one number, four bytes are equal just where all four are the same.
-use mathlib.Core.Path.{_≡_}
-use Prim.Native.Nat.{_<_}
-use native.Mathlib.Omega.{arith}
-use lib.ListN.{length, getD}
 use borrow.Author.Needs.{needs}
 use Rattle.wire.proofs.Sums.{same-four}
 use Rattle.wire.proofs.bytes.is_same.Statement.{statement}
@@ -93,19 +89,7 @@ add-y-3 : tie.Need-add-y-3
 add-y-3 c = search needs
 
 returns : tie.Need-returns
-returns c =
-    let a = c .before .before .before .before .before .before .before .before .args in
-    let p : length (a .t1) ≡ 4 = search needs in
-    let q : length (a .t2) ≡ 4 = search needs in
-    let f0 : getD (a .t1) 0 0 < 256 = omega (arith, c .before .before .before .before .before .before .before .wide .ensures .0, c .before .before .before .before .before .before .before .wide .ensures .1) in
-    let f1 : getD (a .t1) 1 0 < 256 = omega (arith, c .before .before .before .before .before .before .wide2 .ensures .0, c .before .before .before .before .before .before .wide2 .ensures .1) in
-    let f2 : getD (a .t1) 2 0 < 256 = omega (arith, c .before .before .before .before .before .wide3 .ensures .0, c .before .before .before .before .before .wide3 .ensures .1) in
-    let f3 : getD (a .t1) 3 0 < 256 = omega (arith, c .before .before .before .before .wide4 .ensures .0, c .before .before .before .before .wide4 .ensures .1) in
-    let g0 : getD (a .t2) 0 0 < 256 = omega (arith, c .before .before .before .wide5 .ensures .0, c .before .before .before .wide5 .ensures .1) in
-    let g1 : getD (a .t2) 1 0 < 256 = omega (arith, c .before .before .wide6 .ensures .0, c .before .before .wide6 .ensures .1) in
-    let g2 : getD (a .t2) 2 0 < 256 = omega (arith, c .before .wide7 .ensures .0, c .before .wide7 .ensures .1) in
-    let g3 : getD (a .t2) 3 0 < 256 = omega (arith, c .wide8 .ensures .0, c .wide8 .ensures .1) in
-    rw (c .before .before .before .before .before .before .before .wide .ensures .0, c .before .before .before .before .before .before .wide2 .ensures .0, c .before .before .before .before .before .wide3 .ensures .0, c .before .before .before .before .wide4 .ensures .0, c .before .before .before .wide5 .ensures .0, c .before .before .wide6 .ensures .0, c .before .wide7 .ensures .0, c .wide8 .ensures .0) (same-four (a .t1) (a .t2) p q f0 f1 f2 f3 g0 g1 g2 g3)
+returns c = search (same-four, needs)
 
 pub is-same-spec : {M : Type 1} → statement M
 is-same-spec =

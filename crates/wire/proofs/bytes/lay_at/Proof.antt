@@ -1,17 +1,14 @@
--- The bytes before place i of src are laid, and the rest of dst is as it was.
-use lib.ListN.{length, take, length-set}
-use denote.Ref.{now}
-use native.Mathlib.Omega.{arith}
+-- The bytes before place i of src are laid; at the end that is all of them.
+use mathlib.Core.Path.{_≡_, refl, sym}
 use Prim.Native.Nat.{_-_, _≤_}
-use mathlib.Core.Path.{_≡_, refl, sym, _∙_}
+use native.Mathlib.Omega.{arith}
+use lib.ListN.{length, take, length-set}
 use borrow.Author.Needs.{needs}
 use Rattle.protocol.specs.Bytes.{lay}
-use Rattle.protocol.proofs.Laws.Lists.{lay-nothing, lay-more}
-use lib.Seq.{take-all}
+use Rattle.protocol.proofs.Laws.Lists.{lay-nothing}
+use Rattle.wire.proofs.Packets.{byte-laid, all-laid}
 use Rattle.wire.proofs.bytes.lay_at.Statement.{statement}
 use Rattle.wire.proofs.bytes.lay_at.Tie as tie
-use Rattle.wire.proofs.bytes.lay_at.Reads as reads
-use Rattle.wire.proofs.bytes.lay_at.Lts as lts
 
 abbrev Inv-loop : tie.InvT-loop
 Inv-loop dst₀ at src i₀ dst i = (i ≤ length src) × ((dst ≡ lay at (take i src) dst₀) × (length dst ≡ length dst₀))
@@ -38,10 +35,7 @@ loop-less : tie.Need-loop-less Inv-loop μ-loop
 loop-less c = search needs
 
 loop-again : tie.Need-loop-again Inv-loop μ-loop
-loop-again c =
-    let a = c .before .before .before .args in
-    let i = c .before .before .loop .i in
-    (search needs, (rw (c .before .before .loop .inv .1 .0) (lay-more (a .at) i (now (a .src)) (now (a .dst)) (omega arith) (omega arith)), simp length-set (omega arith)))
+loop-again c = (search needs, (search byte-laid, simp length-set (omega arith)))
 
 add-result : tie.Need-add-result Inv-loop μ-loop
 add-result c = search needs
@@ -50,9 +44,7 @@ same-length : tie.Need-same-length Inv-loop μ-loop
 same-length c = search needs
 
 returns : tie.Need-returns Inv-loop μ-loop
-returns c =
-    let a = c .before .before .args in
-    (omega arith, c .before .loop .inv .1 .0 ∙ rw (take-all (c .before .loop .i) (now (a .src)) (omega arith)))
+returns c = record { given = omega arith; laid = search all-laid }
 
 pub lay-at-spec : {M : Type 1} → statement M
 lay-at-spec =

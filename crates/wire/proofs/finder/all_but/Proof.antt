@@ -1,18 +1,13 @@
--- The definition's test is the code's, once the run is not empty.
-use Rattle.wire.proofs.Picks.{picks}
-use denote.Ref.{now}
-use Prim.Native.Nat.{_-_}
-use mathlib.Core.Path.{sym}
+-- The last byte alone decides: a run that ends in EF may hold the first mark of a packet that has not come yet.
 use borrow.Author.Needs.{needs}
 use Rattle.protocol.specs.Finder.{allBut}
+use Rattle.wire.proofs.Picks.{picks}
 use Rattle.wire.proofs.Starts.{all-none}
 use Rattle.wire.proofs.finder.all_but.Statement.{statement}
 use Rattle.wire.proofs.finder.all_but.Tie as tie
-use Rattle.wire.proofs.finder.all_but.Reads as reads
-use Rattle.wire.proofs.finder.all_but.Lts as lts
 
 returns : tie.Need-returns
-returns c = sym (all-none (now (c .before .args .s)) (c .if1 .taken))
+returns c = search all-none
 
 sub-last : tie.Need-sub-last
 sub-last c = search needs

@@ -1,21 +1,55 @@
--- Each return is a case of the definition, by the tests that led there.
-use lib.ListN.{length}
-use denote.Ref.{now}
-use borrow.Author.Tests.{lt-ltb, le-ltb}
+-- The tests come in the order of steps 1 to 4, and the start that is found lies in the run, so that what is left of it is no less than 0.
+use mathlib.Core.Path.{_≡_}
+use mathlib.Core.Bool.{Bool, true, false}
+use mathlib.Core.List.{List}
+use Prim.Native.Nat.{ℕ, _+_, _-_, _≤_, _<_}
 use native.Mathlib.Omega.{arith}
-use Prim.Native.Nat.{_+_, _-_, _≤_, _<_}
-use mathlib.Core.Path.{refl, sym, _∙_}
+use lib.ListN.{length}
+use borrow.Author.Tests.{lt-ltb, le-ltb}
 use borrow.Author.Needs.{needs}
-use Rattle.protocol.specs.Finder.{findOf, findFrom}
+use Rattle.protocol.specs.declared.Start.{Start}
+use Rattle.protocol.specs.declared.Start.the-variants.{Nowhere, At}
+use Rattle.protocol.specs.declared.Found.the-variants.{Noise, Unfinished, Unfit, Whole}
+use Rattle.protocol.specs.Numbers.{headBytes}
+use Rattle.protocol.specs.Packet.{accepts, identifierAt, lengthAt, endAt}
+use Rattle.protocol.specs.Finder.{startOf, allBut, findOf, findFrom}
 use Rattle.wire.proofs.Starts.{start-in}
 use Rattle.wire.proofs.finder.find.Statement.{statement}
 use Rattle.wire.proofs.finder.find.Tie as tie
-use Rattle.wire.proofs.finder.find.Reads as reads
-use Rattle.wire.proofs.finder.find.Lts as lts
-use Rattle.wire.proofs.finder.all_but.Reads as all-but-reads
-use Rattle.wire.proofs.finder.is_head.Reads as is-head-reads
-use Rattle.wire.proofs.finder.start.Reads as start-reads
-use Rattle.wire.proofs.finder.word_at.Reads as word-at-reads
+
+module _ (s : List ℕ) (f : Start) (e : f ≡ startOf s) where
+  noise : (u : ℕ) → f ≡ Nowhere → u ≡ allBut s → Noise u ≡ findOf s
+  unfolding findOf findFrom
+  noise u g a = rw (← e, g, a)
+
+  module _ (p : ℕ) (g : f ≡ At p) where
+    no-head : length s - p < headBytes → Unfinished p ≡ findOf s
+    unfolding findOf findFrom
+    no-head l =
+        let i = start-in s f p e g in
+        let h : length s < p + headBytes = omega arith in
+        rw (← e, g, lt-ltb _ _ h)
+
+    -- the head is there, with the length field n, and fit says whether a packet can have it
+    module _ (n : ℕ) (fit : Bool) (l : headBytes ≤ length s - p) (w : n ≡ lengthAt s p) (a : fit ≡ accepts (identifierAt s p) n) where
+      headed : p + headBytes ≤ length s
+      headed = let i = start-in s f p e g in omega arith
+
+      unfinished : fit ≡ true → length s - p < headBytes + n → Unfinished p ≡ findOf s
+      unfolding findOf findFrom
+      unfinished t k =
+          let h : length s < endAt p n = (let i = headed in omega arith) in
+          rw (← e, g, le-ltb _ _ headed, ← w, ← a, t, lt-ltb _ _ h)
+
+      whole : fit ≡ true → headBytes + n ≤ length s - p → Whole p n ≡ findOf s
+      unfolding findOf findFrom
+      whole t k =
+          let h : endAt p n ≤ length s = (let i = headed in omega arith) in
+          rw (← e, g, le-ltb _ _ headed, ← w, ← a, t, le-ltb _ _ h)
+
+      unfit : fit ≡ false → Unfit p ≡ findOf s
+      unfolding findOf findFrom
+      unfit t = rw (← e, g, le-ltb _ _ headed, ← w, ← a, t)
 
 start-requires : tie.Need-start-requires
 start-requires c κs = search needs
@@ -30,19 +64,13 @@ all-but-requires : tie.Need-all-but-requires
 all-but-requires c κs = search needs
 
 returns : tie.Need-returns
-unfolding findOf findFrom
-returns c = rw (← c .before .before .before .start .ensures, c .before .enum-told .given .1, c .all-but .ensures) refl
+returns c = search noise
 
 sub-left : tie.Need-sub-left
-sub-left c = omega (arith, start-in (now (c .before .before .before .before .before .args .s)) _ (sym (c .before .before .before .start .ensures) ∙ c .before .f .given .1))
+sub-left c = search start-in
 
 returns-2 : tie.Need-returns-2
-unfolding findOf findFrom
-returns-2 c =
-    let s = now (c .before .before .before .before .before .before .args .s) in
-    let p = c .before .before .f .given .0 .0 in
-    let h : length s < p + 9 = omega arith in
-    rw (← c .before .before .before .before .start .ensures, c .before .before .f .given .1, lt-ltb _ _ h) refl
+returns-2 c = search no-head
 
 add-i : tie.Need-add-i
 add-i c = search needs
@@ -63,30 +91,13 @@ add-if3 : tie.Need-add-if3
 add-if3 c = search needs
 
 returns-3 : tie.Need-returns-3
-unfolding findOf findFrom
-returns-3 c =
-    let s = now (c .before .before .before .before .before .before .before .before .before .before .before .args .s) in
-    let p = c .before .before .before .before .before .before .before .f .given .0 .0 in
-    let h : p + 9 ≤ length s = omega arith in
-    let k : length s < p + 9 + c .before .before .before .word-at .result = omega arith in
-    rw (← c .before .before .before .before .before .before .before .before .before .start .ensures, c .before .before .before .before .before .before .before .f .given .1, le-ltb _ _ h, ← c .before .before .before .word-at .ensures .0, ← c .before .before .is-head .ensures, c .before .if2 .taken, lt-ltb _ _ k) refl
+returns-3 c = search unfinished
 
 returns-4 : tie.Need-returns-4
-unfolding findOf findFrom
-returns-4 c =
-    let s = now (c .before .before .before .before .before .before .before .before .before .before .before .args .s) in
-    let p = c .before .before .before .before .before .before .before .f .given .0 .0 in
-    let h : p + 9 ≤ length s = omega arith in
-    let k : p + 9 + c .before .before .before .word-at .result ≤ length s = omega arith in
-    rw (← c .before .before .before .before .before .before .before .before .before .start .ensures, c .before .before .before .before .before .before .before .f .given .1, le-ltb _ _ h, ← c .before .before .before .word-at .ensures .0, ← c .before .before .is-head .ensures, c .before .if2 .taken, le-ltb _ _ k) refl
+returns-4 c = search whole
 
 returns-5 : tie.Need-returns-5
-unfolding findOf findFrom
-returns-5 c =
-    let s = now (c .before .before .before .before .before .before .before .before .before .before .args .s) in
-    let p = c .before .before .before .before .before .before .f .given .0 .0 in
-    let h : p + 9 ≤ length s = omega arith in
-    rw (← c .before .before .before .before .before .before .before .before .start .ensures, c .before .before .before .before .before .before .f .given .1, le-ltb _ _ h, ← c .before .before .word-at .ensures .0, ← c .before .is-head .ensures, c .if2 .left) refl
+returns-5 c = search unfit
 
 pub find-spec : {M : Type 1} → statement M
 find-spec =

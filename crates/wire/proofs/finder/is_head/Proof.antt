@@ -1,33 +1,40 @@
--- The limits of a packet, in the definition's order.
-use Rattle.wire.proofs.Picks.{picks}
-use borrow.Author.Tests.{le-leb}
-use native.Mathlib.Omega.{arith}
-use Prim.Native.Nat.{_-_, _≤_}
+-- The identifier is known and the length field lies between its limits, or the answer is no.
+use mathlib.Core.Path.{_≡_}
+use mathlib.Core.Bool.{Bool, true, false}
+use Prim.Native.Nat.{ℕ, _≤_, _<_}
+use lib.Dec.{leb}
+use borrow.Author.Tests.{le-leb, lt-leb}
 use borrow.Author.Needs.{needs}
-use Rattle.protocol.specs.Numbers.{longest}
-use Rattle.protocol.specs.Packet.{accepts, limit}
+use Rattle.protocol.specs.Numbers.{shortest, longest}
+use Rattle.protocol.specs.Packet.{isIdentifier, limit, accepts}
 use Rattle.wire.proofs.finder.is_head.Statement.{statement}
 use Rattle.wire.proofs.finder.is_head.Tie as tie
-use Rattle.wire.proofs.finder.is_head.Reads as reads
-use Rattle.wire.proofs.finder.is_head.Lts as lts
-use Rattle.wire.proofs.finder.is_identifier.Reads as is-identifier-reads
+
+module _ (i n : ℕ) (known : Bool) (e : known ≡ isIdentifier i) where
+  too-short : known ≡ true → n < shortest → false ≡ accepts i n
+  unfolding accepts
+  too-short k h = rw (← e, k, lt-leb _ _ h)
+
+  by-length : known ≡ true → shortest ≤ n → leb n longest ≡ accepts i n
+  unfolding accepts limit
+  by-length k h = rw (← e, k, le-leb _ _ h)
+
+  unknown : known ≡ false → false ≡ accepts i n
+  unfolding accepts
+  unknown k = rw (← e, k)
 
 is-identifier-requires : tie.Need-is-identifier-requires
 is-identifier-requires c κs = search needs
 
 returns : tie.Need-returns
-unfolding accepts limit longest
-returns c = search (picks, ← c .before .before .is-identifier .ensures, c .before .if1 .taken, needs)
+returns c = search too-short
 
 returns-2 : tie.Need-returns-2
-unfolding accepts limit longest
-returns-2 c =
-    let h : 3 ≤ c .before .before .before .args .n = omega arith in
-    rw (← c .before .before .is-identifier .ensures, c .before .if1 .taken, le-leb _ _ h)
+unfolding longest
+returns-2 c = search by-length
 
 returns-3 : tie.Need-returns-3
-unfolding accepts limit longest
-returns-3 c = rw (← c .before .is-identifier .ensures, c .if1 .left)
+returns-3 c = search unknown
 
 pub is-head-spec : {M : Type 1} → statement M
 is-head-spec = tie.close (tie.spec is-identifier-requires returns returns-2 returns-3)

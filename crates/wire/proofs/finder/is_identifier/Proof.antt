@@ -1,28 +1,42 @@
--- One arm for each identifier.
-use Rattle.wire.proofs.Picks.{picks}
-use Prim.Native.Nat.{_-_}
+-- The four identifiers are known, and no other byte is one of them.
+use mathlib.Core.Path.{_≡_}
+use mathlib.Core.Bool.{true}
+use Prim.Native.Nat.{ℕ}
 use borrow.Author.Needs.{needs}
+use Rattle.protocol.specs.Numbers.{commandPacket, dataPacket, acknowledgePacket, lastPacket}
 use Rattle.protocol.specs.Packet.{isIdentifier}
+use Rattle.wire.proofs.Picks.{picks}
 use Rattle.wire.proofs.finder.is_identifier.Statement.{statement}
 use Rattle.wire.proofs.finder.is_identifier.Tie as tie
-use Rattle.wire.proofs.finder.is_identifier.Reads as reads
-use Rattle.wire.proofs.finder.is_identifier.Lts as lts
+
+module _ (i : ℕ) where
+  command-known : i ≡ commandPacket → true ≡ isIdentifier i
+  unfolding isIdentifier
+  command-known e = rw e
+
+  data-known : i ≡ dataPacket → true ≡ isIdentifier i
+  unfolding isIdentifier
+  data-known e = rw e
+
+  acknowledge-known : i ≡ acknowledgePacket → true ≡ isIdentifier i
+  unfolding isIdentifier
+  acknowledge-known e = rw e
+
+  last-known : i ≡ lastPacket → true ≡ isIdentifier i
+  unfolding isIdentifier
+  last-known e = rw e
 
 returns : tie.Need-returns
-unfolding isIdentifier
-returns c = rw (c .match .keys1)
+returns c = search command-known
 
 returns-2 : tie.Need-returns-2
-unfolding isIdentifier
-returns-2 c = rw (c .match .keys2)
+returns-2 c = search data-known
 
 returns-3 : tie.Need-returns-3
-unfolding isIdentifier
-returns-3 c = rw (c .match .keys3)
+returns-3 c = search acknowledge-known
 
 returns-4 : tie.Need-returns-4
-unfolding isIdentifier
-returns-4 c = rw (c .match .keys4)
+returns-4 c = search last-known
 
 returns-5 : tie.Need-returns-5
 unfolding isIdentifier

@@ -1,17 +1,16 @@
--- No place before i has the marks.
-use lib.ListN.{drop}
-use denote.Ref.{now}
-use native.Mathlib.Omega.{arith}
+-- No place before i has the two marks, so that the first start is the one found from i on.
+use mathlib.Core.Path.{_≡_}
+use mathlib.Core.Bool.{false}
 use Prim.Native.Nat.{_-_, _≤_}
-use mathlib.Core.Logic.{_⊎_, ⊎-elim}
-use mathlib.Core.Path.{_≡_, sym}
+use native.Mathlib.Omega.{arith}
+use mathlib.Core.Logic.{⊎-elim}
+use denote.Ref.{now}
+use lib.ListN.{drop}
 use borrow.Author.Needs.{needs}
 use Rattle.protocol.specs.Finder.{startOf}
-use Rattle.wire.proofs.Starts.{shift, shift-none, start-here, start-on, start-end, start-none, marks-both, marks-first, marks-second}
+use Rattle.wire.proofs.Starts.{shift, shift-none, marks, marks-first, marks-second, start-here, start-on, start-end, start-none}
 use Rattle.wire.proofs.finder.start.Statement.{statement}
 use Rattle.wire.proofs.finder.start.Tie as tie
-use Rattle.wire.proofs.finder.start.Reads as reads
-use Rattle.wire.proofs.finder.start.Lts as lts
 
 abbrev Inv-loop : tie.InvT-loop
 Inv-loop s last i₀ i = (i ≤ last) × (startOf s ≡ shift i (startOf (drop i s)))
@@ -20,7 +19,7 @@ abbrev μ-loop : tie.MeasureT-loop
 μ-loop s last i₀ i = last - i
 
 returns : tie.Need-returns Inv-loop μ-loop
-returns c = sym (start-none (now (c .before .args .s)) (c .if1 .taken))
+returns c = search start-none
 
 sub-last : tie.Need-sub-last Inv-loop μ-loop
 sub-last c = search needs
@@ -38,7 +37,7 @@ shared-slice-read-if3 : tie.Need-shared-slice-read-if3 Inv-loop μ-loop
 shared-slice-read-if3 c = search needs
 
 returns-2 : tie.Need-returns-2 Inv-loop μ-loop
-returns-2 c = sym (start-here (now (c .before .before .before .before .before .before .before .args .s)) (c .before .before .before .before .before .loop .i) (omega arith) (marks-both (now (c .before .before .before .before .before .before .before .args .s)) (c .before .before .before .before .before .loop .i) (c .before .before .if2 .taken) (c .if3 .taken)) (c .before .before .before .before .before .loop .inv .1))
+returns-2 c = search start-here
 
 add-i : tie.Need-add-i Inv-loop μ-loop
 add-i c = search needs
@@ -48,12 +47,16 @@ loop-less c = search needs
 
 loop-again : tie.Need-loop-again Inv-loop μ-loop
 loop-again c =
-    let s = now (c .before .before .before .before .before .args .s) in
-    let i = c .before .before .before .loop .i in
-    (omega arith, start-on s i (omega arith) (⊎-elim (λ w. marks-second s i (w .2 .left)) (λ w. marks-first s i (w .left)) (c .if2 .came)) (c .before .before .before .loop .inv .1))
+    let missing = (
+    let s : tie.Start Inv-loop μ-loop = search in
+    let l : tie.At-loop Inv-loop μ-loop = search in
+    let m : marks (now (s .args .s)) (l .loop .i) ≡ false = ⊎-elim (λ w. search marks-second) (λ w. search marks-first) (c .if2 .came) in
+    m
+    ) in
+    (omega arith, search start-on)
 
 returns-3 : tie.Need-returns-3 Inv-loop μ-loop
-returns-3 c = sym (start-end (now (c .before .before .before .args .s)) (c .before .loop .i) (omega arith) (c .before .loop .inv .1))
+returns-3 c = search start-end
 
 pub start-spec : {M : Type 1} → statement M
 start-spec =

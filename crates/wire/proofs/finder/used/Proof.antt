@@ -1,17 +1,21 @@
--- What is found lies in the run, so nothing wraps.
-use denote.Ref.{now}
+-- What is found in a run lies in it, so that nothing wraps.
+use mathlib.Core.Path.{_≡_, _∙_}
+use mathlib.Core.List.{List}
+use Prim.Native.Nat.{ℕ, _%_, _<_}
 use native.Mathlib.Omega.{arith}
-use Prim.Native.Nat.{_-_}
-use mathlib.Core.Path.{_∙_}
+use lib.ListN.{length}
 use borrow.Author.Needs.{needs}
+use Rattle.protocol.specs.declared.Found.{Found}
+use Rattle.protocol.specs.Numbers.{wrapsAt}
+use Rattle.protocol.specs.Finder.{findOf, usedOf}
 use Rattle.protocol.specs.Services.{usedService}
 use Rattle.protocol.proofs.Laws.Finder.{used-in}
 use Rattle.wire.proofs.finder.used.Statement.{statement}
 use Rattle.wire.proofs.finder.used.Tie as tie
-use Rattle.wire.proofs.finder.used.Reads as reads
-use Rattle.wire.proofs.finder.used.Lts as lts
-use Rattle.wire.proofs.finder.find.Reads as find-reads
-use Rattle.wire.proofs.finder.used_of.Reads as used-of-reads
+
+by-found : (s : List ℕ) (f : Found) (r : ℕ) → f ≡ findOf s → r ≡ usedOf f % wrapsAt → length s < wrapsAt → r ≡ usedService s
+unfolding usedService
+by-found s f r e g h = let l = used-in s in g ∙ rw e (omega arith)
 
 find-requires : tie.Need-find-requires
 find-requires c κs = search needs
@@ -20,8 +24,7 @@ used-of-requires : tie.Need-used-of-requires
 used-of-requires c κs = search needs
 
 returns : tie.Need-returns
-unfolding usedService
-returns c = c .used-of .ensures ∙ rw (c .before .find .ensures) (omega (arith, used-in (now (c .before .before .before .args .s))))
+returns c = search (by-found, arith)
 
 pub used-spec : {M : Type 1} → statement M
 used-spec = tie.close (tie.spec find-requires used-of-requires returns)

@@ -1,13 +1,33 @@
--- Each case is the definition's; what wraps is taken modulo 2^64.
+-- Each case gives the bytes that the definition gives; what wraps is taken modulo 2^64.
+use mathlib.Core.Path.{_≡_}
+use Prim.Native.Nat.{ℕ, _+_, _%_}
 use native.Mathlib.Omega.{arith}
-use Prim.Native.Nat.{_-_}
+use mir.Syntax.{w64}
+use mir.Val.{Fits}
 use borrow.Author.Needs.{needs}
+use Rattle.protocol.specs.declared.Found.{Found}
+use Rattle.protocol.specs.declared.Found.the-variants.{Noise, Unfinished, Unfit, Whole}
+use Rattle.protocol.specs.Numbers.{headBytes, wrapsAt}
 use Rattle.protocol.specs.Finder.{usedOf}
 use Rattle.wire.proofs.finder.used_of.Statement.{statement}
 use Rattle.wire.proofs.finder.used_of.Tie as tie
-use Rattle.wire.proofs.finder.used_of.Reads as reads
-use Rattle.wire.proofs.finder.used_of.Lts as lts
-use Rattle.std.proofs.num.wrapping_add_usize.Reads as wrapping-add-usize-reads
+
+module _ (f : Found) where
+  by-noise : (n : ℕ) → f ≡ Noise n → Fits w64 n → n ≡ usedOf f % wrapsAt
+  unfolding usedOf
+  by-noise n e h = rw e (omega arith)
+
+  by-unfinished : (p : ℕ) → f ≡ Unfinished p → Fits w64 p → p ≡ usedOf f % wrapsAt
+  unfolding usedOf
+  by-unfinished p e h = rw e (omega arith)
+
+  by-unfit : (p r : ℕ) → f ≡ Unfit p → r ≡ (p + 2) % wrapsAt → r ≡ usedOf f % wrapsAt
+  unfolding usedOf
+  by-unfit p r e g = rw e g
+
+  by-whole : (p n q r : ℕ) → f ≡ Whole p n → q ≡ (p + headBytes) % wrapsAt → r ≡ (q + n) % wrapsAt → r ≡ usedOf f % wrapsAt
+  unfolding usedOf
+  by-whole p n q r e g h = rw e (omega arith)
 
 enum-known-f : tie.Need-enum-known-f
 enum-known-f c = search needs
@@ -31,20 +51,16 @@ wrapping-add-usize-requires-3 : tie.Need-wrapping-add-usize-requires-3
 wrapping-add-usize-requires-3 c κs = search needs
 
 returns : tie.Need-returns
-unfolding usedOf
-returns c = rw (c .before .f .given .1) (search needs)
+returns c = search by-noise
 
 returns-2 : tie.Need-returns-2
-unfolding usedOf
-returns-2 c = rw (c .before .f2 .given .1) (search needs)
+returns-2 c = search by-unfinished
 
 returns-3 : tie.Need-returns-3
-unfolding usedOf
-returns-3 c = rw (c .before .before .f3 .given .1) (c .wrapping-add-usize .ensures)
+returns-3 c = search by-unfit
 
 returns-4 : tie.Need-returns-4
-unfolding usedOf
-returns-4 c = rw (c .before .before .before .f4 .given .1, c .wrapping-add-usize3 .ensures, c .before .wrapping-add-usize2 .ensures) (omega arith)
+returns-4 c = search by-whole
 
 pub used-of-spec : {M : Type 1} → statement M
 used-of-spec =

@@ -1,12 +1,8 @@
--- High byte first.
-use Prim.Native.Nat.{_-_}
+-- The two bytes are widened, the first is weighed 256, and they are added.
 use borrow.Author.Needs.{needs}
 use Rattle.protocol.specs.Bytes.{wordAt}
 use Rattle.wire.proofs.finder.word_at.Statement.{statement}
 use Rattle.wire.proofs.finder.word_at.Tie as tie
-use Rattle.wire.proofs.finder.word_at.Reads as reads
-use Rattle.wire.proofs.finder.word_at.Lts as lts
-use Rattle.wire.proofs.bytes.wide.Reads as wide-reads
 
 shared-slice-read-wide : tie.Need-shared-slice-read-wide
 shared-slice-read-wide c = search needs
