@@ -1,12 +1,9 @@
 -- 13h or 40h.
 use Rattle.wire.proofs.Picks.{picks}
-use Prim.Native.Nat.{_-_}
 use borrow.Author.Needs.{needs}
 use Rattle.reader.specs.Commands.{isFree}
 use Rattle.reader.proofs.table.is_free.Statement.{statement}
 use Rattle.reader.proofs.table.is_free.Tie as tie
-use Rattle.reader.proofs.table.is_free.Reads as reads
-use Rattle.reader.proofs.table.is_free.Lts as lts
 
 returns : tie.Need-returns
 unfolding isFree

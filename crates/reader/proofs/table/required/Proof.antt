@@ -1,15 +1,12 @@
 -- Each code at its row; each range at none.
 use Rattle.wire.proofs.Picks.{picks}
 use native.Mathlib.Omega.{arith}
-use Prim.Native.Nat.{_-_}
 use mathlib.Core.Path.{refl}
 use borrow.Author.Needs.{needs}
 use Rattle.protocol.specs.Commands.{commands, rowOf}
 use Rattle.reader.specs.Commands.{lenOf}
 use Rattle.reader.proofs.table.required.Statement.{statement}
 use Rattle.reader.proofs.table.required.Tie as tie
-use Rattle.reader.proofs.table.required.Reads as reads
-use Rattle.reader.proofs.table.required.Lts as lts
 
 returns : tie.Need-returns
 unfolding commands rowOf lenOf
