@@ -9,7 +9,6 @@ use Rattle.bench.proofs.talk.Tie as tie
 use Rattle.bench.proofs.talk.Reads as reads
 use Rattle.bench.proofs.talk.Lts as lts
 use Rattle.bench.proofs.turn.Reads as turn-reads
-use Rattle.reader.proofs.settings.fresh.Reads as fresh-reads
 
 abbrev Inv-loop : tie.InvT-loop
 Inv-loop templates₀ index₀ notepad₀ buffer1₀ buffer2₀ line₀ out₀ current₀ held₀ turns₀ templates index notepad buffer1 buffer2 line out current held turns =

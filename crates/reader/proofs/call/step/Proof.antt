@@ -19,8 +19,9 @@ use Rattle.protocol.specs.Call.{core, fitLengths, sound, refused, Ended, callOf
 use Rattle.protocol.specs.Records.{readerOf, endedOf}
 use Rattle.protocol.proofs.Laws.Logic.{not-true, not-false}
 use Rattle.reader.specs.Commands.{Fit}
-use Rattle.reader.specs.Calls.{Moving, called, lengthsOf, carriedOf}
-use Rattle.reader.proofs.Calls.{unheard, step-silent, step-whole, Lies, whole-lies, lengths-are, lengths-say, Held, sound-says, call-bad-length, call-bad-room, call-bad-setting, call-goes}
+use Rattle.rules.specs.Settings.{Legal}
+use Rattle.reader.specs.Calls.{called, lengthsOf, carriedOf}
+use Rattle.reader.proofs.Calls.{unheard, step-silent, step-whole, Lies, whole-lies, lengths-are, lengths-say, sound-says, fit-says, call-bad-length, call-bad-room, call-bad-setting, call-goes}
 use Rattle.reader.proofs.call.step.Statement.{statement}
 use Rattle.reader.proofs.call.step.Tie as tie
 
@@ -59,14 +60,11 @@ module _ (s : Settings) (t i m b d : List ℕ) (fit : Bool) (l : fit ≡ lengths
             ∙ call-goes (readerOf s t i m b d) x y (are true (not-false fit f)) h (sym k ∙ not-false legal g)
 
     module _ (g : not legal ≡ false) where
-      held : Held s t i m b d
-      held = sound-says s t i m b d (lengths-say t i m b d (sym l ∙ not-false fit f)) (sym k ∙ not-false legal g)
+      moves : Legal s
+      moves = sound-says s t i m b d (sym k ∙ not-false legal g)
 
       fits : Fit s t i m b d
-      fits = held .fit
-
-      moves : Moving s
-      moves = held .moves
+      fits = fit-says s t i m b d (lengths-say t i m b d (sym l ∙ not-false fit f)) moves
 
 module _ (x : List ℕ) (o : Found) (at len : ℕ) (w : o ≡ findOf x) (n : o ≡ Whole at len) where
   lies : Lies x at len

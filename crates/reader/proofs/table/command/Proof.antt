@@ -13,8 +13,8 @@ use Rattle.protocol.specs.Step.{Said, says, obey, heed}
 use Rattle.protocol.specs.Records.{plainOf, readerOf}
 use Rattle.reader.specs.declared.answers.Answer.{Answer}
 use Rattle.reader.specs.Answers.{sent, saidOf, codeAlone}
-use Rattle.reader.specs.Commands.{lenOf, readOf, isFree, gateOf}
-use Rattle.reader.proofs.Gates.{gate-stops, gate-goes, gate-passes}
+use Rattle.rules.specs.Commands.{lenOf, readOf, isFree, gateOf}
+use Rattle.rules.proofs.Gates.{gate-stops, gate-goes, gate-passes}
 use Rattle.reader.proofs.Ready.{ready-alone}
 use Rattle.reader.proofs.table.command.Statement.{statement}
 use Rattle.reader.proofs.table.command.Tie as tie

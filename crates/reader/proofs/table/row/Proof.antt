@@ -17,10 +17,11 @@ use Rattle.protocol.specs.Commands.{Free, Barred, free, barred, commands, rowOf
 use Rattle.protocol.specs.Table.{rule, freeRule, publicOf}
 use Rattle.protocol.specs.Step.{Said, carry, carryFree, obey}
 use Rattle.protocol.specs.Records.{readerOf}
+use Rattle.protocol.proofs.Laws.Logic.{not-true}
 use Rattle.reader.specs.declared.answers.Answer.{Answer}
 use Rattle.reader.specs.Answers.{sent, saidOf, codeAlone}
-use Rattle.reader.specs.Commands.{lenOf, readOf, isFree}
-use Rattle.reader.proofs.Gates.{not-locked, last-row}
+use Rattle.rules.specs.Commands.{lenOf, readOf, isFree}
+use Rattle.rules.proofs.Gates.{last-row}
 use Rattle.reader.proofs.Ready.{ready-alone}
 use Rattle.reader.proofs.table.row.Statement.{statement}
 use Rattle.reader.proofs.table.row.Tie as tie
@@ -39,7 +40,7 @@ module _ (r : Reader) (k j : ℕ) (x : List ℕ) (said : Said) (e : k ≡ j) whe
       → said ≡ obey r (readOf (rowOf commands k) x)
   unfolding obey
   barred-row b s o f q =
-      let n : locked (r .plain) ≡ false = not-locked (locked (r .plain)) (rw (e, f) at o) in
+      let n : locked (r .plain) ≡ false = not-true (locked (r .plain)) (rw (e, f) at o) in
       s ∙ rw (e, ← q, n)
 
   free-row : (b : Free) → said ≡ carryFree r (freeRule (publicOf r) b) → free b ≡ readOf (rowOf commands j) x → said ≡ obey r (readOf (rowOf commands k) x)
