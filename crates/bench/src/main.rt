@@ -8,7 +8,7 @@ use libc::STDIN_FILENO;
 use libc::STDOUT_FILENO;
 use protocol::Settings;
 use protocol::numbers;
-use reader::settings;
+use rules::settings;
 
 // The bytes of 64 pages.
 const TEMPLATES: usize = 64 * numbers::PAGE;

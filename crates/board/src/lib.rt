@@ -9,7 +9,7 @@ ghost use Rattle.protocol.specs.Services.{sumService, usedService, buildService
 use library::index;
 use place::Answered;
 use protocol::Settings;
-use reader::settings;
+use rules::settings;
 use wire::builder;
 use wire::bytes;
 use wire::finder;

@@ -54,6 +54,25 @@ highestBaud = 12
 unfoldable pub highestSize : ℕ
 highestSize = 2
 
+-- fresh settings
+abbrev pub freshPassword : ℕ
+freshPassword = 0
+
+abbrev pub freshAddress : ℕ
+freshAddress = 0xffffffff
+
+abbrev pub freshLevel : ℕ
+freshLevel = 3
+
+abbrev pub freshSize : ℕ
+freshSize = 1
+
+abbrev pub freshBaud : ℕ
+freshBaud = 6
+
+abbrev pub freshSensor : ℕ
+freshSensor = 0
+
 -- the parameter numbers of SetSysPara
 abbrev pub baudParameter : ℕ
 baudParameter = 4

@@ -3,7 +3,7 @@ use mathlib.Core.Bool.{Bool, true, false, _&&_, not, cond}
 use mathlib.Core.List.{List}
 use Prim.Native.Nat.{ℕ, _+_, _*_, _/_, _^_}
 use lib.ListN.{length}
-use Rattle.protocol.specs.Numbers.{pageBytes}
+use Rattle.protocol.specs.Numbers.{pageBytes, freshPassword, freshAddress, freshLevel, freshSize, freshBaud, freshSensor}
 use Rattle.protocol.specs.Bytes.{four, zeros, same}
 
 -- a transfer: none, or into a buffer (the second?) with the bytes got so far
@@ -106,7 +106,7 @@ reader p g = record { plain = p; guarded = g }
 -- ---- fresh settings, and zeroed memory of c pages
 
 unfoldable pub fresh : Plain
-fresh = settings (four 0) (four 0xffffffff) 3 1 6 0 false closed
+fresh = settings (four freshPassword) (four freshAddress) freshLevel freshSize freshBaud freshSensor false closed
 
 unfoldable pub zeroed : ℕ → ℕ → ℕ → Guarded
 zeroed pages indexed noted = contents (zeros (pageBytes * pages)) (zeros indexed) (zeros noted) emptied emptied

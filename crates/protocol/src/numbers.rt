@@ -34,6 +34,19 @@ pub const HIGHEST_BAUD: u8 = 12;
 
 pub const HIGHEST_SIZE: u8 = 2;
 
+// Fresh settings.
+pub const FRESH_PASSWORD: [u8; 4] = [0, 0, 0, 0];
+
+pub const FRESH_ADDRESS: [u8; 4] = [0xFF, 0xFF, 0xFF, 0xFF];
+
+pub const FRESH_LEVEL: u8 = 3;
+
+pub const FRESH_SIZE: u8 = 1;
+
+pub const FRESH_BAUD: u8 = 6;
+
+pub const FRESH_SENSOR: u16 = 0;
+
 // The parameter numbers of SetSysPara.
 pub const BAUD_PARAMETER: u8 = 4;
 

@@ -1,35 +1,35 @@
 -- A call's definitions at each way out, and what passed refusals say.
 use mathlib.Core.Path.{_≡_, refl, sym, ap, _∙_, subst}
-use mathlib.Core.Bool.{Bool, true, false, true≢false}
+use mathlib.Core.Bool.{Bool, true, false, _&&_}
 use mathlib.Core.Logic.{_⊎_, inl, inr}
 use mathlib.Core.List.{List, [], _∷_}
 use Prim.Native.Nat.{ℕ, _+_, _-_, _*_, _/_, _%_, _≤_, _<_}
 use native.Mathlib.Omega.{arith}
-use native.Mathlib.Decide.{decLt}
 use lib.Dec.{T, eqb→eq, leb→le}
 use lib.ListN.{length, take, drop}
-use borrow.Author.Tests.{eqb-true, le-leb, lt-leb}
+use borrow.Author.Tests.{le-leb, lt-leb}
 use Rattle.protocol.specs.declared.Settings.{Settings}
 use Rattle.protocol.specs.declared.Found.{Found}
 use Rattle.protocol.specs.declared.Found.the-variants.{Noise, Unfinished, Unfit, Whole}
 use Rattle.protocol.proofs.Found.{the-type}
 use denote.Enum.Declared.{tagOf}
 use types.Run.{OneOf}
-use Rattle.protocol.specs.Numbers.{highestSize}
 use Rattle.protocol.specs.Bytes.{same}
 use Rattle.protocol.specs.Tests.{within, verdict}
+use Rattle.protocol.specs.Index.{clearFrom}
 use Rattle.protocol.specs.Packet.{addressAt, identifierAt, rightAt}
 use Rattle.protocol.specs.Finder.{findOf, usedOf}
-use Rattle.protocol.specs.Reader.{Plain, Guarded, Reader, capacity}
+use Rattle.protocol.specs.Reader.{Guarded, Reader, capacity}
 use Rattle.protocol.specs.Step.{nothing, hearAs, hearAt, hear, Said, silence, answer, stepOf}
-use Rattle.protocol.specs.Call.{core, fitLibrary, fitBuffers, fitLengths, fitRoom, fitPlain, fitTransfer, sound, refusalOf, refused, carried, callAs, callOf}
-use Rattle.protocol.specs.Records.{readerOf, transferOf}
+use Rattle.protocol.specs.Call.{core, fitLibrary, fitBuffers, fitLengths, fitRoom, sound, refusalOf, refused, carried, callAs, callOf}
+use Rattle.protocol.specs.Records.{readerOf}
 use Rattle.protocol.proofs.Laws.Logic.{T→true, and-l, and-r}
 use Rattle.protocol.proofs.Laws.Lists.{lay-nothing}
 use Rattle.protocol.proofs.Laws.Finder.{Within, found-in, used-in, accepts-least, accepts-most, longest-word}
 use Rattle.reader.specs.Commands.{Fit}
-use Rattle.reader.specs.Calls.{Moving, lengthsOf, carriedOf}
-use Rattle.reader.proofs.Transfers.{fit-none, fit-far}
+use Rattle.reader.specs.Calls.{lengthsOf, carriedOf}
+use Rattle.rules.specs.Settings.{legalOf, Legal}
+use Rattle.rules.proofs.Transfers.{sound-legal, legal-says}
 
 -- ---- a whole packet
 
@@ -113,41 +113,14 @@ lengths-say t i n b c e =
       buffer2 = eqb→eq (length c) 512 (search (and-l, and-r) depth 9);
     }
 
-pub plain-size : (p : Plain) → fitPlain p ≡ true → p .size ≤ 2
-unfolding fitPlain highestSize
-plain-size p e = let h : T (fitPlain p) = rw e tt in leb→le (p .size) 2 (search (and-l, and-r) depth 9)
+pub sound-says : (s : Settings) (t i n b c : List ℕ) → sound (readerOf s t i n b c) ≡ true → Legal s
+sound-says s t i n b c e =
+    let h : T (legalOf s && clearFrom i (length t / 512)) = rw (← sound-legal s t i n b c, e) tt in
+    legal-says s (T→true (legalOf s) (search and-l))
 
-moving : (p : Plain) (g : Guarded) (s : Settings) → fitTransfer p g (transferOf (s .transfer) (s .got)) ≡ true → Moving s
-moving p g s e = record { which = go (decLt 2 (s .transfer)); none = λ z. eqb-true (s .got) 0 (sym (fit-none p g (s .transfer) (s .got) z) ∙ e) }
-  where
-    go : Dec (2 < s .transfer) → s .transfer ≤ 2
-    go (yes h) = absurd (true≢false (sym e ∙ fit-far p g (s .transfer) (s .got) h))
-    go (no h) = omega arith
-
-pub record Held (s : Settings) (t i n b c : List ℕ) : Type 0 where
-  pub fit : Fit s t i n b c
-  pub moves : Moving s
-
-pub sound-says : (s : Settings) (t i n b c : List ℕ) → Lengths t i n b c → sound (readerOf s t i n b c) ≡ true → Held s t i n b c
-unfolding sound
-sound-says s t i n b c l e =
-    let r : Reader = readerOf s t i n b c in
-    let h : T (sound r) = rw e tt in
-    let p : T (fitPlain (r .plain)) = search (and-l, and-r) in
-    let m : T (fitTransfer (r .plain) (r .guarded) (r .plain .transfer)) = search (and-l, and-r) in
-    record {
-      fit =
-          record {
-            pages = l .pages;
-            within = l .within;
-            index = l .index;
-            notepad = l .notepad;
-            buffer1 = l .buffer1;
-            buffer2 = l .buffer2;
-            size = plain-size (r .plain) (T→true (fitPlain (r .plain)) p);
-          };
-      moves = moving (r .plain) (r .guarded) s (T→true (fitTransfer (r .plain) (r .guarded) (r .plain .transfer)) m);
-    }
+pub fit-says : (s : Settings) (t i n b c : List ℕ) → Lengths t i n b c → Legal s → Fit s t i n b c
+fit-says s t i n b c l m =
+    record { pages = l .pages; within = l .within; index = l .index; notepad = l .notepad; buffer1 = l .buffer1; buffer2 = l .buffer2; size = m .size }
 
 -- ---- a call at each way out
 

@@ -121,12 +121,10 @@ pub record CodeSize (z : ℕ) : Type 0 where
   pub all : 512 / z * z ≡ 512
   pub room : 512 / z * (z + 11) ≤ 688
 
-pub code-size : (code : ℕ) → code ≤ 2 → CodeSize (sizeOf code)
-unfolding highestSize
+pub code-size : (code : ℕ) → code ≤ highestSize → CodeSize (sizeOf code)
 code-size code h =
     let z : Size (sizeOf code) = sizes code h in
     record { all = ap (λ (k : ℕ). k * sizeOf code) (z .count) ∙ z .whole; room = rw (z .count) (omega (arith, z .room)) }
 
-pub sent-length : (a : List ℕ) (code : ℕ) (s : List ℕ) → length a ≡ 4 → code ≤ 2 → length s ≡ 512 → length (dataPackets a (sizeOf code) s) ≤ 688
-unfolding highestSize
+pub sent-length : (a : List ℕ) (code : ℕ) (s : List ℕ) → length a ≡ 4 → code ≤ highestSize → length s ≡ 512 → length (dataPackets a (sizeOf code) s) ≤ 688
 sent-length a code s h l m = omega (arith, length-data a (sizeOf code) s (sizes code l) h m)

@@ -1,38 +1,22 @@
--- The settings' two numbers as a transfer.
+-- An open transfer, by the settings' two numbers: ended, and what a data packet does to it.
 use mathlib.Core.Path.{_≡_, refl, sym, ap, _∙_}
-use mathlib.Core.Bool.{Bool, true, false, true≢false, _&&_, not, cond}
+use mathlib.Core.Bool.{Bool, true, false, true≢false, _&&_, cond}
 use mathlib.Core.List.{List}
-use Prim.Native.Nat.{ℕ, zero, suc, _+_, _%_, _≤_, _<_}
+use Prim.Native.Nat.{ℕ, zero, suc, _+_, _≤_}
 use native.Mathlib.Omega.{arith}
-use lib.Dec.{eqb, ltb, eqb·suc-zero}
+use lib.Dec.{eqb, ltb}
 use lib.ListN.{length}
 use borrow.Author.Tests.{eqb-true, ltb-true}
 use Rattle.protocol.specs.declared.Settings.{Settings}
 use Rattle.protocol.specs.Numbers.{pageBytes, transferFailed}
-use Rattle.protocol.specs.Reader.{Transfer, opened, Plain, Guarded, Reader, sizeOf, locked, bufferOf}
+use Rattle.protocol.specs.Reader.{Transfer, Plain, Reader, sizeOf}
 use Rattle.protocol.specs.Step.{silence, says, ended, fits, takeAs, takeIn}
-use Rattle.protocol.specs.Call.{fitTransfer}
 use Rattle.protocol.specs.Data.{dataPackets}
 use Rattle.protocol.specs.Records.{transferOf}
 use Rattle.reader.specs.Answers.{sent}
-use Rattle.reader.proofs.Laws.{chosen-filled}
+use Rattle.rules.proofs.Transfers.{transfer-at}
 
--- ---- none, and numbers that name no buffer
-
-none-at : (p : Plain) (g : Guarded) (k : ℕ) → fitTransfer p g (transferOf 0 k) ≡ eqb k 0
-unfolding fitTransfer transferOf
-none-at p g zero = refl
-none-at p g (suc k) = sym (eqb·suc-zero k)
-
-pub fit-none : (p : Plain) (g : Guarded) (w k : ℕ) → w ≡ 0 → fitTransfer p g (transferOf w k) ≡ eqb k 0
-fit-none p g w k e = rw e (none-at p g k)
-
-pub fit-far : (p : Plain) (g : Guarded) (w k : ℕ) → 2 < w → fitTransfer p g (transferOf w k) ≡ false
-unfolding fitTransfer transferOf
-fit-far p g zero k h = absurd (omega arith)
-fit-far p g (suc zero) k h = absurd (omega arith)
-fit-far p g (suc (suc zero)) k h = absurd (omega arith)
-fit-far p g (suc (suc (suc w))) k h = refl
+-- ---- none
 
 pub ended-none : (r : Reader) (w k : ℕ) → w ≡ 0 → ended r (transferOf w k) ≡ r
 unfolding ended transferOf
@@ -45,18 +29,6 @@ take-none r l s c w zero e = rw e
 take-none r l s c w (suc k) e = rw e
 
 -- ---- into a buffer
-
-pub transfer-at : (w k : ℕ) → (w ≡ 0 → ⊥) → w ≤ 2 → transferOf w k ≡ opened (eqb w 2) k
-unfolding transferOf
-transfer-at zero k n h = absurd (n refl)
-transfer-at (suc zero) k n h = refl
-transfer-at (suc (suc zero)) k n h = refl
-transfer-at (suc (suc (suc w))) k n h = absurd (omega arith)
-
-pub fit-at : (p : Plain) (g : Guarded) (w k : ℕ) → (w ≡ 0 → ⊥) → w ≤ 2
-    → fitTransfer p g (transferOf w k) ≡ (eqb (k % sizeOf (p .size)) 0 && ltb k pageBytes && not (cond (eqb w 2) (g .buffer2 .filled) (g .buffer1 .filled)) && not (locked p))
-unfolding fitTransfer bufferOf
-fit-at p g w k n h = rw (transfer-at w k n h, chosen-filled (eqb w 2) (g .buffer2) (g .buffer1))
 
 -- an open transfer takes a data packet, which fits or not
 pub take-open : (r : Reader) (l s : Bool) (c : List ℕ) (w k : ℕ) (f : Bool) → (w ≡ 0 → ⊥) → w ≤ 2 → f ≡ fits (r .plain) k l s c

@@ -5,6 +5,7 @@ use Prim.Native.Nat.{ℕ, zero, suc, _≤_}
 use lib.Dec.{eqb}
 use lib.ListN.{take}
 use Rattle.protocol.specs.declared.Settings.{Settings}
+use Rattle.protocol.specs.Numbers.{highestSize}
 use Rattle.protocol.specs.Bytes.{zeros, follow}
 use Rattle.protocol.specs.Reader.{sizeOf}
 use Rattle.protocol.specs.Data.{acknowledge, dataPackets}
@@ -39,4 +40,4 @@ saidOf a t i n b c = record { reply = spokenOf a b c; after = readerOf (a .setti
 -- an answer that fits the reply room: bytes or a buffer, and not both
 pub record Ready (a : Answer) : Type 0 where
   pub few : a .count ≤ cond (eqb (a .upload) 0) 32 0
-  pub size : a .settings .size ≤ 2
+  pub size : a .settings .size ≤ highestSize

@@ -1,8 +1,7 @@
 -- What a call's functions need and return.
 use mathlib.Core.Bool.{Bool, _&&_}
 use mathlib.Core.List.{List}
-use mathlib.Core.Path.{_≡_}
-use Prim.Native.Nat.{ℕ, _*_, _/_, _≤_}
+use Prim.Native.Nat.{ℕ, _*_, _/_}
 use lib.Dec.{eqb}
 use Rattle.protocol.specs.Numbers.{pageBytes}
 use Rattle.protocol.specs.Tests.{within}
@@ -11,11 +10,6 @@ use Rattle.protocol.specs.Call.{core, Ended, carried}
 use Rattle.protocol.specs.declared.Settings.{Settings}
 use Rattle.protocol.specs.declared.Called.{Called}
 use Rattle.protocol.specs.declared.Switched.{Switched}
-
--- the transfer of a legal reader
-pub record Moving (s : Settings) : Type 0 where
-  pub which : s .transfer ≤ 2
-  pub none : s .transfer ≡ 0 → s .got ≡ 0
 
 abbrev pub called : ℕ → ℕ → ℕ → Settings → Called
 called refusal used length s = record { settings = s; refusal = refusal; used = used; length = length }

@@ -1,4 +1,3 @@
-pub mod Records
 pub mod Answers
 pub mod Commands
 pub mod Calls

@@ -3,20 +3,21 @@ ghost use mathlib.Core.Path.{_≡_};
 ghost use mathlib.Core.List.{List};
 ghost use Prim.Native.Nat.{ℕ, _≤_};
 ghost use lib.ListN.{length};
+ghost use Rattle.protocol.specs.Numbers.{highestSize};
 ghost use Rattle.protocol.specs.Commands.{upChar, downChar};
 ghost use Rattle.reader.specs.Answers.{saidOf, Ready};
 ghost use Rattle.reader.specs.Commands.{obeyed};
 use crate::answers;
 use crate::answers::Answer;
-use crate::settings;
 use crate::stored;
 use library::pages;
 use protocol::Settings;
 use protocol::codes;
+use rules::settings;
 
 // UpChar (buffer).
 pub(crate) fn up_char(settings: Settings, n: u8) -> Answer
-    requires { ⌜ settings .size ≤ 2 ⌝ }
+    requires { ⌜ settings .size ≤ highestSize ⌝ }
     ensures { λ r. ⌜ ((t i m b c : List ℕ) → saidOf r t i m b c ≡ obeyed settings t i m b c (upChar n)) × Ready r ⌝ }
 {
     let known = stored::is_buffer(n);
@@ -35,7 +36,7 @@ pub(crate) fn up_char(settings: Settings, n: u8) -> Answer
 
 // DownChar (buffer).
 pub(crate) fn down_char(settings: Settings, buffer1: &mut [u8], buffer2: &mut [u8], n: u8) -> Answer
-    requires { ⌜ (length (now buffer1) ≡ 512) × ((length (now buffer2) ≡ 512) × (settings .size ≤ 2)) ⌝ }
+    requires { ⌜ (length (now buffer1) ≡ 512) × ((length (now buffer2) ≡ 512) × (settings .size ≤ highestSize)) ⌝ }
     ensures { λ r. ⌜ ((t i m : List ℕ) → saidOf r t i m (now (buffer1 .exit)) (now (buffer2 .exit)) ≡ obeyed settings t i m (now (buffer1 .entry)) (now (buffer2 .entry)) (downChar n)) × Ready r ⌝ }
 {
     let known = stored::is_buffer(n);

@@ -11,12 +11,12 @@ ghost use Rattle.protocol.specs.Call.{core, sound, callOf, switchOf};
 ghost use Rattle.protocol.specs.Records.{readerOf, endedOf, switchedOf};
 ghost use Rattle.reader.specs.Answers.{saidOf, Ready};
 ghost use Rattle.reader.specs.Commands.{Fit};
-ghost use Rattle.reader.specs.Calls.{Moving, called, switched, lengthsOf, carriedOf};
+ghost use Rattle.rules.specs.Settings.{Legal};
+ghost use Rattle.reader.specs.Calls.{called, switched, lengthsOf, carriedOf};
 use crate::answers;
 use crate::answers::Answer;
 use crate::bytes;
 use crate::reply;
-use crate::settings;
 use crate::table;
 use crate::transfer;
 use library::index;
@@ -27,6 +27,7 @@ use protocol::Settings;
 use protocol::Switched;
 use protocol::numbers;
 use protocol::refusals;
+use rules::settings;
 use wire::builder;
 use wire::finder;
 
@@ -42,7 +43,7 @@ pub(crate) fn act(
     identifier: u8,
     right: bool,
 ) -> Answer
-    requires { ⌜ Fit settings (now templates) (now index) (now notepad) (now buffer1) (now buffer2) × (Moving settings × ((1 ≤ length (now content)) × (length (now content) ≤ 65535))) ⌝ }
+    requires { ⌜ Fit settings (now templates) (now index) (now notepad) (now buffer1) (now buffer2) × (Legal settings × ((1 ≤ length (now content)) × (length (now content) ≤ 65535))) ⌝ }
     ensures { λ r. ⌜ (saidOf r (now (templates .exit)) (now (index .exit)) (now (notepad .exit)) (now (buffer1 .exit)) (now (buffer2 .exit)) ≡ answer (readerOf settings (now (templates .entry)) (now (index .entry)) (now (notepad .entry)) (now (buffer1 .entry)) (now (buffer2 .entry))) (hearAs identifier right (now (content .entry)))) × Ready r ⌝ }
 {
     if identifier == numbers::COMMAND_PACKET {
@@ -111,7 +112,7 @@ pub(crate) fn hear_packet(
     len: usize,
     reply: &mut [u8],
 ) -> Called
-    requires { ⌜ Fit settings (now templates) (now index) (now notepad) (now buffer1) (now buffer2) × (Moving settings × ((at + 9 + len ≤ length (now run)) × ((3 ≤ len) × ((len ≤ 65535) × (700 ≤ length (now reply)))))) ⌝ }
+    requires { ⌜ Fit settings (now templates) (now index) (now notepad) (now buffer1) (now buffer2) × (Legal settings × ((at + 9 + len ≤ length (now run)) × ((3 ≤ len) × ((len ≤ 65535) × (700 ≤ length (now reply)))))) ⌝ }
     ensures { λ r. ⌜ endedOf r (now (templates .exit)) (now (index .exit)) (now (notepad .exit)) (now (buffer1 .exit)) (now (buffer2 .exit)) (now (reply .exit)) ≡ carriedOf (at + 9 + len) (answer (readerOf settings (now (templates .entry)) (now (index .entry)) (now (notepad .entry)) (now (buffer1 .entry)) (now (buffer2 .entry))) (hearAt (settings .address) (now (run .entry)) (Whole at len))) (now (reply .entry)) ⌝ }
 {
     let used = at + numbers::HEAD + len;
@@ -169,12 +170,8 @@ fn is_fit(t: usize, i: usize, n: usize, b: usize, c: usize) -> bool
 pub(crate) fn is_sound(settings: Settings, index: &[u8], pages: usize) -> bool
     ensures { λ r. ⌜ ((t n b c : List ℕ) → length t / 512 ≡ pages → r ≡ sound (readerOf settings t (now (index .entry)) n b c)) ⌝ }
 {
-    let fit = settings::is_plain_fit(settings);
-    if !fit {
-        return false;
-    }
-    let moving = settings::is_transfer_fit(settings);
-    if !moving {
+    let legal = settings::is_legal(settings);
+    if !legal {
         return false;
     }
     index::is_clear_from(index, pages)

@@ -3,19 +3,20 @@ ghost use mathlib.Core.Path.{_≡_};
 ghost use mathlib.Core.List.{List};
 ghost use Prim.Native.Nat.{ℕ, _≤_};
 ghost use lib.ListN.{length, drop};
+ghost use Rattle.protocol.specs.Numbers.{highestSize};
 ghost use Rattle.protocol.specs.Commands.{verifyPassword, setPassword, setAddress};
 ghost use Rattle.reader.specs.Answers.{saidOf, Ready};
 ghost use Rattle.reader.specs.Commands.{obeyed, freed};
 use crate::answers;
 use crate::answers::Answer;
 use crate::bytes;
-use crate::settings;
 use protocol::Settings;
 use protocol::codes;
+use rules::settings;
 
 // SetPwd.
 pub(crate) fn set_password(settings: Settings, content: &[u8]) -> Answer
-    requires { ⌜ (length (now content) ≡ 5) × (settings .size ≤ 2) ⌝ }
+    requires { ⌜ (length (now content) ≡ 5) × (settings .size ≤ highestSize) ⌝ }
     ensures { λ r. ⌜ ((t i m b c : List ℕ) → saidOf r t i m b c ≡ obeyed settings t i m b c (setPassword (drop 1 (now (content .entry))))) × Ready r ⌝ }
 {
     let p = bytes::four_at(content, 1);
@@ -24,7 +25,7 @@ pub(crate) fn set_password(settings: Settings, content: &[u8]) -> Answer
 
 // VfyPwd. All four bytes are compared.
 pub(crate) fn verify_password(settings: Settings, content: &[u8]) -> Answer
-    requires { ⌜ (length (now content) ≡ 5) × (settings .size ≤ 2) ⌝ }
+    requires { ⌜ (length (now content) ≡ 5) × (settings .size ≤ highestSize) ⌝ }
     ensures { λ r. ⌜ ((t i m b c : List ℕ) → saidOf r t i m b c ≡ freed settings t i m b c (verifyPassword (drop 1 (now (content .entry))))) × Ready r ⌝ }
 {
     let p = bytes::four_at(content, 1);
@@ -38,7 +39,7 @@ pub(crate) fn verify_password(settings: Settings, content: &[u8]) -> Answer
 
 // SetAdder. The reply carries the new address, since it is written with the settings after the command.
 pub(crate) fn set_address(settings: Settings, content: &[u8]) -> Answer
-    requires { ⌜ (length (now content) ≡ 5) × (settings .size ≤ 2) ⌝ }
+    requires { ⌜ (length (now content) ≡ 5) × (settings .size ≤ highestSize) ⌝ }
     ensures { λ r. ⌜ ((t i m b c : List ℕ) → saidOf r t i m b c ≡ obeyed settings t i m b c (setAddress (drop 1 (now (content .entry))))) × Ready r ⌝ }
 {
     let a = bytes::four_at(content, 1);

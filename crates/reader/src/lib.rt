@@ -7,7 +7,6 @@ pub mod keys;
 pub mod notes;
 pub mod parameters;
 pub mod reply;
-pub mod settings;
 pub mod stored;
 pub mod table;
 pub mod transfer;

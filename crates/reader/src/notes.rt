@@ -3,6 +3,7 @@ ghost use mathlib.Core.Path.{_≡_};
 ghost use mathlib.Core.List.{List};
 ghost use Prim.Native.Nat.{ℕ, _≤_};
 ghost use lib.ListN.{length, drop};
+ghost use Rattle.protocol.specs.Numbers.{highestSize};
 ghost use Rattle.protocol.specs.Bytes.{byteAt};
 ghost use Rattle.protocol.specs.Commands.{writeNotepad, readNotepad};
 ghost use Rattle.reader.specs.Answers.{saidOf, Ready};
@@ -16,7 +17,7 @@ use wire::bytes;
 
 // WriteNotepad (page, 32 bytes).
 pub(crate) fn write_note(settings: Settings, notepad: &mut [u8], content: &[u8]) -> Answer
-    requires { ⌜ (length (now content) ≡ 34) × (settings .size ≤ 2) ⌝ }
+    requires { ⌜ (length (now content) ≡ 34) × (settings .size ≤ highestSize) ⌝ }
     ensures { λ r. ⌜ ((t i b c : List ℕ) → saidOf r t i (now (notepad .exit)) b c ≡ obeyed settings t i (now (notepad .entry)) b c (writeNotepad (byteAt (now (content .entry)) 1) (drop 2 (now (content .entry))))) × Ready r ⌝ }
 {
     let p = bytes::wide(content[1]);
@@ -33,7 +34,7 @@ pub(crate) fn write_note(settings: Settings, notepad: &mut [u8], content: &[u8])
 
 // ReadNotepad (page).
 pub(crate) fn read_note(settings: Settings, notepad: &[u8], page: u8) -> Answer
-    requires { ⌜ settings .size ≤ 2 ⌝ }
+    requires { ⌜ settings .size ≤ highestSize ⌝ }
     ensures { λ r. ⌜ ((t i b c : List ℕ) → saidOf r t i (now (notepad .entry)) b c ≡ obeyed settings t i (now (notepad .entry)) b c (readNotepad page)) × Ready r ⌝ }
 {
     let p = bytes::wide(page);

@@ -4,21 +4,22 @@ ghost use mathlib.Core.Bool.{cond};
 ghost use mathlib.Core.List.{List, [], _∷_};
 ghost use Prim.Native.Nat.{ℕ, _/_, _≤_, _<_};
 ghost use lib.ListN.{length, take};
+ghost use Rattle.protocol.specs.Numbers.{highestSize};
 ghost use Rattle.protocol.specs.Bytes.{two, joined};
 ghost use Rattle.protocol.specs.Commands.{setSysPara, readSysPara};
 ghost use Rattle.reader.specs.Answers.{saidOf, Ready};
 ghost use Rattle.reader.specs.Commands.{obeyed};
 use crate::answers;
 use crate::answers::Answer;
-use crate::settings;
 use protocol::Settings;
 use protocol::codes;
 use protocol::numbers;
+use rules::settings;
 use wire::bytes;
 
 // SetSysPara (number, value).
 pub(crate) fn set_parameter(settings: Settings, k: u8, v: u8) -> Answer
-    requires { ⌜ settings .size ≤ 2 ⌝ }
+    requires { ⌜ settings .size ≤ highestSize ⌝ }
     ensures { λ r. ⌜ ((t i m b c : List ℕ) → saidOf r t i m b c ≡ obeyed settings t i m b c (setSysPara k v)) × Ready r ⌝ }
 {
     if k < numbers::BAUD_PARAMETER {
@@ -116,7 +117,7 @@ fn parameter_bytes(
 
 // ReadSysPara.
 pub(crate) fn read_parameters(settings: Settings, pages: usize) -> Answer
-    requires { ⌜ settings .size ≤ 2 ⌝ }
+    requires { ⌜ settings .size ≤ highestSize ⌝ }
     ensures { λ r. ⌜ ((t i m b c : List ℕ) → length t / 512 ≡ pages → saidOf r t i m b c ≡ obeyed settings t i m b c readSysPara) × Ready r ⌝ }
 {
     let s = status(settings.verified);

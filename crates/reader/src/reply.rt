@@ -5,15 +5,16 @@ ghost use mathlib.Core.List.{_∷_};
 ghost use Prim.Native.Nat.{_+_, _-_, _*_, _/_, _≤_, _<_};
 ghost use lib.Dec.{eqb};
 ghost use lib.ListN.{length, take};
+ghost use Rattle.protocol.specs.Numbers.{highestSize};
 ghost use Rattle.protocol.specs.Bytes.{lay, joined};
 ghost use Rattle.protocol.specs.Packet.{packet, isIdentifier};
 ghost use Rattle.protocol.specs.Reader.{sizeOf};
 ghost use Rattle.protocol.specs.Data.{acknowledge, packets, dataPackets};
 ghost use Rattle.reader.specs.Answers.{spokenOf, Ready};
 use crate::answers::Answer;
-use crate::settings;
 use protocol::Settings;
 use protocol::numbers;
+use rules::settings;
 use wire::builder;
 
 // A code with 32 bytes behind it.
@@ -104,7 +105,7 @@ fn put_data(
 
 // Writes the data packets of a buffer behind the acknowledge.
 fn send(settings: Settings, at: usize, src: &[u8], reply: &mut [u8]) -> usize
-    requires { ⌜ (settings .size ≤ 2) × ((length (now src) ≡ 512) × (at + 688 ≤ length (now reply))) ⌝ }
+    requires { ⌜ (settings .size ≤ highestSize) × ((length (now src) ≡ 512) × (at + 688 ≤ length (now reply))) ⌝ }
     ensures { λ r. ⌜ (r ≡ at + length (dataPackets (settings .address) (sizeOf (settings .size)) (now (src .entry)))) × (now (reply .exit) ≡ lay at (dataPackets (settings .address) (sizeOf (settings .size)) (now (src .entry))) (now (reply .entry))) ⌝ }
 {
     let z = settings::size_of(settings.size);

@@ -6,6 +6,7 @@ ghost use mathlib.Core.List.{List};
 ghost use Prim.Native.Nat.{ℕ, _*_, _/_, _%_, _≤_, _<_};
 ghost use lib.Dec.{eqb};
 ghost use lib.ListN.{length};
+ghost use Rattle.protocol.specs.Numbers.{highestSize};
 ghost use Rattle.protocol.specs.Bytes.{lay};
 ghost use Rattle.protocol.specs.Index.{setBit};
 ghost use Rattle.protocol.specs.Table.{isBuffer};
@@ -14,12 +15,12 @@ ghost use Rattle.reader.specs.Answers.{saidOf, Ready};
 ghost use Rattle.reader.specs.Commands.{obeyed};
 use crate::answers;
 use crate::answers::Answer;
-use crate::settings;
 use library::index;
 use library::pages;
 use protocol::Settings;
 use protocol::codes;
 use protocol::numbers;
+use rules::settings;
 use wire::bytes;
 
 pub(crate) fn is_buffer(n: u8) -> bool
@@ -65,7 +66,7 @@ pub(crate) fn store_page<'a>(
     n: u8,
     page: usize,
 ) -> Answer
-    requires { ⌜ (length (now b) ≡ 512) × ((length (now c) ≡ 512) × (settings .size ≤ 2)) ⌝ }
+    requires { ⌜ (length (now b) ≡ 512) × ((length (now c) ≡ 512) × (settings .size ≤ highestSize)) ⌝ }
     ensures { λ r. ⌜ ((m : List ℕ) → saidOf r (now (templates .exit)) (now (index .exit)) m (now (b .entry)) (now (c .entry)) ≡ obeyed settings (now (templates .entry)) (now (index .entry)) m (now (b .entry)) (now (c .entry)) (store n page)) × Ready r ⌝ }
 {
     let known = is_buffer(n);
@@ -93,7 +94,7 @@ pub(crate) fn load_page(
     n: u8,
     page: usize,
 ) -> Answer
-    requires { ⌜ (length (now buffer1) ≡ 512) × ((length (now buffer2) ≡ 512) × (settings .size ≤ 2)) ⌝ }
+    requires { ⌜ (length (now buffer1) ≡ 512) × ((length (now buffer2) ≡ 512) × (settings .size ≤ highestSize)) ⌝ }
     ensures { λ r. ⌜ ((m : List ℕ) → saidOf r (now (templates .entry)) (now (index .entry)) m (now (buffer1 .exit)) (now (buffer2 .exit)) ≡ obeyed settings (now (templates .entry)) (now (index .entry)) m (now (buffer1 .entry)) (now (buffer2 .entry)) (loadChar n page)) × Ready r ⌝ }
 {
     let known = is_buffer(n);
@@ -129,7 +130,7 @@ pub(crate) fn delete_pages(
     page: usize,
     n: usize,
 ) -> Answer
-    requires { ⌜ (settings .size ≤ 2) × ((page < 65536) × (n < 65536)) ⌝ }
+    requires { ⌜ (settings .size ≤ highestSize) × ((page < 65536) × (n < 65536)) ⌝ }
     ensures { λ r. ⌜ ((m b c : List ℕ) → saidOf r (now (templates .exit)) (now (index .exit)) m b c ≡ obeyed settings (now (templates .entry)) (now (index .entry)) m b c (deletChar page n)) × Ready r ⌝ }
 {
     let pages = templates.len() / numbers::PAGE;
@@ -146,7 +147,7 @@ pub(crate) fn delete_pages(
 
 // Empty.
 pub(crate) fn empty_all(settings: Settings, templates: &mut [u8], index: &mut [u8]) -> Answer
-    requires { ⌜ settings .size ≤ 2 ⌝ }
+    requires { ⌜ settings .size ≤ highestSize ⌝ }
     ensures { λ r. ⌜ ((m b c : List ℕ) → saidOf r (now (templates .exit)) (now (index .exit)) m b c ≡ obeyed settings (now (templates .entry)) (now (index .entry)) m b c empty) × Ready r ⌝ }
 {
     pages::zero(templates);
@@ -156,7 +157,7 @@ pub(crate) fn empty_all(settings: Settings, templates: &mut [u8], index: &mut [u
 
 // TempleteNum.
 pub(crate) fn count_pages(settings: Settings, index: &[u8]) -> Answer
-    requires { ⌜ (length (now index) ≡ 32) × (settings .size ≤ 2) ⌝ }
+    requires { ⌜ (length (now index) ≡ 32) × (settings .size ≤ highestSize) ⌝ }
     ensures { λ r. ⌜ ((t m b c : List ℕ) → saidOf r t (now (index .entry)) m b c ≡ obeyed settings t (now (index .entry)) m b c templeteNum) × Ready r ⌝ }
 {
     let n = index::count(index, 32);
@@ -168,7 +169,7 @@ pub(crate) fn count_pages(settings: Settings, index: &[u8]) -> Answer
 
 // ReadIndexTable (page).
 pub(crate) fn read_index(settings: Settings, index: &[u8], page: u8) -> Answer
-    requires { ⌜ settings .size ≤ 2 ⌝ }
+    requires { ⌜ settings .size ≤ highestSize ⌝ }
     ensures { λ r. ⌜ ((t m b c : List ℕ) → saidOf r t (now (index .entry)) m b c ≡ obeyed settings t (now (index .entry)) m b c (readIndexTable page)) × Ready r ⌝ }
 {
     let p = bytes::wide(page);

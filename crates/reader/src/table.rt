@@ -1,4 +1,4 @@
-// The table of commands: the length that each code fixes, what comes before the row, and the row.
+// The table of commands: the row of each code, behind what comes before it.
 ghost use mathlib.Core.Path.{_≡_};
 ghost use mathlib.Core.Bool.{true, not, _||_};
 ghost use Prim.Native.Nat.{_+_, _≤_};
@@ -8,7 +8,8 @@ ghost use Rattle.protocol.specs.Commands.{commands, rowOf, orderOf};
 ghost use Rattle.protocol.specs.Step.{obey, heed};
 ghost use Rattle.protocol.specs.Records.{plainOf, readerOf};
 ghost use Rattle.reader.specs.Answers.{saidOf, Ready};
-ghost use Rattle.reader.specs.Commands.{Fit, lenOf, readOf, isFree, gateOf};
+ghost use Rattle.rules.specs.Commands.{lenOf, readOf, isFree};
+ghost use Rattle.reader.specs.Commands.{Fit};
 use crate::answers;
 use crate::answers::Answer;
 use crate::buffers;
@@ -16,80 +17,11 @@ use crate::bytes;
 use crate::keys;
 use crate::notes;
 use crate::parameters;
-use crate::settings;
 use crate::stored;
 use protocol::Settings;
 use protocol::codes;
 use protocol::numbers;
-
-// The length field that a code fixes; 0 for the ranges of codes that no command has.
-pub(crate) fn required(code: u8) -> usize
-    ensures { λ r. ⌜ (r ≡ lenOf (rowOf commands code)) × (r ≤ 64) ⌝ }
-{
-    match code {
-        0x06 => 6,
-        0x07 => 6,
-        0x08 => 4,
-        0x09 => 4,
-        0x0C => 7,
-        0x0D => 3,
-        0x0E => 5,
-        0x0F => 3,
-        0x12 => 7,
-        0x13 => 7,
-        0x15 => 7,
-        0x18 => 36,
-        0x19 => 4,
-        0x1D => 3,
-        0x1F => 4,
-        0x40 => 3,
-        0x00..=0x05 => 0,
-        0x0A..=0x0B => 0,
-        0x10..=0x11 => 0,
-        0x14 => 0,
-        0x16..=0x17 => 0,
-        0x1A..=0x1C => 0,
-        0x1E => 0,
-        0x20..=0x3F => 0,
-        0x41..=0xFF => 0,
-    }
-}
-
-// Whether a locked reader carries the command out too.
-pub(crate) fn is_free(code: u8) -> bool
-    ensures { λ r. ⌜ r ≡ isFree code ⌝ }
-{
-    match code {
-        0x13 => true,
-        0x40 => true,
-        _ => false,
-    }
-}
-
-// What comes before the row: the code that stops a command with length field n, or 00h.
-pub(crate) fn gate(right: bool, code: u8, n: usize, settings: Settings) -> u8
-    ensures { λ r. ⌜ r ≡ gateOf right code n (plainOf settings) ⌝ }
-{
-    if !right {
-        return codes::BAD_PACKET;
-    }
-    let need = required(code);
-    if need == 0 {
-        return codes::UNKNOWN_COMMAND;
-    }
-    if need != n {
-        return codes::BAD_PACKET;
-    }
-    let free = is_free(code);
-    if free {
-        return codes::DONE;
-    }
-    let locked = settings::is_locked(settings);
-    if locked {
-        return codes::PASSWORD_FIRST;
-    }
-    codes::DONE
-}
+use rules::commands;
 
 // The row of a known code that the lock lets pass.
 pub(crate) fn row(
@@ -152,7 +84,7 @@ pub(crate) fn command(
     ensures { λ r. ⌜ (saidOf r (now (templates .exit)) (now (index .exit)) (now (notepad .exit)) (now (buffer1 .exit)) (now (buffer2 .exit)) ≡ heed (readerOf settings (now (templates .entry)) (now (index .entry)) (now (notepad .entry)) (now (buffer1 .entry)) (now (buffer2 .entry))) (orderOf right (now (content .entry)))) × Ready r ⌝ }
 {
     let code = content[0];
-    let stop = gate(right, code, content.len() + 2, settings);
+    let stop = commands::gate(right, code, content.len() + 2, settings);
     if stop != codes::DONE {
         return answers::plain(stop, settings);
     }

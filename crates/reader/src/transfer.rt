@@ -5,18 +5,18 @@ ghost use mathlib.Core.List.{List};
 ghost use Prim.Native.Nat.{ℕ, _+_, _≤_};
 ghost use lib.Dec.{eqb};
 ghost use lib.ListN.{length};
+ghost use Rattle.protocol.specs.Numbers.{highestSize};
 ghost use Rattle.protocol.specs.Bytes.{lay};
 ghost use Rattle.protocol.specs.Reader.{sizeOf};
-ghost use Rattle.protocol.specs.Step.{ended, fits, takeAs, takeIn};
-ghost use Rattle.protocol.specs.Records.{plainOf, transferOf, readerOf};
+ghost use Rattle.protocol.specs.Step.{ended, takeAs, takeIn};
+ghost use Rattle.protocol.specs.Records.{transferOf, readerOf};
 ghost use Rattle.reader.specs.Answers.{saidOf, Ready};
 use crate::answers;
 use crate::answers::Answer;
-use crate::settings;
 use library::pages;
 use protocol::Settings;
 use protocol::codes;
-use protocol::numbers;
+use rules::settings;
 use wire::bytes;
 
 // Ends an open transfer: its buffer is zeroed.
@@ -33,25 +33,6 @@ pub(crate) fn end_transfer(settings: Settings, buffer1: &mut [u8], buffer2: &mut
         return settings::moved(settings::filled(settings, settings.filled1, false), 0, 0);
     }
     settings
-}
-
-// Whether a data packet of n content bytes goes in.
-pub(crate) fn does_fit(settings: Settings, right: bool, last: bool, n: usize) -> bool
-    requires { ⌜ settings .size ≤ 2 ⌝ }
-    ensures { λ r. ⌜ ((c : List ℕ) → length c ≡ n → r ≡ fits (plainOf settings) (settings .got) last right c) ⌝ }
-{
-    if !right {
-        return false;
-    }
-    let z = settings::size_of(settings.size);
-    if n != z {
-        return false;
-    }
-    let k = settings.got as usize + z;
-    if last {
-        return k == numbers::PAGE;
-    }
-    k < numbers::PAGE
 }
 
 // The bytes of a data packet that fits go into a buffer at the place reached.
@@ -71,7 +52,7 @@ fn place(
     content: &[u8],
     last: bool,
 ) -> Answer
-    requires { ⌜ (length (now buffer1) ≡ 512) × ((length (now buffer2) ≡ 512) × ((settings .size ≤ 2) × ((settings .got + length (now content) ≤ 512) × (length (now content) ≡ sizeOf (settings .size))))) ⌝ }
+    requires { ⌜ (length (now buffer1) ≡ 512) × ((length (now buffer2) ≡ 512) × ((settings .size ≤ highestSize) × ((settings .got + length (now content) ≤ 512) × (length (now content) ≡ sizeOf (settings .size))))) ⌝ }
     ensures { λ r. ⌜ ((t i m : List ℕ) → saidOf r t i m (now (buffer1 .exit)) (now (buffer2 .exit)) ≡ takeAs (readerOf settings t i m (now (buffer1 .entry)) (now (buffer2 .entry))) (eqb (settings .transfer) 2) (settings .got) (now (content .entry)) true last) × Ready r ⌝ }
 {
     let got = settings.got as usize;
@@ -107,13 +88,13 @@ pub(crate) fn take_part(
     right: bool,
     last: bool,
 ) -> Answer
-    requires { ⌜ (length (now buffer1) ≡ 512) × ((length (now buffer2) ≡ 512) × ((settings .transfer ≤ 2) × ((settings .size ≤ 2) × (settings .transfer ≡ 0 → settings .got ≡ 0)))) ⌝ }
+    requires { ⌜ (length (now buffer1) ≡ 512) × ((length (now buffer2) ≡ 512) × ((settings .transfer ≤ 2) × ((settings .size ≤ highestSize) × (settings .transfer ≡ 0 → settings .got ≡ 0)))) ⌝ }
     ensures { λ r. ⌜ ((t i m : List ℕ) → saidOf r t i m (now (buffer1 .exit)) (now (buffer2 .exit)) ≡ takeIn (readerOf settings t i m (now (buffer1 .entry)) (now (buffer2 .entry))) last right (now (content .entry)) (transferOf (settings .transfer) (settings .got))) × Ready r ⌝ }
 {
     if settings.transfer == 0 {
         return answers::silent(settings);
     }
-    let fit = does_fit(settings, right, last, content.len());
+    let fit = rules::transfer::does_fit(settings, right, last, content.len());
     if fit {
         return place(settings, buffer1, buffer2, content, last);
     }

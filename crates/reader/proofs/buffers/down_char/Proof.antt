@@ -20,8 +20,6 @@ use Rattle.reader.proofs.buffers.down_char.Reads as reads
 use Rattle.reader.proofs.buffers.down_char.Lts as lts
 use Rattle.library.proofs.pages.zero.Reads as zero-reads
 use Rattle.reader.proofs.answers.plain.Reads as plain-reads
-use Rattle.reader.proofs.settings.filled.Reads as filled-reads
-use Rattle.reader.proofs.settings.moved.Reads as moved-reads
 use Rattle.reader.proofs.stored.is_buffer.Reads as is-buffer-reads
 
 is-buffer-requires : tie.Need-is-buffer-requires

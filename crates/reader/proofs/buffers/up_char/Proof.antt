@@ -17,7 +17,6 @@ use Rattle.reader.proofs.buffers.up_char.Reads as reads
 use Rattle.reader.proofs.buffers.up_char.Lts as lts
 use Rattle.reader.proofs.answers.plain.Reads as plain-reads
 use Rattle.reader.proofs.answers.sending.Reads as sending-reads
-use Rattle.reader.proofs.settings.filled_of.Reads as filled-of-reads
 use Rattle.reader.proofs.stored.is_buffer.Reads as is-buffer-reads
 
 is-buffer-requires : tie.Need-is-buffer-requires

@@ -4,9 +4,6 @@ use borrow.Author.Needs.{needs}
 use Rattle.protocol.specs.Bytes.{wordAt}
 use Rattle.reader.proofs.bytes.word_at.Statement.{statement}
 use Rattle.reader.proofs.bytes.word_at.Tie as tie
-use Rattle.reader.proofs.bytes.word_at.Reads as reads
-use Rattle.reader.proofs.bytes.word_at.Lts as lts
-use Rattle.wire.proofs.bytes.wide.Reads as wide-reads
 
 shared-slice-read-wide : tie.Need-shared-slice-read-wide
 shared-slice-read-wide c = search needs

@@ -2,7 +2,6 @@
 use denote.Ref.{now}
 use borrow.Author.Tests.{eq-eqb, ne-eqb}
 use native.Mathlib.Omega.{arith}
-use Prim.Native.Nat.{_-_}
 use mathlib.Core.Path.{refl, ap, _∙_}
 use borrow.Author.Needs.{needs}
 use Rattle.protocol.specs.Tests.{within}
@@ -11,12 +10,6 @@ use Rattle.protocol.specs.Commands.{orderOf}
 use Rattle.protocol.specs.Step.{silence, heed, rested, hearAs, answer}
 use Rattle.reader.proofs.call.act.Statement.{statement}
 use Rattle.reader.proofs.call.act.Tie as tie
-use Rattle.reader.proofs.call.act.Reads as reads
-use Rattle.reader.proofs.call.act.Lts as lts
-use Rattle.reader.proofs.answers.silent.Reads as silent-reads
-use Rattle.reader.proofs.table.command.Reads as command-reads
-use Rattle.reader.proofs.transfer.end_transfer.Reads as end-transfer-reads
-use Rattle.reader.proofs.transfer.take_part.Reads as take-part-reads
 
 end-transfer-requires : tie.Need-end-transfer-requires
 end-transfer-requires c κs = search needs

@@ -1,25 +1,54 @@
 -- A packet of ours is acted on and answered; another's is silent.
-use lib.ListN.{length-take, length-drop}
-use denote.Ref.{now}
+use mathlib.Core.Path.{_≡_, sym, ap, _∙_}
+use mathlib.Core.Bool.{Bool, true, false, not}
+use mathlib.Core.List.{List}
+use Prim.Native.Nat.{ℕ, _+_, _-_}
 use native.Mathlib.Omega.{arith}
-use Prim.Native.Nat.{_+_, _-_}
-use mathlib.Core.Path.{sym, ap, _∙_}
+use lib.ListN.{length, take, drop, length-take, length-drop}
 use borrow.Author.Needs.{needs}
-use Rattle.protocol.specs.Step.{answer, Said}
+use Rattle.protocol.specs.declared.Settings.{Settings}
+use Rattle.protocol.specs.declared.Called.{Called}
+use Rattle.protocol.specs.declared.Found.the-variants.{Whole}
+use Rattle.protocol.specs.Bytes.{same, lay}
+use Rattle.protocol.specs.Packet.{addressAt, identifierAt, rightAt}
+use Rattle.protocol.specs.Step.{hearAs, hearAt, answer, Said}
 use Rattle.protocol.specs.Call.{carried}
-use Rattle.protocol.specs.Records.{readerOf}
-use Rattle.reader.specs.Calls.{carriedOf}
-use Rattle.reader.proofs.Calls.{hear-ours, hear-other, carried-silence}
+use Rattle.protocol.specs.Records.{readerOf, endedOf}
 use Rattle.protocol.proofs.Laws.Logic.{not-true, not-false}
+use Rattle.reader.specs.declared.answers.Answer.{Answer}
+use Rattle.reader.specs.Answers.{saidOf, spokenOf}
+use Rattle.reader.specs.Calls.{called, carriedOf}
+use Rattle.reader.proofs.Calls.{hear-ours, hear-other, carried-silence}
 use Rattle.reader.proofs.call.hear_packet.Statement.{statement}
 use Rattle.reader.proofs.call.hear_packet.Tie as tie
-use Rattle.reader.proofs.call.hear_packet.Reads as reads
-use Rattle.reader.proofs.call.hear_packet.Lts as lts
-use Rattle.reader.proofs.call.act.Reads as act-reads
-use Rattle.reader.proofs.call.called_of.Reads as called-of-reads
-use Rattle.reader.proofs.call.is_ours.Reads as is-ours-reads
-use Rattle.reader.proofs.call.is_right.Reads as is-right-reads
-use Rattle.reader.proofs.reply.speak.Reads as speak-reads
+
+-- each return as a law: what was called, and the tests that led there
+module _ (s : Settings) (t i m b d x y : List ℕ) (at len : ℕ) (ours : Bool) (o : ours ≡ same (addressAt x at) (s .address)) (r : Called) where
+  other : r ≡ called 0 (at + 9 + len) 0 s → not ours ≡ true
+      → endedOf r t i m b d y ≡ carriedOf (at + 9 + len) (answer (readerOf s t i m b d) (hearAt (s .address) x (Whole at len))) y
+  other e n = rw (e, hear-other (s .address) x at len (sym o ∙ not-true ours n)) (sym (carried-silence (at + 9 + len) (readerOf s t i m b d) y))
+
+  answered : (t′ i′ m′ b′ d′ y′ : List ℕ) (a : Answer) (n : ℕ) (right : Bool) → r ≡ called 0 (at + 9 + len) n (a .settings)
+      → n ≡ length (spokenOf a b′ d′) → y′ ≡ lay 0 (spokenOf a b′ d′) y → right ≡ rightAt x at len → not ours ≡ false
+      → saidOf a t′ i′ m′ b′ d′ ≡ answer (readerOf s t i m b d) (hearAs (identifierAt x at) right (take (at + 9 + (len - 2) - (at + 9)) (drop (at + 9) x)))
+      → endedOf r t′ i′ m′ b′ d′ y′ ≡ carriedOf (at + 9 + len) (answer (readerOf s t i m b d) (hearAt (s .address) x (Whole at len))) y
+  unfolding carried
+  answered t′ i′ m′ b′ d′ y′ a n right e w l g k f =
+      let h = hear-ours (s .address) x at len right (sym o ∙ not-false ours k) g in
+      rw (e, w, l) (ap (λ (z : Said). carriedOf (at + 9 + len) z y) (f ∙ ap (answer (readerOf s t i m b d)) h))
+
+-- places that are far back from the later returns
+unfoldable right : tie.After-act → tie.After-is-right
+right c = search
+
+unfoldable start : tie.After-is-right → tie.Start
+start c = search
+
+unfoldable asked : tie.After-is-right → tie.After-is-ours
+asked c = search
+
+unfoldable passed : tie.After-is-right → tie.Else1
+passed c = search
 
 add-used : tie.Need-add-used
 add-used c = search needs
@@ -34,11 +63,7 @@ called-of-requires : tie.Need-called-of-requires
 called-of-requires c κs = search needs
 
 returns : tie.Need-returns
-returns c =
-    let a = c .before .before .before .before .before .before .before .before .before .before .args in
-    let r = readerOf (a .settings) (now (a .templates)) (now (a .index)) (now (a .notepad)) (now (a .buffer1)) (now (a .buffer2)) in
-    let other = hear-other (a .settings .address) (now (a .run)) (a .at) (a .len) (sym (c .before .before .is-ours .ensures) ∙ not-true (c .before .before .is-ours .result) (c .before .if1 .taken)) in
-    rw (c .called-of .ensures, other) (sym (carried-silence (a .at + 9 + a .len) r (now (a .reply))))
+returns c = search other
 
 add-identifier : tie.Need-add-identifier
 add-identifier c = search needs
@@ -68,10 +93,17 @@ part-act-end : tie.Need-part-act-end
 part-act-end c = search needs
 
 act-requires : tie.Need-act-requires
-act-requires c κs = (c .before .before .before .before .before .before .before .before .before .before .before .before .before .before .before .before .before .pre .0, (c .before .before .before .before .before .before .before .before .before .before .before .before .before .before .before .before .before .pre .1 .0, simp (length-take, length-drop) (omega (arith, c .before .before .before .before .before .before .before .before .before .before .before .before .before .before .before .before .before .pre .1 .1), omega (arith, c .before .before .before .before .before .before .before .before .before .before .before .before .before .before .before .before .before .pre .1 .1))))
+unfolding start
+act-requires c κs =
+    let p = (let s : tie.Start = search start in s .pre) in
+    (search, (search, simp (length-take, length-drop) (omega arith, omega arith)))
 
 speak-requires : tie.Need-speak-requires
-speak-requires c κs = (c .before .before .before .before .before .before .before .before .before .before .before .before .before .act .ensures .1, (omega (arith, c .before .before .before .before .before .before .before .before .before .before .before .before .before .act, c .before .before .before .before .before .before .before .before .before .before .before .before .before .before .before .before .before .before .before .before .before .before .before .before .before .before .before .before .before .before .before .pre .0 .buffer1), (omega (arith, c .before .before .before .before .before .before .before .before .before .before .before .before .before .act, c .before .before .before .before .before .before .before .before .before .before .before .before .before .before .before .before .before .before .before .before .before .before .before .before .before .before .before .before .before .before .before .pre .0 .buffer2), c .before .before .before .before .before .before .before .before .before .before .before .before .before .before .before .before .before .before .before .before .before .before .before .before .before .before .before .before .before .before .before .pre .1 .1 .1 .1 .1)))
+unfolding right start
+speak-requires c κs =
+    let p = (let s : tie.Start = search (right, start) in s .pre) in
+    let w = (let a : tie.After-act = search in a .act) in
+    (search, (omega arith, (omega arith, search)))
 
 called-of-requires-2 : tie.Need-called-of-requires-2
 called-of-requires-2 c κs = search needs
@@ -95,13 +127,16 @@ same-length-6 : tie.Need-same-length-6
 same-length-6 c = search needs
 
 returns-2 : tie.Need-returns-2
-unfolding carried
+unfolding right asked passed
 returns-2 c =
-    let a = c .before .before .before .before .before .before .before .before .before .before .before .before .before .before .before .before .before .before .before .before .before .before .before .before .before .before .before .before .before .before .before .before .before .before .before .before .args in
-    let w = c .before .before .before .before .speak .ensures in
-    let ours = sym (c .before .before .before .before .before .before .before .before .before .before .before .before .before .before .before .before .before .before .before .before .before .before .before .before .before .before .before .before .is-ours .ensures) ∙ not-false (c .before .before .before .before .before .before .before .before .before .before .before .before .before .before .before .before .before .before .before .before .before .before .before .before .before .before .before .before .is-ours .result) (c .before .before .before .before .before .before .before .before .before .before .before .before .before .before .before .before .before .before .before .before .before .before .before .before .before .before .before .if1 .left) in
-    let heard = ap (answer (readerOf (a .settings) (now (a .templates)) (now (a .index)) (now (a .notepad)) (now (a .buffer1)) (now (a .buffer2)))) (hear-ours (a .settings .address) (now (a .run)) (a .at) (a .len) _ ours (c .before .before .before .before .before .before .before .before .before .before .before .before .before .before .before .before .before .before .before .before .before .before .before .before .before .is-right .ensures)) in
-    rw (c .called-of2 .ensures, w .0, w .1) (ap (λ (x : Said). carriedOf (a .at + 9 + a .len) x (now (a .reply))) (c .before .before .before .before .before .before .before .before .before .before .before .before .before .before .before .before .before .before .act .ensures .0 ∙ heard))
+    let a = (let p : tie.After-act = search in p .act .result) in
+    let f = (let p : tie.After-act = search in p .act .ensures .0) in
+    let g = (let p : tie.After-is-right = search right in p .is-right .ensures) in
+    let o = (let p : tie.After-is-ours = search (right, asked) in p .is-ours .ensures) in
+    let k = (let p : tie.Else1 = search (right, passed) in p .if1 .left) in
+    let w = (let p : tie.After-speak = search in p .speak .ensures) in
+    let e = (let p : tie.After-called-of2 = search in p .called-of2 .ensures) in
+    answered _ _ _ _ _ _ _ _ _ _ _ o _ _ _ _ _ _ _ a _ _ e (w .0) (w .1) g k f
 
 pub hear-packet-spec : {M : Type 1} → statement M
 hear-packet-spec =

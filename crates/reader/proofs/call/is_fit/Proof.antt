@@ -1,14 +1,11 @@
 -- Each return is the definition's value, by the tests that led there.
 use Rattle.wire.proofs.Picks.{picks}
-use Prim.Native.Nat.{_-_}
 use borrow.Author.Needs.{needs}
 use Rattle.protocol.specs.Tests.{within}
 use Rattle.protocol.specs.Call.{core}
 use Rattle.reader.specs.Calls.{lengthsOf}
 use Rattle.reader.proofs.call.is_fit.Statement.{statement}
 use Rattle.reader.proofs.call.is_fit.Tie as tie
-use Rattle.reader.proofs.call.is_fit.Reads as reads
-use Rattle.reader.proofs.call.is_fit.Lts as lts
 
 mul-if1 : tie.Need-mul-if1
 mul-if1 c = search needs

@@ -1,15 +1,11 @@
 -- All four bytes of the address are compared.
-use Prim.Native.Nat.{ℕ, _-_}
+use Prim.Native.Nat.{ℕ}
 use mathlib.Core.List.{List}
 use mathlib.Core.Path.{ap, _∙_}
 use borrow.Author.Needs.{needs}
 use Rattle.protocol.specs.Bytes.{same}
 use Rattle.reader.proofs.call.is_ours.Statement.{statement}
 use Rattle.reader.proofs.call.is_ours.Tie as tie
-use Rattle.reader.proofs.call.is_ours.Reads as reads
-use Rattle.reader.proofs.call.is_ours.Lts as lts
-use Rattle.reader.proofs.bytes.four_at.Reads as four-at-reads
-use Rattle.wire.proofs.bytes.is_same.Reads as is-same-reads
 
 add-four-at : tie.Need-add-four-at
 add-four-at c = search needs

@@ -6,10 +6,6 @@ use borrow.Author.Needs.{needs}
 use Rattle.wire.proofs.Packets.{packet-sum}
 use Rattle.reader.proofs.call.is_right.Statement.{statement}
 use Rattle.reader.proofs.call.is_right.Tie as tie
-use Rattle.reader.proofs.call.is_right.Reads as reads
-use Rattle.reader.proofs.call.is_right.Lts as lts
-use Rattle.reader.proofs.bytes.word_at.Reads as word-at-reads
-use Rattle.wire.proofs.builder.packet_sum.Reads as packet-sum-reads
 
 add-from : tie.Need-add-from
 add-from c = search needs

@@ -2,7 +2,7 @@
 use lib.ListN.{length}
 use denote.Ref.{now}
 use borrow.Author.Tests.{eq-eqb, ne-eqb}
-use Prim.Native.Nat.{zero, _-_}
+use Prim.Native.Nat.{zero}
 use mathlib.Core.Path.{_≡_, refl}
 use borrow.Author.Needs.{needs}
 use Rattle.protocol.specs.Tests.{verdict}
@@ -12,13 +12,6 @@ use Rattle.protocol.specs.Call.{switchOf, switchAs, switchRefusal, refused, fit
 use Rattle.protocol.specs.Records.{transferOf}
 use Rattle.reader.proofs.call.line_switch.Statement.{statement}
 use Rattle.reader.proofs.call.line_switch.Tie as tie
-use Rattle.reader.proofs.call.line_switch.Reads as reads
-use Rattle.reader.proofs.call.line_switch.Lts as lts
-use Rattle.library.proofs.pages.zero.Reads as zero-reads
-use Rattle.reader.proofs.call.switched_of.Reads as switched-of-reads
-use Rattle.reader.proofs.settings.filled.Reads as filled-reads
-use Rattle.reader.proofs.settings.marked.Reads as marked-reads
-use Rattle.reader.proofs.settings.moved.Reads as moved-reads
 
 switched-of-requires : tie.Need-switched-of-requires
 switched-of-requires c κs = search needs

@@ -1,22 +1,96 @@
 -- A call goes out at a refusal, at a run with no whole packet, or at a whole packet.
+use mathlib.Core.Path.{_≡_, refl, sym, _∙_}
+use mathlib.Core.Bool.{Bool, true, false, not}
+use mathlib.Core.List.{List, [], _∷_}
+use Prim.Native.Nat.{ℕ, _+_, _%_, _<_, _≤_}
+use lib.ListN.{length}
 use denote.Ref.{now}
-use Prim.Native.Nat.{_-_}
-use mathlib.Core.Path.{refl, sym, _∙_}
+use denote.Enum.Declared.{tagOf}
+use types.Run.{OneOf}
 use borrow.Author.Needs.{needs}
-use Rattle.protocol.specs.Call.{refused}
-use Rattle.protocol.specs.Records.{readerOf}
-use Rattle.reader.proofs.Calls.{unheard, step-silent, step-whole, whole-lies, lengths-are, lengths-say, sound-says, call-bad-length, call-bad-room, call-bad-setting, call-goes}
+use Rattle.protocol.specs.declared.Settings.{Settings}
+use Rattle.protocol.specs.declared.Called.{Called}
+use Rattle.protocol.specs.declared.Found.{Found}
+use Rattle.protocol.specs.declared.Found.the-variants.{Whole}
+use Rattle.protocol.proofs.Found.{the-type}
+use Rattle.protocol.specs.Finder.{findOf, usedOf}
+use Rattle.protocol.specs.Step.{hearAt, answer}
+use Rattle.protocol.specs.Call.{core, fitLengths, sound, refused, Ended, callOf}
+use Rattle.protocol.specs.Records.{readerOf, endedOf}
 use Rattle.protocol.proofs.Laws.Logic.{not-true, not-false}
+use Rattle.reader.specs.Commands.{Fit}
+use Rattle.rules.specs.Settings.{Legal}
+use Rattle.reader.specs.Calls.{called, lengthsOf, carriedOf}
+use Rattle.reader.proofs.Calls.{unheard, step-silent, step-whole, Lies, whole-lies, lengths-are, lengths-say, sound-says, fit-says, call-bad-length, call-bad-room, call-bad-setting, call-goes}
 use Rattle.reader.proofs.call.step.Statement.{statement}
 use Rattle.reader.proofs.call.step.Tie as tie
-use Rattle.reader.proofs.call.step.Reads as reads
-use Rattle.reader.proofs.call.step.Lts as lts
-use Rattle.reader.proofs.call.called_of.Reads as called-of-reads
-use Rattle.reader.proofs.call.hear_packet.Reads as hear-packet-reads
-use Rattle.reader.proofs.call.is_fit.Reads as is-fit-reads
-use Rattle.reader.proofs.call.is_sound.Reads as is-sound-reads
-use Rattle.wire.proofs.finder.find.Reads as find-reads
-use Rattle.wire.proofs.finder.used_of.Reads as used-of-reads
+
+-- each return as a law: what was called, and the tests that led there
+module _ (s : Settings) (t i m b d : List ℕ) (fit : Bool) (l : fit ≡ lengthsOf (length t) (length i) (length m) (length b) (length d)) where
+  are : (z : Bool) → fit ≡ z → fitLengths core (readerOf s t i m b d .guarded) ≡ z
+  are z e = lengths-are (readerOf s t i m b d .guarded) ∙ sym l ∙ e
+
+  module _ (x y : List ℕ) (r : Called) where
+    bad-length : r ≡ called 1 0 0 s → not fit ≡ true → endedOf r t i m b d y ≡ callOf core (readerOf s t i m b d) x y
+    unfolding refused
+    bad-length e f = rw e (call-bad-length (readerOf s t i m b d) x y (are false (not-true fit f)))
+
+    bad-room : r ≡ called 2 0 0 s → not fit ≡ false → length y < 700 → endedOf r t i m b d y ≡ callOf core (readerOf s t i m b d) x y
+    unfolding refused
+    bad-room e f h = rw e (call-bad-room (readerOf s t i m b d) x y (are true (not-false fit f)) h)
+
+  module _ (f : not fit ≡ false) (legal : Bool) (k : legal ≡ sound (readerOf s t i m b d)) where
+    module _ (x y : List ℕ) (h : 700 ≤ length y) where
+      bad-setting : (r : Called) → r ≡ called 3 0 0 s → not legal ≡ true → endedOf r t i m b d y ≡ callOf core (readerOf s t i m b d) x y
+      unfolding refused
+      bad-setting r e g = rw e (call-bad-setting (readerOf s t i m b d) x y (are true (not-false fit f)) h (sym k ∙ not-true legal g))
+
+      module _ (g : not legal ≡ false) (o : Found) (w : o ≡ findOf x) where
+        silent : (r : Called) (u : ℕ) → r ≡ called 0 u 0 s → u ≡ usedOf o % 18446744073709551616 → OneOf (0 ∷ 1 ∷ 2 ∷ []) (tagOf the-type o) → length x < 18446744073709551616
+            → endedOf r t i m b d y ≡ callOf core (readerOf s t i m b d) x y
+        silent r u e v n z =
+            rw (e, v)
+            (step-silent (readerOf s t i m b d) x y o w z (unheard (s .address) x o n)
+            ∙ call-goes (readerOf s t i m b d) x y (are true (not-false fit f)) h (sym k ∙ not-false legal g))
+
+        heard : (e : Ended) (at len : ℕ) → o ≡ Whole at len → e ≡ carriedOf (at + 9 + len) (answer (readerOf s t i m b d) (hearAt (s .address) x (Whole at len))) y
+            → e ≡ callOf core (readerOf s t i m b d) x y
+        heard e at len n v =
+            v ∙ step-whole (readerOf s t i m b d) x y at len (sym w ∙ n)
+            ∙ call-goes (readerOf s t i m b d) x y (are true (not-false fit f)) h (sym k ∙ not-false legal g)
+
+    module _ (g : not legal ≡ false) where
+      moves : Legal s
+      moves = sound-says s t i m b d (sym k ∙ not-false legal g)
+
+      fits : Fit s t i m b d
+      fits = fit-says s t i m b d (lengths-say t i m b d (sym l ∙ not-false fit f)) moves
+
+module _ (x : List ℕ) (o : Found) (at len : ℕ) (w : o ≡ findOf x) (n : o ≡ Whole at len) where
+  lies : Lies x at len
+  lies = whole-lies x at len (sym w ∙ n)
+
+  inside : at + 9 + len ≤ length x
+  inside = lies .inside
+
+  low : 3 ≤ len
+  low = lies .low
+
+  high : len ≤ 65535
+  high = lies .high
+
+run-fits : (s : tie.Start) → length (now (s .args .run)) < 18446744073709551616
+run-fits s = search needs
+
+-- places that are far back from the later returns
+unfoldable start : tie.After-is-fit → tie.Start
+start c = search
+
+unfoldable fitted : tie.Else3 → tie.After-is-fit
+fitted c = search
+
+unfoldable passed : tie.Else3 → tie.Else1
+passed c = search
 
 is-fit-requires : tie.Need-is-fit-requires
 is-fit-requires c κs = search needs
@@ -25,23 +99,22 @@ called-of-requires : tie.Need-called-of-requires
 called-of-requires c κs = search needs
 
 returns : tie.Need-returns
-unfolding refused
 returns c =
-    let a = c .before .before .before .before .before .before .before .before .before .before .args in
-    let r = readerOf (a .settings) (now (a .templates)) (now (a .index)) (now (a .notepad)) (now (a .buffer1)) (now (a .buffer2)) in
-    let l = lengths-are (r .guarded) ∙ sym (c .before .before .is-fit .ensures) ∙ not-true (c .before .before .is-fit .result) (c .before .if1 .taken) in
-    rw (c .called-of .ensures) (call-bad-length r (now (a .run)) (now (a .reply)) l)
+    let l = (let p : tie.After-is-fit = search in p .is-fit .ensures) in
+    let f = (let p : tie.Then1 = search in p .if1 .taken) in
+    let e = (let p : tie.After-called-of = search in p .called-of .ensures) in
+    bad-length _ _ _ _ _ _ _ l _ _ _ e f
 
 called-of-requires-2 : tie.Need-called-of-requires-2
 called-of-requires-2 c κs = search needs
 
 returns-2 : tie.Need-returns-2
-unfolding refused
 returns-2 c =
-    let a = c .before .before .before .before .before .before .before .before .before .before .before .args in
-    let r = readerOf (a .settings) (now (a .templates)) (now (a .index)) (now (a .notepad)) (now (a .buffer1)) (now (a .buffer2)) in
-    let l = lengths-are (r .guarded) ∙ sym (c .before .before .before .is-fit .ensures) ∙ not-false (c .before .before .before .is-fit .result) (c .before .before .if1 .left) in
-    rw (c .called-of2 .ensures) (call-bad-room r (now (a .run)) (now (a .reply)) l (c .before .if2 .taken))
+    let l = (let p : tie.After-is-fit = search in p .is-fit .ensures) in
+    let f = (let p : tie.Else1 = search in p .if1 .left) in
+    let h = (let p : tie.Then2 = search in p .if2 .taken) in
+    let e = (let p : tie.After-called-of2 = search in p .called-of2 .ensures) in
+    bad-room _ _ _ _ _ _ _ l _ _ _ e f h
 
 is-sound-requires : tie.Need-is-sound-requires
 is-sound-requires c κs = search needs
@@ -53,13 +126,15 @@ same-length : tie.Need-same-length
 same-length c = search needs
 
 returns-3 : tie.Need-returns-3
-unfolding refused
+unfolding start fitted
 returns-3 c =
-    let a = c .before .before .before .before .before .before .before .before .before .before .before .before .before .before .args in
-    let r = readerOf (a .settings) (now (a .templates)) (now (a .index)) (now (a .notepad)) (now (a .buffer1)) (now (a .buffer2)) in
-    let l = lengths-are (r .guarded) ∙ sym (c .before .before .before .before .before .before .is-fit .ensures) ∙ not-false (c .before .before .before .before .before .before .is-fit .result) (c .before .before .before .before .before .if1 .left) in
-    let k = sym (c .before .before .is-sound .ensures (now (a .templates)) (now (a .notepad)) (now (a .buffer1)) (now (a .buffer2)) refl) ∙ not-true (c .before .before .is-sound .result) (c .before .if3 .taken) in
-    rw (c .called-of3 .ensures) (call-bad-setting r (now (a .run)) (now (a .reply)) l (c .before .before .before .before .if2 .left) k)
+    let l = (let p : tie.After-is-fit = search in p .is-fit .ensures) in
+    let f = (let p : tie.Else1 = search in p .if1 .left) in
+    let k = (let p : tie.After-is-sound = search in let s : tie.Start = search (start, fitted) in p .is-sound .ensures (now (s .args .templates)) (now (s .args .notepad)) (now (s .args .buffer1)) (now (s .args .buffer2)) refl) in
+    let h = (let p : tie.Else2 = search in p .if2 .left) in
+    let g = (let p : tie.Then3 = search in p .if3 .taken) in
+    let e = (let p : tie.After-called-of3 = search in p .called-of3 .ensures) in
+    bad-setting _ _ _ _ _ _ _ l f _ k _ _ h _ e g
 
 find-requires : tie.Need-find-requires
 find-requires c κs = search needs
@@ -77,22 +152,31 @@ same-length-2 : tie.Need-same-length-2
 same-length-2 c = search needs
 
 returns-4 : tie.Need-returns-4
+unfolding start fitted passed
 returns-4 c =
-    let a = c .before .before .before .before .before .before .before .before .before .before .before .before .before .before .before .before .before .args in
-    let r = readerOf (a .settings) (now (a .templates)) (now (a .index)) (now (a .notepad)) (now (a .buffer1)) (now (a .buffer2)) in
-    let l = lengths-are (r .guarded) ∙ sym (c .before .before .before .before .before .before .before .before .before .is-fit .ensures) ∙ not-false (c .before .before .before .before .before .before .before .before .before .is-fit .result) (c .before .before .before .before .before .before .before .before .if1 .left) in
-    let k = sym (c .before .before .before .before .before .is-sound .ensures (now (a .templates)) (now (a .notepad)) (now (a .buffer1)) (now (a .buffer2)) refl) ∙ not-false (c .before .before .before .before .before .is-sound .result) (c .before .before .before .before .if3 .left) in
-    let u = unheard (a .settings .address) (now (a .run)) _ (c .before .before .match .keys2) in
-    rw (c .called-of4 .ensures, c .before .used-of .ensures) (step-silent r (now (a .run)) (now (a .reply)) _ (c .before .before .before .find .ensures) (c .before .before .before .before .before .before .before .before .before .before .before .before .before .before .before .before .before .good .1 .1 .1 .1 .1 .1 .0 .0) u ∙ call-goes r (now (a .run)) (now (a .reply)) l (c .before .before .before .before .before .before .before .if2 .left) k)
+    let l = (let p : tie.After-is-fit = search fitted in p .is-fit .ensures) in
+    let f = (let p : tie.Else1 = search passed in p .if1 .left) in
+    let k = (let p : tie.After-is-sound = search in let s : tie.Start = search (start, fitted) in p .is-sound .ensures (now (s .args .templates)) (now (s .args .notepad)) (now (s .args .buffer1)) (now (s .args .buffer2)) refl) in
+    let h = (let p : tie.Else2 = search in p .if2 .left) in
+    let g = (let p : tie.Else3 = search in p .if3 .left) in
+    let w = (let p : tie.After-find = search in p .find .ensures) in
+    let e = (let p : tie.After-called-of4 = search in p .called-of4 .ensures) in
+    let u = (let p : tie.After-used-of = search in p .used-of .ensures) in
+    let n = (let p : tie.At-match-keys2 = search in p .match .keys2) in
+    let z = (let s : tie.Start = search (start, fitted) in run-fits s) in
+    silent _ _ _ _ _ _ _ l f _ k _ _ h g _ w _ _ e u n z
 
 hear-packet-requires : tie.Need-hear-packet-requires
+unfolding start fitted passed
 hear-packet-requires c κs =
-    let a = c .before .before .before .before .before .before .before .before .before .before .before .before .before .before .before .before .before .before .before .before .before .before .before .args in
-    let l = lengths-say (now (a .templates)) (now (a .index)) (now (a .notepad)) (now (a .buffer1)) (now (a .buffer2)) (sym (c .before .before .before .before .before .before .before .before .before .before .before .before .before .before .before .is-fit .ensures) ∙ not-false (c .before .before .before .before .before .before .before .before .before .before .before .before .before .before .before .is-fit .result) (c .before .before .before .before .before .before .before .before .before .before .before .before .before .before .if1 .left)) in
-    let k = sym (c .before .before .before .before .before .before .before .before .before .before .before .is-sound .ensures (now (a .templates)) (now (a .notepad)) (now (a .buffer1)) (now (a .buffer2)) refl) ∙ not-false (c .before .before .before .before .before .before .before .before .before .before .before .is-sound .result) (c .before .before .before .before .before .before .before .before .before .before .if3 .left) in
-    let h = sound-says (a .settings) (now (a .templates)) (now (a .index)) (now (a .notepad)) (now (a .buffer1)) (now (a .buffer2)) l k in
-    let w = whole-lies (now (a .run)) _ _ (sym (c .before .before .before .before .before .before .before .before .before .find .ensures) ∙ c .before .before .before .before .before .before .before .f .given .1) in
-    (h .fit, (h .moves, (w .inside, (w .low, (w .high, c .before .before .before .before .before .before .before .before .before .before .before .before .before .if2 .left)))))
+    let l = (let p : tie.After-is-fit = search fitted in p .is-fit .ensures) in
+    let f = (let p : tie.Else1 = search passed in p .if1 .left) in
+    let k = (let p : tie.After-is-sound = search in let s : tie.Start = search (start, fitted) in p .is-sound .ensures (now (s .args .templates)) (now (s .args .notepad)) (now (s .args .buffer1)) (now (s .args .buffer2)) refl) in
+    let h = (let p : tie.Else2 = search in p .if2 .left) in
+    let g = (let p : tie.Else3 = search in p .if3 .left) in
+    let w = (let p : tie.After-find = search in p .find .ensures) in
+    let n = (let p : tie.After-f = search in p .f .given .1) in
+    (fits _ _ _ _ _ _ _ l f _ k g, (moves _ _ _ _ _ _ _ l f _ k g, (inside _ _ _ _ w n, (low _ _ _ _ w n, (high _ _ _ _ w n, h)))))
 
 same-length-3 : tie.Need-same-length-3
 same-length-3 c = search needs
@@ -113,12 +197,17 @@ same-length-8 : tie.Need-same-length-8
 same-length-8 c = search needs
 
 returns-5 : tie.Need-returns-5
+unfolding start fitted passed
 returns-5 c =
-    let a = c .before .before .before .before .before .before .before .before .before .before .before .before .before .before .before .before .before .before .before .before .before .before .before .before .before .before .before .before .before .before .before .before .before .before .before .before .args in
-    let r = readerOf (a .settings) (now (a .templates)) (now (a .index)) (now (a .notepad)) (now (a .buffer1)) (now (a .buffer2)) in
-    let l = lengths-are (r .guarded) ∙ sym (c .before .before .before .before .before .before .before .before .before .before .before .before .before .before .before .before .before .before .before .before .before .before .before .before .before .before .before .before .is-fit .ensures) ∙ not-false (c .before .before .before .before .before .before .before .before .before .before .before .before .before .before .before .before .before .before .before .before .before .before .before .before .before .before .before .before .is-fit .result) (c .before .before .before .before .before .before .before .before .before .before .before .before .before .before .before .before .before .before .before .before .before .before .before .before .before .before .before .if1 .left) in
-    let k = sym (c .before .before .before .before .before .before .before .before .before .before .before .before .before .before .before .before .before .before .before .before .before .before .before .before .is-sound .ensures (now (a .templates)) (now (a .notepad)) (now (a .buffer1)) (now (a .buffer2)) refl) ∙ not-false (c .before .before .before .before .before .before .before .before .before .before .before .before .before .before .before .before .before .before .before .before .before .before .before .before .is-sound .result) (c .before .before .before .before .before .before .before .before .before .before .before .before .before .before .before .before .before .before .before .before .before .before .before .if3 .left) in
-    c .before .before .before .before .before .before .before .before .before .before .before .before .hear-packet .ensures ∙ step-whole r (now (a .run)) (now (a .reply)) _ _ (sym (c .before .before .before .before .before .before .before .before .before .before .before .before .before .before .before .before .before .before .before .before .before .before .find .ensures) ∙ c .before .before .before .before .before .before .before .before .before .before .before .before .before .before .before .before .before .before .before .before .f .given .1) ∙ call-goes r (now (a .run)) (now (a .reply)) l (c .before .before .before .before .before .before .before .before .before .before .before .before .before .before .before .before .before .before .before .before .before .before .before .before .before .before .if2 .left) k
+    let l = (let p : tie.After-is-fit = search fitted in p .is-fit .ensures) in
+    let f = (let p : tie.Else1 = search passed in p .if1 .left) in
+    let k = (let p : tie.After-is-sound = search in let s : tie.Start = search (start, fitted) in p .is-sound .ensures (now (s .args .templates)) (now (s .args .notepad)) (now (s .args .buffer1)) (now (s .args .buffer2)) refl) in
+    let h = (let p : tie.Else2 = search in p .if2 .left) in
+    let g = (let p : tie.Else3 = search in p .if3 .left) in
+    let w = (let p : tie.After-find = search in p .find .ensures) in
+    let n = (let p : tie.After-f = search in p .f .given .1) in
+    let v = (let p : tie.After-hear-packet = search in p .hear-packet .ensures) in
+    heard _ _ _ _ _ _ _ l f _ k _ _ h g _ w _ _ _ n v
 
 pub step-spec : {M : Type 1} → statement M
 step-spec =

@@ -16,7 +16,6 @@ use Rattle.reader.proofs.keys.set_address.Reads as reads
 use Rattle.reader.proofs.keys.set_address.Lts as lts
 use Rattle.reader.proofs.answers.plain.Reads as plain-reads
 use Rattle.reader.proofs.bytes.four_at.Reads as four-at-reads
-use Rattle.reader.proofs.settings.with_address.Reads as with-address-reads
 
 four-at-requires : tie.Need-four-at-requires
 four-at-requires c κs = search needs

@@ -16,7 +16,6 @@ use Rattle.reader.proofs.keys.verify_password.Reads as reads
 use Rattle.reader.proofs.keys.verify_password.Lts as lts
 use Rattle.reader.proofs.answers.plain.Reads as plain-reads
 use Rattle.reader.proofs.bytes.four_at.Reads as four-at-reads
-use Rattle.reader.proofs.settings.marked.Reads as marked-reads
 use Rattle.wire.proofs.bytes.is_same.Reads as is-same-reads
 
 four-at-requires : tie.Need-four-at-requires

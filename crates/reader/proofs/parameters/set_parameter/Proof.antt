@@ -16,7 +16,6 @@ use Rattle.reader.proofs.parameters.set_parameter.Tie as tie
 use Rattle.reader.proofs.parameters.set_parameter.Reads as reads
 use Rattle.reader.proofs.parameters.set_parameter.Lts as lts
 use Rattle.reader.proofs.answers.plain.Reads as plain-reads
-use Rattle.reader.proofs.settings.tuned.Reads as tuned-reads
 
 plain-requires : tie.Need-plain-requires
 plain-requires c κs = search needs

@@ -1,20 +1,39 @@
--- A page is a whole number of packets of each size.
-use lib.ListN.{length}
-use denote.Ref.{now}
+-- A buffer is a whole number of packets of each size, and they fit the room.
+use mathlib.Core.Path.{_≡_, sym, _∙_}
+use mathlib.Core.List.{List}
+use Prim.Native.Nat.{ℕ, _+_, _*_, _/_, _≤_}
 use native.Mathlib.Omega.{arith}
-use Prim.Native.Nat.{_-_, _/_}
-use mathlib.Core.Path.{_≡_, refl, sym, _∙_}
+use lib.ListN.{length}
 use borrow.Author.Needs.{needs}
+use Rattle.protocol.specs.Numbers.{pageBytes, highestSize, frameBytes}
+use Rattle.protocol.specs.Bytes.{lay, joined}
 use Rattle.protocol.specs.Reader.{sizeOf}
-use Rattle.protocol.specs.Data.{dataPackets}
-use Rattle.reader.proofs.Replies.{code-size}
+use Rattle.protocol.specs.Data.{packets, dataPackets}
 use Rattle.protocol.proofs.Laws.Sizes.{length-packets}
+use Rattle.rules.specs.Settings.{SizeOf}
+use Rattle.rules.proofs.Sizes.{size-legal}
+use Rattle.reader.proofs.Replies.{code-size}
 use Rattle.reader.proofs.reply.send.Statement.{statement}
 use Rattle.reader.proofs.reply.send.Tie as tie
-use Rattle.reader.proofs.reply.send.Reads as reads
-use Rattle.reader.proofs.reply.send.Lts as lts
-use Rattle.reader.proofs.reply.put_data.Reads as put-data-reads
-use Rattle.reader.proofs.settings.size_of.Reads as size-of-reads
+
+module _ (code z : ℕ) (e : SizeOf code z) (l : code ≤ highestSize) (x : List ℕ) (h : length x ≡ pageBytes) where
+  all : length x ≡ pageBytes / z * z
+  all = rw (size-legal code z e l) (h ∙ sym (code-size code l .all))
+
+  fits : (at n : ℕ) → at + 688 ≤ n → at + pageBytes / z * (z + frameBytes) ≤ n
+  fits at n f = rw (size-legal code z e l) (omega (arith, code-size code l .room))
+
+  module _ (a : List ℕ) (f : length a ≡ 4) (at : ℕ) where
+    long : (r : ℕ) → r ≡ at + pageBytes / z * (z + frameBytes) → r ≡ at + length (dataPackets a (sizeOf code) x)
+    unfolding dataPackets
+    long r k = rw (← size-legal code z e l, length-packets a (pageBytes / z) z x f all) k
+
+  laid : (a : List ℕ) (at : ℕ) (y y′ : List ℕ) → y′ ≡ lay at (joined (packets a (pageBytes / z) z x)) y → y′ ≡ lay at (dataPackets a (sizeOf code) x) y
+  unfolding dataPackets
+  laid a at y y′ k = rw (← size-legal code z e l) k
+
+address : (s : tie.Start) → length (s .args .settings .address) ≡ 4
+address s = search (needs, s .good)
 
 size-of-requires : tie.Need-size-of-requires
 size-of-requires c κs = search needs
@@ -23,24 +42,13 @@ div-k : tie.Need-div-k
 div-k c = search needs
 
 put-data-requires : tie.Need-put-data-requires
-put-data-requires c κs =
-    let a = c .before .before .before .before .before .args in
-    let z = code-size (a .settings .size) (c .before .before .before .before .before .pre .0) in
-    let e = c .before .before .size-of .ensures .0 in
-    (omega arith, (omega arith, (rw e (c .before .before .before .before .before .pre .1 .0 ∙ sym (z .all)), rw e (omega (arith, z .room, c .before .before .before .before .before .pre .1 .1)))))
+put-data-requires c κs = (omega arith, (omega arith, (search all, search fits)))
 
 same-length : tie.Need-same-length
 same-length c = search needs
 
 returns : tie.Need-returns
-unfolding dataPackets
-returns c =
-    let a = c .before .before .before .before .before .before .before .before .args in
-    let h : length (a .settings .address) ≡ 4 = search (needs, c .before .before .before .before .before .before .before .before .good) in
-    let z = code-size (a .settings .size) (c .before .before .before .before .before .before .before .before .pre .0) in
-    let e = c .before .before .before .before .before .size-of .ensures .0 in
-    let l = length-packets (a .settings .address) (512 / sizeOf (a .settings .size)) (sizeOf (a .settings .size)) (now (a .src)) h (c .before .before .before .before .before .before .before .before .pre .1 .0 ∙ sym (z .all)) in
-    (c .before .before .put-data .ensures .0 ∙ rw (e, l) refl, c .before .before .put-data .ensures .1 ∙ rw e refl)
+returns c = let h = (let s : tie.Start = search in address s) in (search long, search laid)
 
 pub send-spec : {M : Type 1} → statement M
 send-spec = tie.close (tie.spec size-of-requires div-k put-data-requires same-length returns)

@@ -20,7 +20,6 @@ use Rattle.reader.proofs.stored.load_page.Lts as lts
 use Rattle.library.proofs.index.has_bit.Reads as has-bit-reads
 use Rattle.library.proofs.pages.read_page.Reads as read-page-reads
 use Rattle.reader.proofs.answers.plain.Reads as plain-reads
-use Rattle.reader.proofs.settings.filled.Reads as filled-reads
 use Rattle.reader.proofs.stored.is_buffer.Reads as is-buffer-reads
 
 is-buffer-requires : tie.Need-is-buffer-requires

@@ -16,7 +16,6 @@ use Rattle.reader.proofs.stored.store_page.Tie as tie
 use Rattle.reader.proofs.stored.store_page.Reads as reads
 use Rattle.reader.proofs.stored.store_page.Lts as lts
 use Rattle.reader.proofs.answers.plain.Reads as plain-reads
-use Rattle.reader.proofs.settings.filled_of.Reads as filled-of-reads
 use Rattle.reader.proofs.stored.is_buffer.Reads as is-buffer-reads
 use Rattle.reader.proofs.stored.store_now.Reads as store-now-reads
 

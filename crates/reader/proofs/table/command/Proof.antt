@@ -1,21 +1,42 @@
 -- The gate stops, or the row answers.
-use denote.Ref.{now}
-use native.Mathlib.Omega.{arith}
-use Prim.Native.Nat.{_-_}
-use mathlib.Core.Path.{sym, _∙_}
+use mathlib.Core.Path.{_≡_, sym, _∙_}
+use mathlib.Core.Bool.{Bool, true, not, _||_}
+use mathlib.Core.List.{List}
+use Prim.Native.Nat.{ℕ}
 use borrow.Author.Needs.{needs}
-use Rattle.protocol.specs.Bytes.{follow}
-use Rattle.protocol.specs.Step.{says}
-use Rattle.protocol.specs.Records.{readerOf, plainOf}
-use Rattle.reader.specs.Answers.{sent}
-use Rattle.reader.proofs.Gates.{gate-stops, gate-goes, gate-passes}
+use Rattle.protocol.specs.declared.Settings.{Settings}
+use Rattle.protocol.specs.Bytes.{byteAt, follow}
+use Rattle.protocol.specs.Packet.{lengthOf}
+use Rattle.protocol.specs.Reader.{Plain, Reader, locked}
+use Rattle.protocol.specs.Commands.{commands, rowOf, orderOf}
+use Rattle.protocol.specs.Step.{Said, says, obey, heed}
+use Rattle.protocol.specs.Records.{plainOf, readerOf}
+use Rattle.reader.specs.declared.answers.Answer.{Answer}
+use Rattle.reader.specs.Answers.{sent, saidOf, codeAlone}
+use Rattle.rules.specs.Commands.{lenOf, readOf, isFree, gateOf}
+use Rattle.rules.proofs.Gates.{gate-stops, gate-goes, gate-passes}
+use Rattle.reader.proofs.Ready.{ready-alone}
 use Rattle.reader.proofs.table.command.Statement.{statement}
 use Rattle.reader.proofs.table.command.Tie as tie
-use Rattle.reader.proofs.table.command.Reads as reads
-use Rattle.reader.proofs.table.command.Lts as lts
-use Rattle.reader.proofs.answers.plain.Reads as plain-reads
-use Rattle.reader.proofs.table.gate.Reads as gate-reads
-use Rattle.reader.proofs.table.row.Reads as row-reads
+
+stops : (s : Settings) (t i m b d x : List ℕ) (right : Bool) (stop : ℕ) (a : Answer) → a ≡ codeAlone stop s → stop ≡ gateOf right (byteAt x 0) (lengthOf x) (plainOf s) → (stop ≡ 0 → ⊥)
+    → saidOf a t i m b d ≡ heed (readerOf s t i m b d) (orderOf right x)
+unfolding says follow sent
+stops s t i m b d x right stop a e g z = rw (e, g) (sym (gate-stops (readerOf s t i m b d) x right (λ w. z (g ∙ w))))
+
+-- what a passed gate says
+module _ (right : Bool) (k n stop : ℕ) (p : Plain) (g : stop ≡ gateOf right k n p) (z : stop ≡ 0) where
+  passed-long : lenOf (rowOf commands k) ≡ n
+  passed-long = gate-passes right k n p (sym g ∙ z) .long
+
+  passed-open : (isFree k || not (locked p)) ≡ true
+  passed-open = gate-passes right k n p (sym g ∙ z) .open′
+
+goes : (r : Reader) (x : List ℕ) (right : Bool) (stop : ℕ) (said : Said) → said ≡ obey r (readOf (rowOf commands (byteAt x 0)) x)
+    → stop ≡ gateOf right (byteAt x 0) (lengthOf x) (r .plain) → stop ≡ 0 → said ≡ heed r (orderOf right x)
+goes r x right stop said e g z =
+    let p = gate-passes right (byteAt x 0) (lengthOf x) (r .plain) (sym g ∙ z) in
+    e ∙ sym (gate-goes r x right (p .sum) (p .long))
 
 shared-slice-read-code : tie.Need-shared-slice-read-code
 shared-slice-read-code c = search needs
@@ -30,16 +51,10 @@ plain-requires : tie.Need-plain-requires
 plain-requires c κs = search needs
 
 returns : tie.Need-returns
-unfolding says follow sent
-returns c =
-    let a = c .before .before .before .before .before .before .before .before .before .before .args in
-    let e = gate-stops (readerOf (a .settings) (now (a .templates)) (now (a .index)) (now (a .notepad)) (now (a .buffer1)) (now (a .buffer2))) (now (a .content)) (a .right) (λ z. c .before .if1 .taken (c .before .before .gate .ensures ∙ z)) in
-    (rw (c .plain .ensures, c .before .before .gate .ensures) (sym e), rw (c .plain .ensures) (record { few = omega arith; size = c .before .before .before .before .before .before .before .before .before .before .pre .0 .size }))
+returns c = (search stops, search ready-alone)
 
 row-requires : tie.Need-row-requires
-row-requires c κs =
-    let p = gate-passes (c .before .before .before .before .before .before .before .before .before .before .before .before .before .before .args .right) _ _ (plainOf (c .before .before .before .before .before .before .before .before .before .before .before .before .before .before .args .settings)) (sym (c .before .before .before .before .before .before .gate .ensures) ∙ c .before .before .before .before .before .if1 .left) in
-    (c .before .before .before .before .before .before .before .before .before .before .before .before .before .before .pre .0, (p .long, p .open′))
+row-requires c κs = (search, (search passed-long, search passed-open))
 
 same-length : tie.Need-same-length
 same-length c = search needs
@@ -57,10 +72,7 @@ same-length-5 : tie.Need-same-length-5
 same-length-5 c = search needs
 
 returns-2 : tie.Need-returns-2
-returns-2 c =
-    let a = c .before .before .before .before .before .before .before .before .before .before .before .before .before .before .before .before .before .before .before .before .before .before .before .before .before .args in
-    let p = gate-passes (a .right) _ _ (plainOf (a .settings)) (sym (c .before .before .before .before .before .before .before .before .before .before .before .before .before .before .before .before .before .gate .ensures) ∙ c .before .before .before .before .before .before .before .before .before .before .before .before .before .before .before .before .if1 .left) in
-    (c .before .before .before .before .before .before .before .before .before .before .row .ensures .0 ∙ sym (gate-goes _ (now (a .content)) (a .right) (p .sum) (p .long)), c .before .before .before .before .before .before .before .before .before .before .row .ensures .1)
+returns-2 c = (search goes, search)
 
 pub command-spec : {M : Type 1} → statement M
 command-spec =

@@ -14,8 +14,6 @@ use Rattle.reader.proofs.transfer.end_transfer.Tie as tie
 use Rattle.reader.proofs.transfer.end_transfer.Reads as reads
 use Rattle.reader.proofs.transfer.end_transfer.Lts as lts
 use Rattle.library.proofs.pages.zero.Reads as zero-reads
-use Rattle.reader.proofs.settings.filled.Reads as filled-reads
-use Rattle.reader.proofs.settings.moved.Reads as moved-reads
 
 zero-requires : tie.Need-zero-requires
 zero-requires c κs = search needs

@@ -14,8 +14,6 @@ use Rattle.reader.proofs.transfer.place.Tie as tie
 use Rattle.reader.proofs.transfer.place.Reads as reads
 use Rattle.reader.proofs.transfer.place.Lts as lts
 use Rattle.reader.proofs.answers.silent.Reads as silent-reads
-use Rattle.reader.proofs.settings.filled.Reads as filled-reads
-use Rattle.reader.proofs.settings.moved.Reads as moved-reads
 use Rattle.reader.proofs.transfer.put_at.Reads as put-at-reads
 
 cast-got : tie.Need-cast-got

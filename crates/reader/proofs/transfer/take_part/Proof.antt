@@ -1,41 +1,73 @@
--- Each return is the definition's value, by the tests that led there.
-use denote.Ref.{now}
-use native.Mathlib.Omega.{arith}
-use Prim.Native.Nat.{_-_}
-use mathlib.Core.Bool.{true}
-use mathlib.Core.Path.{refl, sym, ap, _∙_}
+-- With no transfer a data packet says nothing; in one, a packet that fits goes in, and one that does not ends it with 0Eh.
+use mathlib.Core.Path.{_≡_, refl, sym, ap, _∙_}
+use mathlib.Core.Bool.{Bool, true, false}
+use mathlib.Core.List.{List}
+use Prim.Native.Nat.{ℕ, _+_, _≤_}
+use lib.Dec.{eqb}
+use lib.ListN.{length}
 use borrow.Author.Needs.{needs}
+use Rattle.protocol.specs.declared.Settings.{Settings}
+use Rattle.protocol.specs.Numbers.{pageBytes, highestSize, transferFailed}
 use Rattle.protocol.specs.Bytes.{follow}
-use Rattle.protocol.specs.Reader.{Reader}
-use Rattle.protocol.specs.Step.{silence, says}
-use Rattle.protocol.specs.Records.{plainOf}
-use Rattle.reader.specs.Answers.{sent}
+use Rattle.protocol.specs.Reader.{Reader, sizeOf}
+use Rattle.protocol.specs.Step.{silence, says, ended, fits, takeAs, takeIn}
+use Rattle.protocol.specs.Records.{plainOf, transferOf, readerOf}
+use Rattle.reader.specs.declared.answers.Answer.{Answer}
+use Rattle.reader.specs.Answers.{sent, saidOf, codeAlone, nothingSaid}
+use Rattle.rules.specs.Transfer.{doesFit}
+use Rattle.rules.proofs.Sizes.{fits-legal}
 use Rattle.reader.proofs.Transfers.{take-none, take-open, take-failed, part-facts}
+use Rattle.reader.proofs.Ready.{ready-alone, ready-silent, size-same}
 use Rattle.reader.proofs.transfer.take_part.Statement.{statement}
 use Rattle.reader.proofs.transfer.take_part.Tie as tie
-use Rattle.reader.proofs.transfer.take_part.Reads as reads
-use Rattle.reader.proofs.transfer.take_part.Lts as lts
-use Rattle.reader.proofs.answers.plain.Reads as plain-reads
-use Rattle.reader.proofs.answers.silent.Reads as silent-reads
-use Rattle.reader.proofs.transfer.does_fit.Reads as does-fit-reads
-use Rattle.reader.proofs.transfer.end_transfer.Reads as end-transfer-reads
-use Rattle.reader.proofs.transfer.place.Reads as place-reads
+
+-- a data packet that fits is one size long, and there is room for it
+module _ (s : Settings) (x : List ℕ) (last right fit : Bool) (f : fit ≡ doesFit s right last (length x)) (k : s .size ≤ highestSize) (g : fit ≡ true) where
+  facts : (length x ≡ sizeOf (s .size)) × (s .got + length x ≤ pageBytes)
+  facts = part-facts (plainOf s) (s .got) last right x (sym (fits-legal s last right (length x) x fit f k refl) ∙ g)
+
+  part-long : length x ≡ sizeOf (s .size)
+  part-long = facts .0
+
+  part-room : s .got + length x ≤ pageBytes
+  part-room = facts .1
+
+-- each return as a law: its answer and the tests that led there
+module _ (s : Settings) (b d x : List ℕ) (last right : Bool) (a : Answer) where
+  idle : (t i m : List ℕ) → a ≡ nothingSaid s → s .transfer ≡ 0 → saidOf a t i m b d ≡ takeIn (readerOf s t i m b d) last right x (transferOf (s .transfer) (s .got))
+  unfolding silence
+  idle t i m e z = rw e (sym (take-none _ _ _ _ _ _ z))
+
+  module _ (fit : Bool) (f : fit ≡ doesFit s right last (length x)) (k : s .size ≤ highestSize) where
+    fit-is : fit ≡ fits (plainOf s) (s .got) last right x
+    fit-is = fits-legal s last right (length x) x fit f k refl
+
+    module _ (z : s .transfer ≡ 0 → ⊥) (l : s .transfer ≤ 2) (u v t i m : List ℕ) where
+      placed : fit ≡ true → ((t i m : List ℕ) → saidOf a t i m u v ≡ takeAs (readerOf s t i m b d) (eqb (s .transfer) 2) (s .got) x true last)
+          → saidOf a t i m u v ≡ takeIn (readerOf s t i m b d) last right x (transferOf (s .transfer) (s .got))
+      placed g p = p t i m ∙ sym (take-open _ _ _ _ _ _ true z l (sym g ∙ fit-is))
+
+      failed : (q : Settings) → a ≡ codeAlone transferFailed q → fit ≡ false
+          → ((t i m : List ℕ) → readerOf q t i m u v ≡ ended (readerOf s t i m b d) (transferOf (s .transfer) (s .got)))
+          → saidOf a t i m u v ≡ takeIn (readerOf s t i m b d) last right x (transferOf (s .transfer) (s .got))
+      unfolding says follow sent
+      failed q e g p = rw e (ap (λ (r : Reader). says r transferFailed) (p t i m) ∙ sym (take-failed _ _ _ _ _ _ z l (sym fit-is ∙ g)))
+
+-- the start, from where the packet is known not to fit
+unfoldable start : tie.Else2 → tie.Start
+start c = search
 
 silent-requires : tie.Need-silent-requires
 silent-requires c κs = search needs
 
 returns : tie.Need-returns
-unfolding silence
-returns c = (λ t i m. rw (c .silent .ensures) (sym (take-none _ _ _ _ _ _ (c .before .if1 .taken))), rw (c .silent .ensures) (record { few = omega arith; size = c .before .before .before .before .before .before .pre .1 .1 .1 .0 }))
+returns c = (λ t i m. search idle, search ready-silent)
 
 does-fit-requires : tie.Need-does-fit-requires
 does-fit-requires c κs = search needs
 
 place-requires : tie.Need-place-requires
-place-requires c κs =
-    let a = c .before .before .before .before .before .before .before .before .before .args in
-    let f = part-facts (plainOf (a .settings)) (a .settings .got) (a .last) (a .right) (now (a .content)) (sym (c .before .before .before .does-fit .ensures (now (a .content)) refl) ∙ c .before .before .if2 .taken) in
-    (c .before .before .before .before .before .before .before .before .before .pre .0, (c .before .before .before .before .before .before .before .before .before .pre .1 .0, (c .before .before .before .before .before .before .before .before .before .pre .1 .1 .1 .0, (f .1, f .0))))
+place-requires c κs = (search, (search, (search, (search part-room, search part-long))))
 
 same-length : tie.Need-same-length
 same-length c = search needs
@@ -44,9 +76,7 @@ same-length-2 : tie.Need-same-length-2
 same-length-2 c = search needs
 
 returns-2 : tie.Need-returns-2
-returns-2 c =
-    let a = c .before .before .before .before .before .before .before .before .before .before .before .before .before .before .args in
-    (λ t i m. c .before .before .before .before .place .ensures .0 t i m ∙ sym (take-open _ _ _ _ _ _ true (c .before .before .before .before .before .before .before .before .before .if1 .left) (c .before .before .before .before .before .before .before .before .before .before .before .before .before .before .pre .1 .1 .0) (sym (c .before .before .before .before .before .before .before .if2 .taken) ∙ c .before .before .before .before .before .before .before .before .does-fit .ensures (now (a .content)) refl)), c .before .before .before .before .place .ensures .1)
+returns-2 c = (λ t i m. search placed, search)
 
 end-transfer-requires : tie.Need-end-transfer-requires
 end-transfer-requires c κs = search needs
@@ -61,11 +91,8 @@ same-length-4 : tie.Need-same-length-4
 same-length-4 c = search needs
 
 returns-3 : tie.Need-returns-3
-unfolding says follow sent
-returns-3 c =
-    let a = c .before .before .before .before .before .before .before .before .before .before .before .before .before .before .before .args in
-    let f = sym (c .before .before .before .before .before .before .before .before .before .does-fit .ensures (now (a .content)) refl) ∙ c .before .before .before .before .before .before .before .before .if2 .left in
-    (λ t i m. rw (c .plain .ensures) (ap (λ (x : Reader). says x 0x0e) (c .before .before .before .before .before .end-transfer .ensures .0 t i m) ∙ sym (take-failed _ _ _ _ _ _ (c .before .before .before .before .before .before .before .before .before .before .if1 .left) (c .before .before .before .before .before .before .before .before .before .before .before .before .before .before .before .pre .1 .1 .0) f)), rw (c .plain .ensures) (record { few = omega arith; size = rw (c .before .before .before .before .before .end-transfer .ensures .1) (c .before .before .before .before .before .before .before .before .before .before .before .before .before .before .before .pre .1 .1 .1 .0) }))
+unfolding start
+returns-3 c = let p = (let s : tie.Start = search start in s .pre) in (λ t i m. search failed, search (ready-alone, size-same))
 
 pub take-part-spec : {M : Type 1} → statement M
 take-part-spec =

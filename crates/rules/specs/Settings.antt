@@ -1,0 +1,69 @@
+-- The settings record: with one thing changed, with its size code capped, and legal.
+use mathlib.Core.Bool.{Bool, false, _&&_, cond}
+use mathlib.Core.List.{List, []}
+use mathlib.Core.Path.{_≡_}
+use Prim.Native.Nat.{ℕ, _≤_}
+use lib.Dec.{leb}
+use Rattle.protocol.specs.declared.Settings.{Settings}
+use Rattle.protocol.specs.Numbers.{highestSize}
+use Rattle.protocol.specs.Reader.{Reader, sizeOf}
+use Rattle.protocol.specs.Call.{fitPlain, fitTransfer}
+use Rattle.protocol.specs.Records.{readerOf}
+
+-- the one place that lists all fields
+abbrev pub record-of : List ℕ → List ℕ → ℕ → ℕ → ℕ → ℕ → ℕ → ℕ → Bool → Bool → Bool → Settings
+record-of p a l z b w k g v f h =
+    record { password = p; address = a; level = l; size = z; baud = b; transfer = w; sensor = k; got = g; verified = v; filled1 = f; filled2 = h }
+
+abbrev pub withMark : Bool → Settings → Settings
+withMark v s = record-of (s .password) (s .address) (s .level) (s .size) (s .baud) (s .transfer) (s .sensor) (s .got) v (s .filled1) (s .filled2)
+
+abbrev pub withPassword : List ℕ → Settings → Settings
+withPassword p s = record-of p (s .address) (s .level) (s .size) (s .baud) (s .transfer) (s .sensor) (s .got) false (s .filled1) (s .filled2)
+
+abbrev pub withAddress : List ℕ → Settings → Settings
+withAddress a s = record-of (s .password) a (s .level) (s .size) (s .baud) (s .transfer) (s .sensor) (s .got) (s .verified) (s .filled1) (s .filled2)
+
+abbrev pub withTuning : ℕ → ℕ → ℕ → Settings → Settings
+withTuning b l z s = record-of (s .password) (s .address) l z b (s .transfer) (s .sensor) (s .got) (s .verified) (s .filled1) (s .filled2)
+
+abbrev pub withTransfer : ℕ → ℕ → Settings → Settings
+withTransfer w g s = record-of (s .password) (s .address) (s .level) (s .size) (s .baud) w (s .sensor) g (s .verified) (s .filled1) (s .filled2)
+
+abbrev pub withFilled : Bool → Bool → Settings → Settings
+withFilled f h s = record-of (s .password) (s .address) (s .level) (s .size) (s .baud) (s .transfer) (s .sensor) (s .got) (s .verified) f h
+
+-- ---- the data bytes of a size code
+
+-- a code above the highest counts as the highest
+unfoldable pub cappedCode : ℕ → ℕ
+cappedCode code = cond (leb code highestSize) code highestSize
+
+abbrev pub capped : Settings → Settings
+capped s = withTuning (s .baud) (s .level) (cappedCode (s .size)) s
+
+-- the data bytes of the lowest code, and of the highest
+abbrev pub smallestSize : ℕ
+smallestSize = 32
+
+abbrev pub largestSize : ℕ
+largestSize = 128
+
+pub record SizeOf (code r : ℕ) : Type 0 where
+  pub is : r ≡ sizeOf (cappedCode code)
+  pub low : smallestSize ≤ r
+  pub high : r ≤ largestSize
+
+-- ---- legal settings
+
+-- of the lent memory only the filled marks count, and they are settings: so no memory is looked at
+unfoldable pub legalOf : Settings → Bool
+legalOf s =
+    let r : Reader = readerOf s [] [] [] [] [] in
+    fitPlain (r .plain) && fitTransfer (r .plain) (r .guarded) (r .plain .transfer)
+
+-- what legal settings say
+pub record Legal (s : Settings) : Type 0 where
+  pub size : s .size ≤ highestSize
+  pub which : s .transfer ≤ 2
+  pub none : s .transfer ≡ 0 → s .got ≡ 0
