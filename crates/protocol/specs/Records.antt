@@ -8,7 +8,7 @@ use Rattle.protocol.specs.declared.Switched.{Switched}
 use Rattle.protocol.specs.declared.Built.{Built}
 use Rattle.protocol.specs.Packet.{Made}
 use Rattle.protocol.specs.Reader.{Transfer, closed, opened, unfit, Plain, Buffer, Reader, settings, fresh, contents, reader}
-use Rattle.protocol.specs.Call.{Ended}
+use Rattle.protocol.specs.Call.{Lent, Ended}
 
 -- the transfer of the settings' two numbers: the buffer's, and the bytes got so far; none is 0 and 0
 unfoldable pub transferOf : ℕ → ℕ → Transfer
@@ -28,6 +28,10 @@ buffer b f = record { bytes = b; filled = f }
 -- settings, templates, index, notepad, both buffers
 abbrev pub readerOf : Settings → List ℕ → List ℕ → List ℕ → List ℕ → List ℕ → Reader
 readerOf s t i n b c = reader (plainOf s) (contents t i n (buffer b (s .filled1)) (buffer c (s .filled2)))
+
+-- what is lent anew at a call: the reply room
+abbrev pub lentOf : List ℕ → Lent
+lentOf room = record { room = room }
 
 -- what a call returned, and the lent memory and the reply room after it
 abbrev pub endedOf : Called → List ℕ → List ℕ → List ℕ → List ℕ → List ℕ → List ℕ → Ended

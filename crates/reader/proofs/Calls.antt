@@ -22,7 +22,7 @@ use Rattle.protocol.specs.Finder.{findOf, usedOf}
 use Rattle.protocol.specs.Reader.{Guarded, Reader, capacity}
 use Rattle.protocol.specs.Step.{nothing, hearAs, hearAt, hear, Said, silence, answer, stepOf}
 use Rattle.protocol.specs.Call.{core, fitLibrary, fitBuffers, fitLengths, fitRoom, sound, refusalOf, refused, carried, callAs, callOf}
-use Rattle.protocol.specs.Records.{readerOf}
+use Rattle.protocol.specs.Records.{readerOf, lentOf}
 use Rattle.protocol.proofs.Laws.Logic.{T→true, and-l, and-r}
 use Rattle.protocol.proofs.Laws.Lists.{lay-nothing}
 use Rattle.protocol.proofs.Laws.Finder.{Within, found-in, used-in, accepts-least, accepts-most, longest-word}
@@ -124,18 +124,18 @@ fit-says s t i n b c l m =
 
 -- ---- a call at each way out
 
-pub call-bad-length : (r : Reader) (s y : List ℕ) → fitLengths core (r .guarded) ≡ false → refused 1 r y ≡ callOf core r s y
+pub call-bad-length : (r : Reader) (s y : List ℕ) → fitLengths core (r .guarded) ≡ false → refused 1 r y ≡ callOf core r s (lentOf y)
 unfolding callOf callAs refusalOf verdict
 call-bad-length r s y l = rw l refl
 
-pub call-bad-room : (r : Reader) (s y : List ℕ) → fitLengths core (r .guarded) ≡ true → length y < 700 → refused 2 r y ≡ callOf core r s y
+pub call-bad-room : (r : Reader) (s y : List ℕ) → fitLengths core (r .guarded) ≡ true → length y < 700 → refused 2 r y ≡ callOf core r s (lentOf y)
 unfolding callOf callAs refusalOf verdict fitRoom
 call-bad-room r s y l h = rw (l, lt-leb 700 (length y) h) refl
 
-pub call-bad-setting : (r : Reader) (s y : List ℕ) → fitLengths core (r .guarded) ≡ true → 700 ≤ length y → sound r ≡ false → refused 3 r y ≡ callOf core r s y
+pub call-bad-setting : (r : Reader) (s y : List ℕ) → fitLengths core (r .guarded) ≡ true → 700 ≤ length y → sound r ≡ false → refused 3 r y ≡ callOf core r s (lentOf y)
 unfolding callOf callAs refusalOf verdict fitRoom
 call-bad-setting r s y l h k = rw (l, le-leb 700 (length y) h, k) refl
 
-pub call-goes : (r : Reader) (s y : List ℕ) → fitLengths core (r .guarded) ≡ true → 700 ≤ length y → sound r ≡ true → carried (stepOf r s) y ≡ callOf core r s y
+pub call-goes : (r : Reader) (s y : List ℕ) → fitLengths core (r .guarded) ≡ true → 700 ≤ length y → sound r ≡ true → carried (stepOf r s) y ≡ callOf core r s (lentOf y)
 unfolding callOf callAs refusalOf verdict fitRoom
 call-goes r s y l h k = rw (l, le-leb 700 (length y) h, k) refl

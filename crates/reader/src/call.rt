@@ -8,7 +8,7 @@ ghost use Rattle.protocol.specs.Bytes.{same};
 ghost use Rattle.protocol.specs.Packet.{addressAt, rightAt};
 ghost use Rattle.protocol.specs.Step.{hearAs, hearAt, answer};
 ghost use Rattle.protocol.specs.Call.{core, sound, callOf, switchOf};
-ghost use Rattle.protocol.specs.Records.{readerOf, endedOf, switchedOf};
+ghost use Rattle.protocol.specs.Records.{readerOf, lentOf, endedOf, switchedOf};
 ghost use Rattle.reader.specs.Answers.{saidOf, Ready};
 ghost use Rattle.reader.specs.Commands.{Fit};
 ghost use Rattle.rules.specs.Settings.{Legal};
@@ -188,7 +188,7 @@ pub fn step(
     run: &[u8],
     reply: &mut [u8],
 ) -> Called
-    ensures { λ r. ⌜ endedOf r (now (templates .exit)) (now (index .exit)) (now (notepad .exit)) (now (buffer1 .exit)) (now (buffer2 .exit)) (now (reply .exit)) ≡ callOf core (readerOf settings (now (templates .entry)) (now (index .entry)) (now (notepad .entry)) (now (buffer1 .entry)) (now (buffer2 .entry))) (now (run .entry)) (now (reply .entry)) ⌝ }
+    ensures { λ r. ⌜ endedOf r (now (templates .exit)) (now (index .exit)) (now (notepad .exit)) (now (buffer1 .exit)) (now (buffer2 .exit)) (now (reply .exit)) ≡ callOf core (readerOf settings (now (templates .entry)) (now (index .entry)) (now (notepad .entry)) (now (buffer1 .entry)) (now (buffer2 .entry))) (now (run .entry)) (lentOf (now (reply .entry))) ⌝ }
 {
     let fit = is_fit(
         templates.len(),

@@ -16,7 +16,7 @@ use Rattle.protocol.proofs.Found.{the-type}
 use Rattle.protocol.specs.Finder.{findOf, usedOf}
 use Rattle.protocol.specs.Step.{hearAt, answer}
 use Rattle.protocol.specs.Call.{core, fitLengths, sound, refused, Ended, callOf}
-use Rattle.protocol.specs.Records.{readerOf, endedOf}
+use Rattle.protocol.specs.Records.{readerOf, lentOf, endedOf}
 use Rattle.protocol.proofs.Laws.Logic.{not-true, not-false}
 use Rattle.reader.specs.Commands.{Fit}
 use Rattle.rules.specs.Settings.{Legal}
@@ -31,30 +31,30 @@ module _ (s : Settings) (t i m b d : List ℕ) (fit : Bool) (l : fit ≡ lengths
   are z e = lengths-are (readerOf s t i m b d .guarded) ∙ sym l ∙ e
 
   module _ (x y : List ℕ) (r : Called) where
-    bad-length : r ≡ called 1 0 0 s → not fit ≡ true → endedOf r t i m b d y ≡ callOf core (readerOf s t i m b d) x y
+    bad-length : r ≡ called 1 0 0 s → not fit ≡ true → endedOf r t i m b d y ≡ callOf core (readerOf s t i m b d) x (lentOf y)
     unfolding refused
     bad-length e f = rw e (call-bad-length (readerOf s t i m b d) x y (are false (not-true fit f)))
 
-    bad-room : r ≡ called 2 0 0 s → not fit ≡ false → length y < 700 → endedOf r t i m b d y ≡ callOf core (readerOf s t i m b d) x y
+    bad-room : r ≡ called 2 0 0 s → not fit ≡ false → length y < 700 → endedOf r t i m b d y ≡ callOf core (readerOf s t i m b d) x (lentOf y)
     unfolding refused
     bad-room e f h = rw e (call-bad-room (readerOf s t i m b d) x y (are true (not-false fit f)) h)
 
   module _ (f : not fit ≡ false) (legal : Bool) (k : legal ≡ sound (readerOf s t i m b d)) where
     module _ (x y : List ℕ) (h : 700 ≤ length y) where
-      bad-setting : (r : Called) → r ≡ called 3 0 0 s → not legal ≡ true → endedOf r t i m b d y ≡ callOf core (readerOf s t i m b d) x y
+      bad-setting : (r : Called) → r ≡ called 3 0 0 s → not legal ≡ true → endedOf r t i m b d y ≡ callOf core (readerOf s t i m b d) x (lentOf y)
       unfolding refused
       bad-setting r e g = rw e (call-bad-setting (readerOf s t i m b d) x y (are true (not-false fit f)) h (sym k ∙ not-true legal g))
 
       module _ (g : not legal ≡ false) (o : Found) (w : o ≡ findOf x) where
         silent : (r : Called) (u : ℕ) → r ≡ called 0 u 0 s → u ≡ usedOf o % 18446744073709551616 → OneOf (0 ∷ 1 ∷ 2 ∷ []) (tagOf the-type o) → length x < 18446744073709551616
-            → endedOf r t i m b d y ≡ callOf core (readerOf s t i m b d) x y
+            → endedOf r t i m b d y ≡ callOf core (readerOf s t i m b d) x (lentOf y)
         silent r u e v n z =
             rw (e, v)
             (step-silent (readerOf s t i m b d) x y o w z (unheard (s .address) x o n)
             ∙ call-goes (readerOf s t i m b d) x y (are true (not-false fit f)) h (sym k ∙ not-false legal g))
 
         heard : (e : Ended) (at len : ℕ) → o ≡ Whole at len → e ≡ carriedOf (at + 9 + len) (answer (readerOf s t i m b d) (hearAt (s .address) x (Whole at len))) y
-            → e ≡ callOf core (readerOf s t i m b d) x y
+            → e ≡ callOf core (readerOf s t i m b d) x (lentOf y)
         heard e at len n v =
             v ∙ step-whole (readerOf s t i m b d) x y at len (sym w ∙ n)
             ∙ call-goes (readerOf s t i m b d) x y (are true (not-false fit f)) h (sym k ∙ not-false legal g)
