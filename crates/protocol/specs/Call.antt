@@ -25,13 +25,18 @@ pub record Shape : Type 0 where
 unfoldable pub core : Shape
 core = record { least = leastPages; most = mostPages; indexed = indexBytes; noted = notepadBytes }
 
+-- the lent lengths as numbers: of c pages the templates, the index and the notepad; and both buffers
+abbrev pub libraryFits : Shape → ℕ → ℕ → ℕ → ℕ → Bool
+libraryFits σ c t i n = eqb t (pageBytes * c) && within (σ .least) c (σ .most) && eqb i (σ .indexed) && eqb n (σ .noted)
+
+abbrev pub buffersFit : ℕ → ℕ → Bool
+buffersFit b d = eqb b pageBytes && eqb d pageBytes
+
 unfoldable pub fitLibrary : Shape → Guarded → Bool
-fitLibrary σ g =
-    let c = capacity g in
-    eqb (length (g .templates)) (pageBytes * c) && within (σ .least) c (σ .most) && eqb (length (g .index)) (σ .indexed) && eqb (length (g .notepad)) (σ .noted)
+fitLibrary σ g = libraryFits σ (capacity g) (length (g .templates)) (length (g .index)) (length (g .notepad))
 
 unfoldable pub fitBuffers : Guarded → Bool
-fitBuffers g = eqb (length (g .buffer1 .bytes)) pageBytes && eqb (length (g .buffer2 .bytes)) pageBytes
+fitBuffers g = buffersFit (length (g .buffer1 .bytes)) (length (g .buffer2 .bytes))
 
 -- 1: a lent length, the reply room's apart
 unfoldable pub fitLengths : Shape → Guarded → Bool

@@ -14,6 +14,7 @@ use Rattle.protocol.specs.declared.Found.the-variants.{Noise, Unfinished, Unfit
 use Rattle.protocol.proofs.Found.{the-type}
 use denote.Enum.Declared.{tagOf}
 use types.Run.{OneOf}
+use Rattle.protocol.specs.Numbers.{pageBytes, replyRoom, headBytes}
 use Rattle.protocol.specs.Bytes.{same}
 use Rattle.protocol.specs.Tests.{within, verdict}
 use Rattle.protocol.specs.Index.{clearFrom}
@@ -22,21 +23,21 @@ use Rattle.protocol.specs.Finder.{findOf, usedOf}
 use Rattle.protocol.specs.Reader.{Guarded, Reader, capacity}
 use Rattle.protocol.specs.Step.{nothing, hearAs, hearAt, hear, Said, silence, answer, stepOf}
 use Rattle.protocol.specs.Call.{core, fitLibrary, fitBuffers, fitLengths, fitRoom, sound, refusalOf, refused, carried, callAs, callOf}
-use Rattle.protocol.specs.Records.{readerOf, lentOf}
+use Rattle.protocol.specs.Records.{lentOf}
 use Rattle.protocol.proofs.Laws.Logic.{T→true, and-l, and-r}
 use Rattle.protocol.proofs.Laws.Lists.{lay-nothing}
 use Rattle.protocol.proofs.Laws.Finder.{Within, found-in, used-in, accepts-least, accepts-most, longest-word}
 use Rattle.reader.specs.Commands.{Fit}
-use Rattle.reader.specs.Calls.{lengthsOf, carriedOf}
+use Rattle.reader.specs.Calls.{Lies, lengthsFit, carriedOf}
 use Rattle.rules.specs.Settings.{legalOf, Legal}
-use Rattle.rules.proofs.Transfers.{sound-legal, legal-says}
+use Rattle.rules.proofs.Transfers.{legal-says}
 
 -- ---- a whole packet
 
 pub hear-ours : (a s : List ℕ) (p n : ℕ) (right : Bool) → same (addressAt s p) a ≡ true → right ≡ rightAt s p n
-    → hearAs (identifierAt s p) right (take (p + 9 + (n - 2) - (p + 9)) (drop (p + 9) s)) ≡ hearAt a s (Whole p n)
+    → hearAs (identifierAt s p) right (take (p + headBytes + (n - 2) - (p + headBytes)) (drop (p + headBytes) s)) ≡ hearAt a s (Whole p n)
 unfolding hearAt
-hear-ours a s p n right e f = let k : p + 9 + (n - 2) - (p + 9) ≡ n - 2 = omega arith in rw (k, e, f) refl
+hear-ours a s p n right e f = let k : p + headBytes + (n - 2) - (p + headBytes) ≡ n - 2 = omega arith in rw (k, e, f) refl
 
 -- another's
 pub hear-other : (a s : List ℕ) (p n : ℕ) → same (addressAt s p) a ≡ false → hearAt a s (Whole p n) ≡ nothing
@@ -71,16 +72,11 @@ step-silent r s y f e h n =
     ∙ ap (λ (x : Said). carriedOf (usedOf f) x y) (ap (answer r) (sym n))
     ∙ ap (λ (g : Found). carriedOf (usedOf g) (answer r (hearAt (r .plain .address) s g)) y) e
 
-pub step-whole : (r : Reader) (s y : List ℕ) (p n : ℕ) → findOf s ≡ Whole p n → carriedOf (p + 9 + n) (answer r (hearAt (r .plain .address) s (Whole p n))) y ≡ carried (stepOf r s) y
+pub step-whole : (r : Reader) (s y : List ℕ) (p n : ℕ) → findOf s ≡ Whole p n → carriedOf (p + headBytes + n) (answer r (hearAt (r .plain .address) s (Whole p n))) y ≡ carried (stepOf r s) y
 unfolding stepOf hear usedOf
 step-whole r s y p n e = sym (ap (λ (f : Found). carriedOf (usedOf f) (answer r (hearAt (r .plain .address) s f)) y) e)
 
 -- it lies within its run
-pub record Lies (s : List ℕ) (p n : ℕ) : Type 0 where
-  pub inside : p + 9 + n ≤ length s
-  pub low : 3 ≤ n
-  pub high : n ≤ 65535
-
 pub whole-lies : (s : List ℕ) (p n : ℕ) → findOf s ≡ Whole p n → Lies s p n
 whole-lies s p n e =
     let w : Within s (Whole p n) = subst (Within s) e (found-in s) in
@@ -88,39 +84,27 @@ whole-lies s p n e =
 
 -- ---- what passed refusals say
 
-pub lengths-are : (g : Guarded) → fitLengths core g ≡ lengthsOf (length (g .templates)) (length (g .index)) (length (g .notepad)) (length (g .buffer1 .bytes)) (length (g .buffer2 .bytes))
-unfolding fitLengths fitLibrary fitBuffers capacity lengthsOf
+pub lengths-are : (g : Guarded) → fitLengths core g ≡ lengthsFit (length (g .templates)) (length (g .index)) (length (g .notepad)) (length (g .buffer1 .bytes)) (length (g .buffer2 .bytes))
+unfolding fitLengths fitLibrary fitBuffers capacity lengthsFit
 lengths-are g = refl
 
-pub record Lengths (t i n b c : List ℕ) : Type 0 where
-  pub pages : length t ≡ 512 * (length t / 512)
-  pub within : length t / 512 ≤ 256
-  pub index : length i ≡ 32
-  pub notepad : length n ≡ 512
-  pub buffer1 : length b ≡ 512
-  pub buffer2 : length c ≡ 512
-
-pub lengths-say : (t i n b c : List ℕ) → lengthsOf (length t) (length i) (length n) (length b) (length c) ≡ true → Lengths t i n b c
-unfolding lengthsOf within core
-lengths-say t i n b c e =
-    let h : T (lengthsOf (length t) (length i) (length n) (length b) (length c)) = rw e tt in
+pub fit-says : (s : Settings) (t i n b c : List ℕ) → lengthsFit (length t) (length i) (length n) (length b) (length c) ≡ true → Legal s → Fit s t i n b c
+unfolding lengthsFit within
+fit-says s t i n b c e m =
+    let h : T (lengthsFit (length t) (length i) (length n) (length b) (length c)) = rw e tt in
     record {
-      pages = eqb→eq (length t) (512 * (length t / 512)) (search (and-l, and-r) depth 9);
-      within = leb→le (length t / 512) 256 (search (and-l, and-r) depth 9);
-      index = eqb→eq (length i) 32 (search (and-l, and-r) depth 9);
-      notepad = eqb→eq (length n) 512 (search (and-l, and-r) depth 9);
-      buffer1 = eqb→eq (length b) 512 (search (and-l, and-r) depth 9);
-      buffer2 = eqb→eq (length c) 512 (search (and-l, and-r) depth 9);
+      pages = eqb→eq (length t) (pageBytes * (length t / pageBytes)) (search (and-l, and-r) depth 9);
+      within = leb→le (length t / pageBytes) (core .most) (search (and-l, and-r) depth 9);
+      index = eqb→eq (length i) (core .indexed) (search (and-l, and-r) depth 9);
+      notepad = eqb→eq (length n) (core .noted) (search (and-l, and-r) depth 9);
+      buffer1 = eqb→eq (length b) pageBytes (search (and-l, and-r) depth 9);
+      buffer2 = eqb→eq (length c) pageBytes (search (and-l, and-r) depth 9);
+      size = m .size;
     }
 
-pub sound-says : (s : Settings) (t i n b c : List ℕ) → sound (readerOf s t i n b c) ≡ true → Legal s
-sound-says s t i n b c e =
-    let h : T (legalOf s && clearFrom i (length t / 512)) = rw (← sound-legal s t i n b c, e) tt in
-    legal-says s (T→true (legalOf s) (search and-l))
-
-pub fit-says : (s : Settings) (t i n b c : List ℕ) → Lengths t i n b c → Legal s → Fit s t i n b c
-fit-says s t i n b c l m =
-    record { pages = l .pages; within = l .within; index = l .index; notepad = l .notepad; buffer1 = l .buffer1; buffer2 = l .buffer2; size = m .size }
+-- refusal 3 as the code asks for it: the settings, and the index bits from C on
+pub legal-passed : (s : Settings) (i : List ℕ) (n : ℕ) → (legalOf s && clearFrom i n) ≡ true → Legal s
+legal-passed s i n e = let h : T (legalOf s && clearFrom i n) = rw e tt in legal-says s (T→true (legalOf s) (search and-l))
 
 -- ---- a call at each way out
 
@@ -128,14 +112,14 @@ pub call-bad-length : (r : Reader) (s y : List ℕ) → fitLengths core (r .guar
 unfolding callOf callAs refusalOf verdict
 call-bad-length r s y l = rw l refl
 
-pub call-bad-room : (r : Reader) (s y : List ℕ) → fitLengths core (r .guarded) ≡ true → length y < 700 → refused 2 r y ≡ callOf core r s (lentOf y)
+pub call-bad-room : (r : Reader) (s y : List ℕ) → fitLengths core (r .guarded) ≡ true → length y < replyRoom → refused 2 r y ≡ callOf core r s (lentOf y)
 unfolding callOf callAs refusalOf verdict fitRoom
-call-bad-room r s y l h = rw (l, lt-leb 700 (length y) h) refl
+call-bad-room r s y l h = rw (l, lt-leb replyRoom (length y) h) refl
 
-pub call-bad-setting : (r : Reader) (s y : List ℕ) → fitLengths core (r .guarded) ≡ true → 700 ≤ length y → sound r ≡ false → refused 3 r y ≡ callOf core r s (lentOf y)
+pub call-bad-setting : (r : Reader) (s y : List ℕ) → fitLengths core (r .guarded) ≡ true → replyRoom ≤ length y → sound r ≡ false → refused 3 r y ≡ callOf core r s (lentOf y)
 unfolding callOf callAs refusalOf verdict fitRoom
-call-bad-setting r s y l h k = rw (l, le-leb 700 (length y) h, k) refl
+call-bad-setting r s y l h k = rw (l, le-leb replyRoom (length y) h, k) refl
 
-pub call-goes : (r : Reader) (s y : List ℕ) → fitLengths core (r .guarded) ≡ true → 700 ≤ length y → sound r ≡ true → carried (stepOf r s) y ≡ callOf core r s (lentOf y)
+pub call-goes : (r : Reader) (s y : List ℕ) → fitLengths core (r .guarded) ≡ true → replyRoom ≤ length y → sound r ≡ true → carried (stepOf r s) y ≡ callOf core r s (lentOf y)
 unfolding callOf callAs refusalOf verdict fitRoom
-call-goes r s y l h k = rw (l, le-leb 700 (length y) h, k) refl
+call-goes r s y l h k = rw (l, le-leb replyRoom (length y) h, k) refl

@@ -13,15 +13,26 @@ use Rattle.protocol.specs.Step.{Said}
 use Rattle.protocol.specs.Records.{readerOf}
 use Rattle.reader.specs.declared.answers.Answer.{Answer}
 
+-- the most bytes that an acknowledge has behind its code
+abbrev pub answerBytes : ℕ
+answerBytes = 32
+
+-- the longest content of a packet, and the longest data packets of a buffer: sixteen of 32 bytes
+abbrev pub mostContent : ℕ
+mostContent = 254
+
+abbrev pub dataRoom : ℕ
+dataRoom = 688
+
 abbrev pub answerOf : Bool → ℕ → ℕ → List ℕ → ℕ → Settings → Answer
 answerOf speaks code count bytes upload s = record { speaks = speaks; code = code; count = count; bytes = bytes; upload = upload; settings = s }
 
 -- a code alone; nothing at all
 abbrev pub codeAlone : ℕ → Settings → Answer
-codeAlone code s = answerOf true code 0 (zeros 32) 0 s
+codeAlone code s = answerOf true code 0 (zeros answerBytes) 0 s
 
 abbrev pub nothingSaid : Settings → Answer
-nothingSaid s = answerOf false 0 0 (zeros 32) 0 s
+nothingSaid s = answerOf false 0 0 (zeros answerBytes) 0 s
 
 -- the data packets of the buffer that is sent: none, buffer 1, buffer 2
 unfoldable pub sent : ℕ → Settings → List ℕ → List ℕ → List ℕ
@@ -39,5 +50,5 @@ saidOf a t i n b c = record { reply = spokenOf a b c; after = readerOf (a .setti
 
 -- an answer that fits the reply room: bytes or a buffer, and not both
 pub record Ready (a : Answer) : Type 0 where
-  pub few : a .count ≤ cond (eqb (a .upload) 0) 32 0
+  pub few : a .count ≤ cond (eqb (a .upload) 0) answerBytes 0
   pub size : a .settings .size ≤ highestSize

@@ -1,15 +1,34 @@
 -- What a call's functions need and return.
 use mathlib.Core.Bool.{Bool, _&&_}
 use mathlib.Core.List.{List}
-use Prim.Native.Nat.{ℕ, _*_, _/_}
-use lib.Dec.{eqb}
-use Rattle.protocol.specs.Numbers.{pageBytes}
-use Rattle.protocol.specs.Tests.{within}
+use Prim.Native.Nat.{ℕ, _+_, _/_, _≤_}
+use lib.ListN.{length}
+use Rattle.protocol.specs.Numbers.{pageBytes, replyRoom, headBytes, shortest}
 use Rattle.protocol.specs.Step.{Said}
-use Rattle.protocol.specs.Call.{core, Ended, carried}
+use Rattle.protocol.specs.Call.{core, libraryFits, buffersFit, Ended, carried}
 use Rattle.protocol.specs.declared.Settings.{Settings}
 use Rattle.protocol.specs.declared.Called.{Called}
 use Rattle.protocol.specs.declared.Switched.{Switched}
+use Rattle.rules.specs.Settings.{Legal}
+use Rattle.reader.specs.Commands.{Fit, CommandNeeds}
+
+-- a whole packet at p, with length field n, lies within its run
+pub record Lies (s : List ℕ) (p n : ℕ) : Type 0 where
+  pub inside : p + headBytes + n ≤ length s
+  pub low : shortest ≤ n
+  pub high : n ≤ 65535
+
+-- what `act` needs: a legal reader, and a packet's content
+pub record ActNeeds (s : Settings) (t i n b c x : List ℕ) : Type 0 where
+  pub commands : CommandNeeds s t i n b c x
+  pub legal : Legal s
+
+-- what `hear_packet` needs: a legal reader, a whole packet in its run, and a reply room
+pub record HearNeeds (s : Settings) (t i n b c x : List ℕ) (at len : ℕ) (y : List ℕ) : Type 0 where
+  pub fit : Fit s t i n b c
+  pub legal : Legal s
+  pub whole : Lies x at len
+  pub room : replyRoom ≤ length y
 
 abbrev pub called : ℕ → ℕ → ℕ → Settings → Called
 called refusal used length s = record { settings = s; refusal = refusal; used = used; length = length }
@@ -18,10 +37,8 @@ abbrev pub switched : ℕ → Settings → Switched
 switched refusal s = record { settings = s; refusal = refusal }
 
 -- the lent lengths (refusal 1): templates, index, notepad, both buffers
-unfoldable pub lengthsOf : ℕ → ℕ → ℕ → ℕ → ℕ → Bool
-lengthsOf t i n b c =
-    (eqb t (pageBytes * (t / pageBytes)) && within (core .least) (t / pageBytes) (core .most) && eqb i (core .indexed) && eqb n (core .noted))
-    && (eqb b pageBytes && eqb c pageBytes)
+unfoldable pub lengthsFit : ℕ → ℕ → ℕ → ℕ → ℕ → Bool
+lengthsFit t i n b c = libraryFits core (t / pageBytes) t i n && buffersFit b c
 
 -- an answer carried into the reply room, with the bytes used
 abbrev pub carriedOf : ℕ → Said → List ℕ → Ended

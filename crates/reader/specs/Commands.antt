@@ -4,21 +4,35 @@ use mathlib.Core.Path.{_≡_}
 use Prim.Native.Nat.{ℕ, _*_, _/_, _≤_}
 use lib.ListN.{length}
 use Rattle.protocol.specs.declared.Settings.{Settings}
-use Rattle.protocol.specs.Numbers.{highestSize}
+use Rattle.protocol.specs.Numbers.{pageBytes, highestSize}
+use Rattle.protocol.specs.Packet.{lengthOf}
+use Rattle.protocol.specs.Call.{core}
 use Rattle.protocol.specs.Commands.{Free, Barred}
 use Rattle.protocol.specs.Table.{rule, freeRule, publicOf}
 use Rattle.protocol.specs.Step.{Said, carry, carryFree}
-use Rattle.protocol.specs.Records.{readerOf}
+use Rattle.protocol.specs.Records.{plainOf, readerOf}
+use Rattle.rules.specs.Commands.{Admitted}
 
 -- the facts that refusals 1 to 3 leave, as the commands use them
 pub record Fit (s : Settings) (t i n b c : List ℕ) : Type 0 where
-  pub pages : length t ≡ 512 * (length t / 512)
-  pub within : length t / 512 ≤ 256
-  pub index : length i ≡ 32
-  pub notepad : length n ≡ 512
-  pub buffer1 : length b ≡ 512
-  pub buffer2 : length c ≡ 512
+  pub pages : length t ≡ pageBytes * (length t / pageBytes)
+  pub within : length t / pageBytes ≤ core .most
+  pub index : length i ≡ core .indexed
+  pub notepad : length n ≡ core .noted
+  pub buffer1 : length b ≡ pageBytes
+  pub buffer2 : length c ≡ pageBytes
   pub size : s .size ≤ highestSize
+
+-- what `command` needs: fit memory, and a content of a code at least, no longer than a length field says
+pub record CommandNeeds (s : Settings) (t i n b c x : List ℕ) : Type 0 where
+  pub fit : Fit s t i n b c
+  pub some : 1 ≤ length x
+  pub high : length x ≤ 65535
+
+-- what `row` needs: fit memory, and a code that the gate lets pass
+pub record RowNeeds (code : ℕ) (s : Settings) (t i n b c x : List ℕ) : Type 0 where
+  pub fit : Fit s t i n b c
+  pub admits : Admitted code (lengthOf x) (plainOf s)
 
 -- a barred command of a reader that is not locked, and a free one, by the table of the definitions
 abbrev pub obeyed : Settings → List ℕ → List ℕ → List ℕ → List ℕ → List ℕ → Barred → Said

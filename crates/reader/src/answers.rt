@@ -2,7 +2,7 @@
 ghost use mathlib.Core.Path.{_≡_};
 ghost use mathlib.Core.Bool.{true, false};
 ghost use Rattle.protocol.specs.Bytes.{zeros};
-ghost use Rattle.reader.specs.Answers.{answerOf, codeAlone, nothingSaid};
+ghost use Rattle.reader.specs.Answers.{answerOf, codeAlone, nothingSaid, answerBytes};
 use protocol::Settings;
 use protocol::codes;
 
@@ -60,7 +60,7 @@ pub(crate) fn listed(bytes: [u8; 32], count: usize, settings: Settings) -> Answe
 
 // 00h, and a buffer behind the acknowledge.
 pub(crate) fn sending(upload: u8, settings: Settings) -> Answer
-    ensures { λ r. ⌜ r ≡ answerOf true 0 0 (zeros 32) upload settings ⌝ }
+    ensures { λ r. ⌜ r ≡ answerOf true 0 0 (zeros answerBytes) upload settings ⌝ }
 {
     Answer {
         speaks: true,

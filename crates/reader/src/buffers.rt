@@ -3,7 +3,7 @@ ghost use mathlib.Core.Path.{_≡_};
 ghost use mathlib.Core.List.{List};
 ghost use Prim.Native.Nat.{ℕ, _≤_};
 ghost use lib.ListN.{length};
-ghost use Rattle.protocol.specs.Numbers.{highestSize};
+ghost use Rattle.protocol.specs.Numbers.{pageBytes, highestSize};
 ghost use Rattle.protocol.specs.Commands.{upChar, downChar};
 ghost use Rattle.reader.specs.Answers.{saidOf, Ready};
 ghost use Rattle.reader.specs.Commands.{obeyed};
@@ -36,7 +36,7 @@ pub(crate) fn up_char(settings: Settings, n: u8) -> Answer
 
 // DownChar (buffer).
 pub(crate) fn down_char(settings: Settings, buffer1: &mut [u8], buffer2: &mut [u8], n: u8) -> Answer
-    requires { ⌜ (length (now buffer1) ≡ 512) × ((length (now buffer2) ≡ 512) × (settings .size ≤ highestSize)) ⌝ }
+    requires { ⌜ (length (now buffer1) ≡ pageBytes) × ((length (now buffer2) ≡ pageBytes) × (settings .size ≤ highestSize)) ⌝ }
     ensures { λ r. ⌜ ((t i m : List ℕ) → saidOf r t i m (now (buffer1 .exit)) (now (buffer2 .exit)) ≡ obeyed settings t i m (now (buffer1 .entry)) (now (buffer2 .entry)) (downChar n)) × Ready r ⌝ }
 {
     let known = stored::is_buffer(n);

@@ -1,18 +1,20 @@
 // A whole call of the reader, and the line switch.
 ghost use mathlib.Core.Path.{_≡_};
+ghost use mathlib.Core.Bool.{_&&_};
 ghost use mathlib.Core.List.{List};
-ghost use Prim.Native.Nat.{ℕ, _+_, _-_, _/_, _≤_};
+ghost use Prim.Native.Nat.{ℕ, _+_, _≤_};
 ghost use lib.ListN.{length};
 ghost use Rattle.protocol.specs.declared.Found.the-variants.{Whole};
+ghost use Rattle.protocol.specs.Numbers.{headBytes};
 ghost use Rattle.protocol.specs.Bytes.{same};
+ghost use Rattle.protocol.specs.Index.{clearFrom};
 ghost use Rattle.protocol.specs.Packet.{addressAt, rightAt};
 ghost use Rattle.protocol.specs.Step.{hearAs, hearAt, answer};
-ghost use Rattle.protocol.specs.Call.{core, sound, callOf, switchOf};
+ghost use Rattle.protocol.specs.Call.{core, callOf, switchOf};
 ghost use Rattle.protocol.specs.Records.{readerOf, lentOf, endedOf, switchedOf};
 ghost use Rattle.reader.specs.Answers.{saidOf, Ready};
-ghost use Rattle.reader.specs.Commands.{Fit};
-ghost use Rattle.rules.specs.Settings.{Legal};
-ghost use Rattle.reader.specs.Calls.{called, switched, lengthsOf, carriedOf};
+ghost use Rattle.rules.specs.Settings.{legalOf};
+ghost use Rattle.reader.specs.Calls.{Lies, ActNeeds, HearNeeds, called, switched, lengthsFit, carriedOf};
 use crate::answers;
 use crate::answers::Answer;
 use crate::bytes;
@@ -43,7 +45,7 @@ pub(crate) fn act(
     identifier: u8,
     right: bool,
 ) -> Answer
-    requires { ⌜ Fit settings (now templates) (now index) (now notepad) (now buffer1) (now buffer2) × (Legal settings × ((1 ≤ length (now content)) × (length (now content) ≤ 65535))) ⌝ }
+    requires { ⌜ ActNeeds settings (now templates) (now index) (now notepad) (now buffer1) (now buffer2) (now content) ⌝ }
     ensures { λ r. ⌜ (saidOf r (now (templates .exit)) (now (index .exit)) (now (notepad .exit)) (now (buffer1 .exit)) (now (buffer2 .exit)) ≡ answer (readerOf settings (now (templates .entry)) (now (index .entry)) (now (notepad .entry)) (now (buffer1 .entry)) (now (buffer2 .entry))) (hearAs identifier right (now (content .entry)))) × Ready r ⌝ }
 {
     if identifier == numbers::COMMAND_PACKET {
@@ -78,7 +80,7 @@ fn is_ours(settings: Settings, run: &[u8], at: usize) -> bool
 
 // Whether a packet's sum is right.
 fn is_right(run: &[u8], at: usize, len: usize) -> bool
-    requires { ⌜ (at + 9 + len ≤ length (now run)) × ((3 ≤ len) × (len ≤ 65535)) ⌝ }
+    requires { ⌜ Lies (now run) at len ⌝ }
     ensures { λ r. ⌜ r ≡ rightAt (now (run .entry)) at len ⌝ }
 {
     let from = at + numbers::HEAD;
@@ -112,8 +114,8 @@ pub(crate) fn hear_packet(
     len: usize,
     reply: &mut [u8],
 ) -> Called
-    requires { ⌜ Fit settings (now templates) (now index) (now notepad) (now buffer1) (now buffer2) × (Legal settings × ((at + 9 + len ≤ length (now run)) × ((3 ≤ len) × ((len ≤ 65535) × (700 ≤ length (now reply)))))) ⌝ }
-    ensures { λ r. ⌜ endedOf r (now (templates .exit)) (now (index .exit)) (now (notepad .exit)) (now (buffer1 .exit)) (now (buffer2 .exit)) (now (reply .exit)) ≡ carriedOf (at + 9 + len) (answer (readerOf settings (now (templates .entry)) (now (index .entry)) (now (notepad .entry)) (now (buffer1 .entry)) (now (buffer2 .entry))) (hearAt (settings .address) (now (run .entry)) (Whole at len))) (now (reply .entry)) ⌝ }
+    requires { ⌜ HearNeeds settings (now templates) (now index) (now notepad) (now buffer1) (now buffer2) (now run) at len (now reply) ⌝ }
+    ensures { λ r. ⌜ endedOf r (now (templates .exit)) (now (index .exit)) (now (notepad .exit)) (now (buffer1 .exit)) (now (buffer2 .exit)) (now (reply .exit)) ≡ carriedOf (at + headBytes + len) (answer (readerOf settings (now (templates .entry)) (now (index .entry)) (now (notepad .entry)) (now (buffer1 .entry)) (now (buffer2 .entry))) (hearAt (settings .address) (now (run .entry)) (Whole at len))) (now (reply .entry)) ⌝ }
 {
     let used = at + numbers::HEAD + len;
     let ours = is_ours(settings, run, at);
@@ -142,7 +144,7 @@ pub(crate) fn hear_packet(
 
 // Whether the lent lengths are right, the reply room's apart (refusal 1).
 fn is_fit(t: usize, i: usize, n: usize, b: usize, c: usize) -> bool
-    ensures { λ r. ⌜ r ≡ lengthsOf t i n b c ⌝ }
+    ensures { λ r. ⌜ r ≡ lengthsFit t i n b c ⌝ }
 {
     let pages = t / numbers::PAGE;
     if t != numbers::PAGE * pages {
@@ -168,7 +170,7 @@ fn is_fit(t: usize, i: usize, n: usize, b: usize, c: usize) -> bool
 
 // Whether settings, transfer and index bits are legal (refusal 3).
 pub(crate) fn is_sound(settings: Settings, index: &[u8], pages: usize) -> bool
-    ensures { λ r. ⌜ ((t n b c : List ℕ) → length t / 512 ≡ pages → r ≡ sound (readerOf settings t (now (index .entry)) n b c)) ⌝ }
+    ensures { λ r. ⌜ r ≡ (legalOf settings && clearFrom (now (index .entry)) pages) ⌝ }
 {
     let legal = settings::is_legal(settings);
     if !legal {

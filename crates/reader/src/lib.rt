@@ -1,12 +1,12 @@
 // The reader: sixteen commands on lent memory, transfers, the step and the line switch.
-pub mod answers;
-pub mod buffers;
-pub mod bytes;
+mod answers;
+mod buffers;
+mod bytes;
 pub mod call;
-pub mod keys;
-pub mod notes;
-pub mod parameters;
-pub mod reply;
-pub mod stored;
-pub mod table;
-pub mod transfer;
+mod keys;
+mod notes;
+mod parameters;
+mod reply;
+mod stored;
+mod table;
+mod transfer;

@@ -4,7 +4,7 @@ ghost use mathlib.Core.Bool.{cond};
 ghost use mathlib.Core.List.{List, [], _∷_};
 ghost use Prim.Native.Nat.{ℕ, _/_, _≤_, _<_};
 ghost use lib.ListN.{length, take};
-ghost use Rattle.protocol.specs.Numbers.{highestSize};
+ghost use Rattle.protocol.specs.Numbers.{pageBytes, highestSize};
 ghost use Rattle.protocol.specs.Bytes.{two, joined};
 ghost use Rattle.protocol.specs.Commands.{setSysPara, readSysPara};
 ghost use Rattle.reader.specs.Answers.{saidOf, Ready};
@@ -118,7 +118,7 @@ fn parameter_bytes(
 // ReadSysPara.
 pub(crate) fn read_parameters(settings: Settings, pages: usize) -> Answer
     requires { ⌜ settings .size ≤ highestSize ⌝ }
-    ensures { λ r. ⌜ ((t i m b c : List ℕ) → length t / 512 ≡ pages → saidOf r t i m b c ≡ obeyed settings t i m b c readSysPara) × Ready r ⌝ }
+    ensures { λ r. ⌜ ((t i m b c : List ℕ) → length t / pageBytes ≡ pages → saidOf r t i m b c ≡ obeyed settings t i m b c readSysPara) × Ready r ⌝ }
 {
     let s = status(settings.verified);
     let k = settings.sensor as usize;

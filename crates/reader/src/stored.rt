@@ -6,7 +6,7 @@ ghost use mathlib.Core.List.{List};
 ghost use Prim.Native.Nat.{ℕ, _*_, _/_, _%_, _≤_, _<_};
 ghost use lib.Dec.{eqb};
 ghost use lib.ListN.{length};
-ghost use Rattle.protocol.specs.Numbers.{highestSize};
+ghost use Rattle.protocol.specs.Numbers.{pageBytes, highestSize};
 ghost use Rattle.protocol.specs.Bytes.{lay};
 ghost use Rattle.protocol.specs.Index.{setBit};
 ghost use Rattle.protocol.specs.Table.{isBuffer};
@@ -48,8 +48,8 @@ fn store_now<'a>(
     n: u8,
     page: usize,
 )
-    requires { ⌜ (length (now b) ≡ 512) × ((length (now c) ≡ 512) × (page < length (now templates) / 512)) ⌝ }
-    ensures { λ _. ⌜ (now (templates .exit) ≡ lay (512 * page) (cond (eqb n 2) (now (c .entry)) (now (b .entry))) (now (templates .entry))) × (now (index .exit) ≡ setBit (now (index .entry)) page) ⌝ }
+    requires { ⌜ (length (now b) ≡ pageBytes) × ((length (now c) ≡ pageBytes) × (page < length (now templates) / pageBytes)) ⌝ }
+    ensures { λ _. ⌜ (now (templates .exit) ≡ lay (pageBytes * page) (cond (eqb n 2) (now (c .entry)) (now (b .entry))) (now (templates .entry))) × (now (index .exit) ≡ setBit (now (index .entry)) page) ⌝ }
 {
     let src = chosen(n, b, c);
     pages::write_page(templates, page, src);
@@ -66,7 +66,7 @@ pub(crate) fn store_page<'a>(
     n: u8,
     page: usize,
 ) -> Answer
-    requires { ⌜ (length (now b) ≡ 512) × ((length (now c) ≡ 512) × (settings .size ≤ highestSize)) ⌝ }
+    requires { ⌜ (length (now b) ≡ pageBytes) × ((length (now c) ≡ pageBytes) × (settings .size ≤ highestSize)) ⌝ }
     ensures { λ r. ⌜ ((m : List ℕ) → saidOf r (now (templates .exit)) (now (index .exit)) m (now (b .entry)) (now (c .entry)) ≡ obeyed settings (now (templates .entry)) (now (index .entry)) m (now (b .entry)) (now (c .entry)) (store n page)) × Ready r ⌝ }
 {
     let known = is_buffer(n);
@@ -94,7 +94,7 @@ pub(crate) fn load_page(
     n: u8,
     page: usize,
 ) -> Answer
-    requires { ⌜ (length (now buffer1) ≡ 512) × ((length (now buffer2) ≡ 512) × (settings .size ≤ highestSize)) ⌝ }
+    requires { ⌜ (length (now buffer1) ≡ pageBytes) × ((length (now buffer2) ≡ pageBytes) × (settings .size ≤ highestSize)) ⌝ }
     ensures { λ r. ⌜ ((m : List ℕ) → saidOf r (now (templates .entry)) (now (index .entry)) m (now (buffer1 .exit)) (now (buffer2 .exit)) ≡ obeyed settings (now (templates .entry)) (now (index .entry)) m (now (buffer1 .entry)) (now (buffer2 .entry)) (loadChar n page)) × Ready r ⌝ }
 {
     let known = is_buffer(n);

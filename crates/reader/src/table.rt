@@ -1,15 +1,11 @@
 // The table of commands: the row of each code, behind what comes before it.
 ghost use mathlib.Core.Path.{_≡_};
-ghost use mathlib.Core.Bool.{true, not, _||_};
-ghost use Prim.Native.Nat.{_+_, _≤_};
-ghost use lib.ListN.{length};
-ghost use Rattle.protocol.specs.Reader.{locked};
 ghost use Rattle.protocol.specs.Commands.{commands, rowOf, orderOf};
 ghost use Rattle.protocol.specs.Step.{obey, heed};
-ghost use Rattle.protocol.specs.Records.{plainOf, readerOf};
+ghost use Rattle.protocol.specs.Records.{readerOf};
 ghost use Rattle.reader.specs.Answers.{saidOf, Ready};
-ghost use Rattle.rules.specs.Commands.{lenOf, readOf, isFree};
-ghost use Rattle.reader.specs.Commands.{Fit};
+ghost use Rattle.rules.specs.Commands.{readOf};
+ghost use Rattle.reader.specs.Commands.{CommandNeeds, RowNeeds};
 use crate::answers;
 use crate::answers::Answer;
 use crate::buffers;
@@ -34,7 +30,7 @@ pub(crate) fn row(
     buffer2: &mut [u8],
     content: &[u8],
 ) -> Answer
-    requires { ⌜ Fit settings (now templates) (now index) (now notepad) (now buffer1) (now buffer2) × ((lenOf (rowOf commands code) ≡ length (now content) + 2) × ((isFree code || not (locked (plainOf settings))) ≡ true)) ⌝ }
+    requires { ⌜ RowNeeds code settings (now templates) (now index) (now notepad) (now buffer1) (now buffer2) (now content) ⌝ }
     ensures { λ r. ⌜ (saidOf r (now (templates .exit)) (now (index .exit)) (now (notepad .exit)) (now (buffer1 .exit)) (now (buffer2 .exit)) ≡ obey (readerOf settings (now (templates .entry)) (now (index .entry)) (now (notepad .entry)) (now (buffer1 .entry)) (now (buffer2 .entry))) (readOf (rowOf commands code) (now (content .entry)))) × Ready r ⌝ }
 {
     match code {
@@ -80,7 +76,7 @@ pub(crate) fn command(
     content: &[u8],
     right: bool,
 ) -> Answer
-    requires { ⌜ Fit settings (now templates) (now index) (now notepad) (now buffer1) (now buffer2) × ((1 ≤ length (now content)) × (length (now content) ≤ 65535)) ⌝ }
+    requires { ⌜ CommandNeeds settings (now templates) (now index) (now notepad) (now buffer1) (now buffer2) (now content) ⌝ }
     ensures { λ r. ⌜ (saidOf r (now (templates .exit)) (now (index .exit)) (now (notepad .exit)) (now (buffer1 .exit)) (now (buffer2 .exit)) ≡ heed (readerOf settings (now (templates .entry)) (now (index .entry)) (now (notepad .entry)) (now (buffer1 .entry)) (now (buffer2 .entry))) (orderOf right (now (content .entry)))) × Ready r ⌝ }
 {
     let code = content[0];

@@ -5,7 +5,7 @@ ghost use mathlib.Core.List.{List};
 ghost use Prim.Native.Nat.{ℕ, _+_, _≤_};
 ghost use lib.Dec.{eqb};
 ghost use lib.ListN.{length};
-ghost use Rattle.protocol.specs.Numbers.{highestSize};
+ghost use Rattle.protocol.specs.Numbers.{pageBytes, highestSize};
 ghost use Rattle.protocol.specs.Bytes.{lay};
 ghost use Rattle.protocol.specs.Reader.{sizeOf};
 ghost use Rattle.protocol.specs.Step.{ended, takeAs, takeIn};
@@ -21,7 +21,7 @@ use wire::bytes;
 
 // Ends an open transfer: its buffer is zeroed.
 pub(crate) fn end_transfer(settings: Settings, buffer1: &mut [u8], buffer2: &mut [u8]) -> Settings
-    requires { ⌜ (length (now buffer1) ≡ 512) × ((length (now buffer2) ≡ 512) × (settings .transfer ≤ 2)) ⌝ }
+    requires { ⌜ (length (now buffer1) ≡ pageBytes) × ((length (now buffer2) ≡ pageBytes) × (settings .transfer ≤ 2)) ⌝ }
     ensures { λ r. ⌜ ((t i m : List ℕ) → readerOf r t i m (now (buffer1 .exit)) (now (buffer2 .exit)) ≡ ended (readerOf settings t i m (now (buffer1 .entry)) (now (buffer2 .entry))) (transferOf (settings .transfer) (settings .got))) × (r .size ≡ settings .size) ⌝ }
 {
     if settings.transfer == 1 {
@@ -52,7 +52,7 @@ fn place(
     content: &[u8],
     last: bool,
 ) -> Answer
-    requires { ⌜ (length (now buffer1) ≡ 512) × ((length (now buffer2) ≡ 512) × ((settings .size ≤ highestSize) × ((settings .got + length (now content) ≤ 512) × (length (now content) ≡ sizeOf (settings .size))))) ⌝ }
+    requires { ⌜ (length (now buffer1) ≡ pageBytes) × ((length (now buffer2) ≡ pageBytes) × ((settings .size ≤ highestSize) × ((settings .got + length (now content) ≤ pageBytes) × (length (now content) ≡ sizeOf (settings .size))))) ⌝ }
     ensures { λ r. ⌜ ((t i m : List ℕ) → saidOf r t i m (now (buffer1 .exit)) (now (buffer2 .exit)) ≡ takeAs (readerOf settings t i m (now (buffer1 .entry)) (now (buffer2 .entry))) (eqb (settings .transfer) 2) (settings .got) (now (content .entry)) true last) × Ready r ⌝ }
 {
     let got = settings.got as usize;
@@ -88,7 +88,7 @@ pub(crate) fn take_part(
     right: bool,
     last: bool,
 ) -> Answer
-    requires { ⌜ (length (now buffer1) ≡ 512) × ((length (now buffer2) ≡ 512) × ((settings .transfer ≤ 2) × ((settings .size ≤ highestSize) × (settings .transfer ≡ 0 → settings .got ≡ 0)))) ⌝ }
+    requires { ⌜ (length (now buffer1) ≡ pageBytes) × ((length (now buffer2) ≡ pageBytes) × ((settings .transfer ≤ 2) × ((settings .size ≤ highestSize) × (settings .transfer ≡ 0 → settings .got ≡ 0)))) ⌝ }
     ensures { λ r. ⌜ ((t i m : List ℕ) → saidOf r t i m (now (buffer1 .exit)) (now (buffer2 .exit)) ≡ takeIn (readerOf settings t i m (now (buffer1 .entry)) (now (buffer2 .entry))) last right (now (content .entry)) (transferOf (settings .transfer) (settings .got))) × Ready r ⌝ }
 {
     if settings.transfer == 0 {

@@ -14,7 +14,7 @@ use Rattle.protocol.specs.Reader.{Plain, Reader, locked}
 use Rattle.protocol.specs.Commands.{store, loadChar, upChar, downChar, deletChar, empty, setSysPara, readSysPara, setPassword, setAddress, writeNotepad, readNotepad, templeteNum, readIndexTable, handShake, Barred, free, barred, Entry, row, commands, Known, none, some, rowOf, orderAs, orderOf}
 use Rattle.protocol.specs.Step.{says, obey, heed}
 use Rattle.protocol.proofs.Laws.Commands.{Each, At, row-law}
-use Rattle.rules.specs.Commands.{lenOf, readOf, isFree, gateOf}
+use Rattle.rules.specs.Commands.{lenOf, readOf, isFree, Admitted, gateOf}
 
 -- its length is not 0, and a code that is not free reads as a command that the lock bars
 abbrev Gated : Entry → Type 0
@@ -114,8 +114,7 @@ module _ (r : Reader) (c : List ℕ) where
 -- what a passed gate says
 pub record Passed (right : Bool) (k n : ℕ) (p : Plain) : Type 0 where
   pub sum : right ≡ true
-  pub long : lenOf (rowOf commands k) ≡ n
-  pub open′ : (isFree k || not (locked p)) ≡ true
+  pub admits : Admitted k n p
 
 pub gate-passes : (right : Bool) (k n : ℕ) (p : Plain) → gateOf right k n p ≡ 0 → Passed right k n p
 unfolding gateOf
@@ -127,7 +126,7 @@ gate-passes right k n p e = go right refl (eqb (lenOf (rowOf commands k)) 0) ref
     go true ea true eb d ed f ef = let z : _≡_ {A = ℕ} unknownCommand 0 = rw (ea, eb) at e in absurd (omega arith)
     go true ea false eb false ed f ef = let z : _≡_ {A = ℕ} badPacket 0 = rw (ea, eb, ed) at e in absurd (omega arith)
     go true ea false eb true ed false ef = let z : _≡_ {A = ℕ} passwordFirst 0 = rw (ea, eb, ed, ef) at e in absurd (omega arith)
-    go true ea false eb true ed true ef = record { sum = ea; long = eqb-true _ _ ed; open′ = ef }
+    go true ea false eb true ed true ef = record { sum = ea; admits = record { long = eqb-true _ _ ed; open′ = ef } }
 
 -- a code that is none of the others is 40h, or unknown
 pub last-row : (k : ℕ) (c : List ℕ) → (k ≡ 0x06 → ⊥) → (k ≡ 0x07 → ⊥) → (k ≡ 0x08 → ⊥) → (k ≡ 0x09 → ⊥) → (k ≡ 0x0c → ⊥) → (k ≡ 0x0d → ⊥) → (k ≡ 0x0e → ⊥)

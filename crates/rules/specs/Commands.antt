@@ -1,5 +1,6 @@
 -- What comes before a command's row: the length that each code fixes, and the lock.
-use mathlib.Core.Bool.{Bool, cond, _||_, not}
+use mathlib.Core.Bool.{Bool, true, cond, _||_, not}
+use mathlib.Core.Path.{_≡_}
 use mathlib.Core.List.{List}
 use Prim.Native.Nat.{ℕ}
 use lib.Dec.{eqb}
@@ -19,6 +20,11 @@ readOf (some e) c = e .read c
 -- the codes that the lock lets pass
 unfoldable pub isFree : ℕ → Bool
 isFree k = eqb k 0x13 || eqb k 0x40
+
+-- a code that passes: its length field is its row's, and it is free or the reader is not locked
+pub record Admitted (k n : ℕ) (p : Plain) : Type 0 where
+  pub long : lenOf (rowOf commands k) ≡ n
+  pub open′ : (isFree k || not (locked p)) ≡ true
 
 -- what comes before the row, in document 01's order: the code that stops it, or 0
 unfoldable pub gateOf : Bool → ℕ → ℕ → Plain → ℕ

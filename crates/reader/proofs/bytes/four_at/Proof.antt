@@ -1,13 +1,22 @@
 -- Four bytes laid over an array of four are that array.
 use mathlib.Core.Path.{_≡_, ap, _∙_}
-use Prim.Native.Nat.{ℕ, _+_, _-_}
+use mathlib.Core.List.{List}
+use Prim.Native.Nat.{ℕ, _+_, _-_, _≤_}
 use native.Mathlib.Omega.{arith}
 use lib.ListN.{length, take, drop, length-take, length-drop}
-use denote.Ref.{now}
 use borrow.Author.Needs.{needs}
-use Rattle.library.proofs.Parts.{put-whole}
+use Rattle.protocol.specs.Bytes.{part}
+use Rattle.wire.specs.Laying.{layFront}
+use Rattle.library.proofs.Parts.{part-read}
 use Rattle.reader.proofs.bytes.four_at.Statement.{statement}
 use Rattle.reader.proofs.bytes.four_at.Tie as tie
+
+module _ (x : List ℕ) (at : ℕ) (d r : List ℕ) (e : length d ≡ 4) (h : at + 4 ≤ length x) (f : r ≡ layFront (take (at + 4 - at) (drop at x)) d) where
+  copied : r ≡ part at 4 x
+  copied = f ∙ part-read at 4 x d e h
+
+  four-long : length r ≡ 4
+  four-long = ap length copied ∙ simp (length-take, length-drop) (omega arith)
 
 slice-aggregate-put : tie.Need-slice-aggregate-put
 slice-aggregate-put c = search needs
@@ -28,12 +37,7 @@ put-requires : tie.Need-put-requires
 put-requires c κs = search needs
 
 returns : tie.Need-returns
-returns c =
-    let a = c .before .before .before .before .before .args in
-    let n : a .at + 4 - a .at ≡ 4 = omega arith in
-    let l : length (take (a .at + 4 - a .at) (drop (a .at) (now (a .s)))) ≡ 4 = simp (length-take, length-drop) (omega (arith, c .before .before .before .before .before .pre)) in
-    let e = put-whole (take (a .at + 4 - a .at) (drop (a .at) (now (a .s)))) _ _ l (c .before .put .ensures) in
-    (e ∙ ap (λ (k : ℕ). take k (drop (a .at) (now (a .s)))) n, ap length e ∙ l)
+returns c = (search copied, search four-long)
 
 pub four-at-spec : {M : Type 1} → statement M
 four-at-spec =

@@ -1,5 +1,4 @@
--- High byte first.
-use Prim.Native.Nat.{_-_}
+-- The high byte stands first; two bytes are below 65536.
 use borrow.Author.Needs.{needs}
 use Rattle.protocol.specs.Bytes.{wordAt}
 use Rattle.reader.proofs.bytes.word_at.Statement.{statement}

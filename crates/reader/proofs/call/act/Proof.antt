@@ -1,24 +1,71 @@
--- Steps 5 to 7, by the identifier.
-use denote.Ref.{now}
+-- Steps 5 to 7: identifier 1 ends an open transfer and commands, 7 says nothing, and 2 and 8 bring data.
+use mathlib.Core.Path.{_≡_, ap, _∙_}
+use mathlib.Core.Bool.{Bool}
+use mathlib.Core.List.{List}
+use Prim.Native.Nat.{ℕ}
+use lib.Dec.{eqb}
 use borrow.Author.Tests.{eq-eqb, ne-eqb}
-use native.Mathlib.Omega.{arith}
-use mathlib.Core.Path.{refl, ap, _∙_}
 use borrow.Author.Needs.{needs}
-use Rattle.protocol.specs.Tests.{within}
+use Rattle.protocol.specs.declared.Settings.{Settings}
+use Rattle.protocol.specs.Numbers.{commandPacket, acknowledgePacket, lastPacket}
 use Rattle.protocol.specs.Reader.{Reader}
 use Rattle.protocol.specs.Commands.{orderOf}
-use Rattle.protocol.specs.Step.{silence, heed, rested, hearAs, answer}
+use Rattle.protocol.specs.Step.{Said, silence, heed, ended, takeIn, rested, hearAs, answer}
+use Rattle.protocol.specs.Records.{transferOf, readerOf}
+use Rattle.reader.specs.declared.answers.Answer.{Answer}
+use Rattle.reader.specs.Answers.{saidOf, nothingSaid}
+use Rattle.reader.proofs.Ready.{ready-silent, size-same}
 use Rattle.reader.proofs.call.act.Statement.{statement}
 use Rattle.reader.proofs.call.act.Tie as tie
+
+-- each return as a law: what was said, and the identifier that led there
+module _ (s : Settings) (t i m b d x : List ℕ) (k : ℕ) (right : Bool) where
+  commands : (q : Settings) (u v : List ℕ) (said : Said) → k ≡ commandPacket → said ≡ heed (readerOf q t i m u v) (orderOf right x)
+      → ((t i m : List ℕ) → readerOf q t i m u v ≡ ended (readerOf s t i m b d) (transferOf (s .transfer) (s .got)))
+      → said ≡ answer (readerOf s t i m b d) (hearAs k right x)
+  unfolding answer hearAs rested
+  commands q u v said e f g = rw (eq-eqb k commandPacket e) (f ∙ ap (λ (r : Reader). heed r (orderOf right x)) (g t i m))
+
+  module _ (n : k ≡ commandPacket → ⊥) where
+    says-nothing : (a : Answer) → a ≡ nothingSaid s → k ≡ acknowledgePacket → saidOf a t i m b d ≡ answer (readerOf s t i m b d) (hearAs k right x)
+    unfolding answer hearAs silence
+    says-nothing a f e = rw (f, ne-eqb k commandPacket n, eq-eqb k acknowledgePacket e)
+
+    brings : (a : Answer) (u v : List ℕ) → (k ≡ acknowledgePacket → ⊥)
+        → ((t i m : List ℕ) → saidOf a t i m u v ≡ takeIn (readerOf s t i m b d) (eqb k lastPacket) right x (transferOf (s .transfer) (s .got)))
+        → saidOf a t i m u v ≡ answer (readerOf s t i m b d) (hearAs k right x)
+    unfolding answer hearAs
+    brings a u v w f = rw (ne-eqb k commandPacket n, ne-eqb k acknowledgePacket w) (f t i m)
+
+-- places that are far back from the later returns
+unfoldable start : tie.After-end-transfer → tie.Start
+start c = search
+
+unfoldable ended-at : tie.After-command → tie.After-end-transfer
+ended-at c = search
 
 end-transfer-requires : tie.Need-end-transfer-requires
 end-transfer-requires c κs = search needs
 
 command-requires : tie.Need-command-requires
+unfolding start
 command-requires c κs =
-    let f = c .before .before .before .before .before .before .before .before .before .before .before .before .before .before .before .before .before .before .before .pre .0 in
-    let z = c .before .before .before .before .before .before .before .before .before .end-transfer .ensures .1 in
-    (record { pages = f .pages; within = f .within; index = f .index; notepad = f .notepad; buffer1 = search needs; buffer2 = search needs; size = rw z (f .size) }, c .before .before .before .before .before .before .before .before .before .before .before .before .before .before .before .before .before .before .before .pre .1 .1)
+    let p = (let s : tie.Start = search start in s .pre .commands) in
+    let f = p .fit in
+    record {
+      fit =
+          record {
+            pages = f .pages;
+            within = f .within;
+            index = f .index;
+            notepad = f .notepad;
+            buffer1 = search needs;
+            buffer2 = search needs;
+            size = search size-same;
+          };
+      some = p .some;
+      high = p .high;
+    }
 
 same-length : tie.Need-same-length
 same-length c = search needs
@@ -36,20 +83,17 @@ same-length-5 : tie.Need-same-length-5
 same-length-5 c = search needs
 
 returns : tie.Need-returns
-unfolding answer hearAs rested
-returns c =
-    let a = c .before .before .before .before .before .before .before .before .before .before .before .before .before .before .before .before .before .before .before .before .before .before .before .before .before .before .before .before .before .before .args in
-    (rw (eq-eqb _ _ (c .before .before .before .before .before .before .before .before .before .before .before .before .before .before .before .before .before .before .before .before .before .before .before .if1 .taken)) (c .before .before .before .before .before .before .before .before .before .before .command .ensures .0 ∙ ap (λ (x : Reader). heed x (orderOf (a .right) (now (a .content)))) (c .before .before .before .before .before .before .before .before .before .before .before .before .before .before .before .before .before .before .before .before .end-transfer .ensures .0 (now (a .templates)) (now (a .index)) (now (a .notepad)))), c .before .before .before .before .before .before .before .before .before .before .command .ensures .1)
+unfolding ended-at
+returns c = (search commands, search)
 
 silent-requires : tie.Need-silent-requires
 silent-requires c κs = search needs
 
 returns-2 : tie.Need-returns-2
-unfolding answer hearAs silence
-returns-2 c = (rw (c .silent .ensures, ne-eqb _ _ (c .before .before .if1 .left), eq-eqb _ _ (c .before .if2 .taken)) refl, rw (c .silent .ensures) (record { few = omega arith; size = c .before .before .before .before .before .before .before .before .before .pre .0 .size }))
+returns-2 c = (search says-nothing, search ready-silent)
 
 take-part-requires : tie.Need-take-part-requires
-take-part-requires c κs = (c .before .before .before .before .before .before .before .before .before .before .pre .0 .buffer1, (c .before .before .before .before .before .before .before .before .before .before .pre .0 .buffer2, (c .before .before .before .before .before .before .before .before .before .before .pre .1 .0 .which, (c .before .before .before .before .before .before .before .before .before .before .pre .0 .size, c .before .before .before .before .before .before .before .before .before .before .pre .1 .0 .none))))
+take-part-requires c κs = search needs
 
 same-length-6 : tie.Need-same-length-6
 same-length-6 c = search needs
@@ -58,10 +102,7 @@ same-length-7 : tie.Need-same-length-7
 same-length-7 c = search needs
 
 returns-3 : tie.Need-returns-3
-unfolding answer hearAs
-returns-3 c =
-    let a = c .before .before .before .before .before .before .before .before .before .before .before .before .before .before .before .args in
-    (rw (ne-eqb _ _ (c .before .before .before .before .before .before .before .before .if1 .left), ne-eqb _ _ (c .before .before .before .before .before .before .before .if2 .left)) (c .before .before .before .before .take-part .ensures .0 (now (a .templates)) (now (a .index)) (now (a .notepad))), c .before .before .before .before .take-part .ensures .1)
+returns-3 c = (search brings, search)
 
 pub act-spec : {M : Type 1} → statement M
 act-spec =

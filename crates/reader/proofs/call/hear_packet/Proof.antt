@@ -1,4 +1,4 @@
--- A packet of ours is acted on and answered; another's is silent.
+-- A packet with another's address is used up in silence; ours is acted on, and what is said goes into the reply room.
 use mathlib.Core.Path.{_≡_, sym, ap, _∙_}
 use mathlib.Core.Bool.{Bool, true, false, not}
 use mathlib.Core.List.{List}
@@ -9,6 +9,7 @@ use borrow.Author.Needs.{needs}
 use Rattle.protocol.specs.declared.Settings.{Settings}
 use Rattle.protocol.specs.declared.Called.{Called}
 use Rattle.protocol.specs.declared.Found.the-variants.{Whole}
+use Rattle.protocol.specs.Numbers.{headBytes}
 use Rattle.protocol.specs.Bytes.{same, lay}
 use Rattle.protocol.specs.Packet.{addressAt, identifierAt, rightAt}
 use Rattle.protocol.specs.Step.{hearAs, hearAt, answer, Said}
@@ -24,18 +25,18 @@ use Rattle.reader.proofs.call.hear_packet.Tie as tie
 
 -- each return as a law: what was called, and the tests that led there
 module _ (s : Settings) (t i m b d x y : List ℕ) (at len : ℕ) (ours : Bool) (o : ours ≡ same (addressAt x at) (s .address)) (r : Called) where
-  other : r ≡ called 0 (at + 9 + len) 0 s → not ours ≡ true
-      → endedOf r t i m b d y ≡ carriedOf (at + 9 + len) (answer (readerOf s t i m b d) (hearAt (s .address) x (Whole at len))) y
-  other e n = rw (e, hear-other (s .address) x at len (sym o ∙ not-true ours n)) (sym (carried-silence (at + 9 + len) (readerOf s t i m b d) y))
+  other : r ≡ called 0 (at + headBytes + len) 0 s → not ours ≡ true
+      → endedOf r t i m b d y ≡ carriedOf (at + headBytes + len) (answer (readerOf s t i m b d) (hearAt (s .address) x (Whole at len))) y
+  other e n = rw (e, hear-other (s .address) x at len (sym o ∙ not-true ours n)) (sym (carried-silence (at + headBytes + len) (readerOf s t i m b d) y))
 
-  answered : (t′ i′ m′ b′ d′ y′ : List ℕ) (a : Answer) (n : ℕ) (right : Bool) → r ≡ called 0 (at + 9 + len) n (a .settings)
+  answered : (t′ i′ m′ b′ d′ y′ : List ℕ) (a : Answer) (n : ℕ) (right : Bool) → r ≡ called 0 (at + headBytes + len) n (a .settings)
       → n ≡ length (spokenOf a b′ d′) → y′ ≡ lay 0 (spokenOf a b′ d′) y → right ≡ rightAt x at len → not ours ≡ false
-      → saidOf a t′ i′ m′ b′ d′ ≡ answer (readerOf s t i m b d) (hearAs (identifierAt x at) right (take (at + 9 + (len - 2) - (at + 9)) (drop (at + 9) x)))
-      → endedOf r t′ i′ m′ b′ d′ y′ ≡ carriedOf (at + 9 + len) (answer (readerOf s t i m b d) (hearAt (s .address) x (Whole at len))) y
+      → saidOf a t′ i′ m′ b′ d′ ≡ answer (readerOf s t i m b d) (hearAs (identifierAt x at) right (take (at + headBytes + (len - 2) - (at + headBytes)) (drop (at + headBytes) x)))
+      → endedOf r t′ i′ m′ b′ d′ y′ ≡ carriedOf (at + headBytes + len) (answer (readerOf s t i m b d) (hearAt (s .address) x (Whole at len))) y
   unfolding carried
   answered t′ i′ m′ b′ d′ y′ a n right e w l g k f =
       let h = hear-ours (s .address) x at len right (sym o ∙ not-false ours k) g in
-      rw (e, w, l) (ap (λ (z : Said). carriedOf (at + 9 + len) z y) (f ∙ ap (answer (readerOf s t i m b d)) h))
+      rw (e, w, l) (ap (λ (z : Said). carriedOf (at + headBytes + len) z y) (f ∙ ap (answer (readerOf s t i m b d)) h))
 
 -- places that are far back from the later returns
 unfoldable right : tie.After-act → tie.After-is-right
@@ -96,7 +97,10 @@ act-requires : tie.Need-act-requires
 unfolding start
 act-requires c κs =
     let p = (let s : tie.Start = search start in s .pre) in
-    (search, (search, simp (length-take, length-drop) (omega arith, omega arith)))
+    record {
+      commands = record { fit = search; some = simp (length-take, length-drop) (omega arith); high = simp (length-take, length-drop) (omega arith) };
+      legal = search;
+    }
 
 speak-requires : tie.Need-speak-requires
 unfolding right start

@@ -1,11 +1,16 @@
--- All four bytes of the address are compared.
-use Prim.Native.Nat.{ℕ}
+-- The four bytes behind the marks are the address, and all four are compared.
+use mathlib.Core.Path.{_≡_}
+use mathlib.Core.Bool.{Bool}
 use mathlib.Core.List.{List}
-use mathlib.Core.Path.{ap, _∙_}
+use Prim.Native.Nat.{ℕ}
 use borrow.Author.Needs.{needs}
 use Rattle.protocol.specs.Bytes.{same}
+use Rattle.protocol.specs.Packet.{addressAt}
 use Rattle.reader.proofs.call.is_ours.Statement.{statement}
 use Rattle.reader.proofs.call.is_ours.Tie as tie
+
+compared : (x : List ℕ) (at : ℕ) (a b : List ℕ) (r : Bool) → r ≡ same a b → a ≡ addressAt x at → r ≡ same (addressAt x at) b
+compared x at a b r e f = rw (e, f)
 
 add-four-at : tie.Need-add-four-at
 add-four-at c = search needs
@@ -17,7 +22,7 @@ is-same-requires : tie.Need-is-same-requires
 is-same-requires c κs = search needs
 
 returns : tie.Need-returns
-returns c = c .is-same .ensures ∙ ap (λ (x : List ℕ). same x (c .before .before .before .before .args .settings .address)) (c .before .before .four-at .ensures .0)
+returns c = search compared
 
 pub is-ours-spec : {M : Type 1} → statement M
 is-ours-spec = tie.close (tie.spec add-four-at four-at-requires is-same-requires returns)

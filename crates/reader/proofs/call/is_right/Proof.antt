@@ -1,11 +1,20 @@
--- The part of the run that is summed is the packet's content.
+-- What is summed is the identifier and the part of the run that is the content, and the word behind it is the packet's sum.
+use mathlib.Core.Path.{_≡_}
+use mathlib.Core.List.{List}
+use Prim.Native.Nat.{ℕ, _+_, _-_}
 use native.Mathlib.Omega.{arith}
-use Prim.Native.Nat.{_+_, _-_}
-use mathlib.Core.Path.{_≡_, refl}
+use lib.Dec.{eqb}
+use lib.ListN.{take, drop}
 use borrow.Author.Needs.{needs}
-use Rattle.wire.proofs.Packets.{packet-sum}
+use Rattle.protocol.specs.Numbers.{headBytes}
+use Rattle.protocol.specs.Bytes.{wordAt}
+use Rattle.protocol.specs.Packet.{identifierAt, rightAt, sumOf}
 use Rattle.reader.proofs.call.is_right.Statement.{statement}
 use Rattle.reader.proofs.call.is_right.Tie as tie
+
+compared : (x : List ℕ) (at len w s : ℕ) → w ≡ wordAt x (at + 7 + len) → s ≡ sumOf (identifierAt x at) (take (at + headBytes + (len - 2) - (at + headBytes)) (drop (at + headBytes) x))
+    → eqb w s ≡ rightAt x at len
+compared x at len w s e f = let k : at + headBytes + (len - 2) - (at + headBytes) ≡ len - 2 = omega arith in rw (e, f, k)
 
 add-from : tie.Need-add-from
 add-from c = search needs
@@ -44,10 +53,7 @@ word-at-requires : tie.Need-word-at-requires
 word-at-requires c κs = search needs
 
 returns : tie.Need-returns
-returns c =
-    let a = c .before .before .before .before .before .args in
-    let k : a .at + 9 + (a .len - 2) - (a .at + 9) ≡ a .len - 2 = omega arith in
-    rw (c .word-at .ensures .0, c .before .packet-sum .ensures, k) refl
+returns c = search compared
 
 pub is-right-spec : {M : Type 1} → statement M
 is-right-spec =

@@ -1,31 +1,65 @@
--- Refused at a length, or wiped.
+-- A buffer of another length is refused with nothing changed; otherwise both are zeroed, the marks cleared and the transfer closed.
+use mathlib.Core.Path.{_≡_}
+use mathlib.Core.Bool.{false}
+use mathlib.Core.List.{List}
+use Prim.Native.Nat.{ℕ}
 use lib.ListN.{length}
-use denote.Ref.{now}
 use borrow.Author.Tests.{eq-eqb, ne-eqb}
-use Prim.Native.Nat.{zero}
-use mathlib.Core.Path.{_≡_, refl}
 use borrow.Author.Needs.{needs}
+use Rattle.protocol.specs.declared.Settings.{Settings}
+use Rattle.protocol.specs.declared.Switched.{Switched}
+use Rattle.protocol.specs.Numbers.{pageBytes, badLength}
+use Rattle.protocol.specs.Bytes.{zeros}
 use Rattle.protocol.specs.Tests.{verdict}
-use Rattle.protocol.specs.Reader.{emptied, withMark, withTransfer}
-use Rattle.protocol.specs.Step.{switched, wiped}
+use Rattle.protocol.specs.Reader as reader
+use Rattle.protocol.specs.Step as step
 use Rattle.protocol.specs.Call.{switchOf, switchAs, switchRefusal, refused, fitBuffers}
-use Rattle.protocol.specs.Records.{transferOf}
+use Rattle.protocol.specs.Records.{transferOf, readerOf, switchedOf}
+use Rattle.rules.specs.Settings.{withMark, withTransfer, withFilled}
+use Rattle.reader.specs.Calls.{switched}
 use Rattle.reader.proofs.call.line_switch.Statement.{statement}
 use Rattle.reader.proofs.call.line_switch.Tie as tie
+
+-- each return as a law: what was returned, and the lengths that led there
+module _ (s : Settings) (t i n b d : List ℕ) (r : Switched) where
+  first : r ≡ switched badLength s → (length b ≡ pageBytes → ⊥) → switchedOf r t i n b d ≡ switchOf (readerOf s t i n b d)
+  unfolding switchOf switchAs switchRefusal verdict fitBuffers refused
+  first e f = rw (e, ne-eqb (length b) pageBytes f)
+
+  module _ (f : length b ≡ pageBytes) where
+    second : r ≡ switched badLength s → (length d ≡ pageBytes → ⊥) → switchedOf r t i n b d ≡ switchOf (readerOf s t i n b d)
+    unfolding switchOf switchAs switchRefusal verdict fitBuffers refused
+    second e g = rw (e, eq-eqb (length b) pageBytes f, ne-eqb (length d) pageBytes g)
+
+    wipes : (g : length d ≡ pageBytes) (u v : List ℕ) → u ≡ zeros (length b) → v ≡ zeros (length d) → (q w x : Settings) → r ≡ switched 0 x → x ≡ withTransfer 0 0 w
+        → w ≡ withFilled false false q → q ≡ withMark false s → switchedOf r t i n u v ≡ switchOf (readerOf s t i n b d)
+    unfolding switchOf switchAs switchRefusal verdict fitBuffers step.switched step.wiped reader.emptied reader.withMark reader.withTransfer transferOf
+    wipes g u v a c q w x e h k l = rw (e, h, k, l, a, c, f, g)
+
+-- places that are far back from the last return
+unfoldable zeroed : tie.After-marked → tie.After-zero2
+zeroed c = search
+
+unfoldable first-zeroed : tie.After-zero2 → tie.After-zero
+first-zeroed c = search
+
+unfoldable passed : tie.After-zero2 → tie.Else1
+passed c = search
+
+unfoldable passed-both : tie.After-zero2 → tie.Else2
+passed-both c = search
 
 switched-of-requires : tie.Need-switched-of-requires
 switched-of-requires c κs = search needs
 
 returns : tie.Need-returns
-unfolding switchOf switchAs switchRefusal verdict fitBuffers switched wiped emptied withMark withTransfer transferOf refused
-returns c = λ t i n. rw (c .switched-of .ensures, ne-eqb _ _ (c .before .if1 .taken)) refl
+returns c = λ t i n. search first
 
 switched-of-requires-2 : tie.Need-switched-of-requires-2
 switched-of-requires-2 c κs = search needs
 
 returns-2 : tie.Need-returns-2
-unfolding switchOf switchAs switchRefusal verdict fitBuffers switched wiped emptied withMark withTransfer transferOf refused
-returns-2 c = λ t i n. rw (c .switched-of2 .ensures, eq-eqb _ _ (c .before .before .if1 .left), ne-eqb _ _ (c .before .if2 .taken)) refl
+returns-2 c = λ t i n. search second
 
 zero-requires : tie.Need-zero-requires
 zero-requires c κs = search needs
@@ -52,11 +86,17 @@ same-length-2 : tie.Need-same-length-2
 same-length-2 c = search needs
 
 returns-3 : tie.Need-returns-3
-unfolding switchOf switchAs switchRefusal verdict fitBuffers switched wiped emptied withMark withTransfer transferOf refused
+unfolding zeroed first-zeroed passed passed-both
 returns-3 c =
-    let a : length (now (c .before .before .before .before .before .before .before .before .before .before .before .before .before .before .before .before .args .buffer1)) ≡ 512 = c .before .before .before .before .before .before .before .before .before .before .before .before .before .if1 .left in
-    let b : length (now (c .before .before .before .before .before .before .before .before .before .before .before .before .before .before .before .before .args .buffer2)) ≡ 512 = c .before .before .before .before .before .before .before .before .before .before .before .before .if2 .left in
-    λ t i n. rw (c .switched-of3 .ensures, c .before .moved .ensures, c .before .before .filled .ensures, c .before .before .before .marked .ensures, c .before .before .before .before .before .before .before .before .before .before .zero .ensures, c .before .before .before .before .before .before .zero2 .ensures, a, b) refl
+    let f = (let p : tie.Else1 = search (zeroed, passed) in p .if1 .left) in
+    let g = (let p : tie.Else2 = search (zeroed, passed-both) in p .if2 .left) in
+    let a = (let p : tie.After-zero = search (zeroed, first-zeroed) in p .zero .ensures) in
+    let d = (let p : tie.After-zero2 = search zeroed in p .zero2 .ensures) in
+    let l = (let p : tie.After-marked = search in p .marked .ensures) in
+    let k = (let p : tie.After-filled = search in p .filled .ensures) in
+    let h = (let p : tie.After-moved = search in p .moved .ensures) in
+    let e = (let p : tie.After-switched-of3 = search in p .switched-of3 .ensures) in
+    λ t i n. wipes _ t i n _ _ _ f g _ _ a d _ _ _ e h k l
 
 pub line-switch-spec : {M : Type 1} → statement M
 line-switch-spec =

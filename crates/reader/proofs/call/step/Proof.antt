@@ -1,8 +1,8 @@
--- A call goes out at a refusal, at a run with no whole packet, or at a whole packet.
-use mathlib.Core.Path.{_≡_, refl, sym, _∙_}
-use mathlib.Core.Bool.{Bool, true, false, not}
+-- The refusals stand in document 01's order; what passes them is a legal reader, which hears a whole packet or uses up bytes in silence.
+use mathlib.Core.Path.{_≡_, sym, _∙_}
+use mathlib.Core.Bool.{Bool, true, false, not, _&&_}
 use mathlib.Core.List.{List, [], _∷_}
-use Prim.Native.Nat.{ℕ, _+_, _%_, _<_, _≤_}
+use Prim.Native.Nat.{ℕ, _+_, _/_, _%_, _<_, _≤_}
 use lib.ListN.{length}
 use denote.Ref.{now}
 use denote.Enum.Declared.{tagOf}
@@ -13,20 +13,23 @@ use Rattle.protocol.specs.declared.Called.{Called}
 use Rattle.protocol.specs.declared.Found.{Found}
 use Rattle.protocol.specs.declared.Found.the-variants.{Whole}
 use Rattle.protocol.proofs.Found.{the-type}
+use Rattle.protocol.specs.Numbers.{pageBytes, replyRoom, headBytes}
+use Rattle.protocol.specs.Index.{clearFrom}
 use Rattle.protocol.specs.Finder.{findOf, usedOf}
 use Rattle.protocol.specs.Step.{hearAt, answer}
 use Rattle.protocol.specs.Call.{core, fitLengths, sound, refused, Ended, callOf}
 use Rattle.protocol.specs.Records.{readerOf, lentOf, endedOf}
 use Rattle.protocol.proofs.Laws.Logic.{not-true, not-false}
 use Rattle.reader.specs.Commands.{Fit}
-use Rattle.rules.specs.Settings.{Legal}
-use Rattle.reader.specs.Calls.{called, lengthsOf, carriedOf}
-use Rattle.reader.proofs.Calls.{unheard, step-silent, step-whole, Lies, whole-lies, lengths-are, lengths-say, sound-says, fit-says, call-bad-length, call-bad-room, call-bad-setting, call-goes}
+use Rattle.rules.specs.Settings.{legalOf, Legal}
+use Rattle.rules.proofs.Transfers.{sound-legal}
+use Rattle.reader.specs.Calls.{Lies, called, lengthsFit, carriedOf}
+use Rattle.reader.proofs.Calls.{unheard, step-silent, step-whole, whole-lies, lengths-are, fit-says, legal-passed, call-bad-length, call-bad-room, call-bad-setting, call-goes}
 use Rattle.reader.proofs.call.step.Statement.{statement}
 use Rattle.reader.proofs.call.step.Tie as tie
 
 -- each return as a law: what was called, and the tests that led there
-module _ (s : Settings) (t i m b d : List ℕ) (fit : Bool) (l : fit ≡ lengthsOf (length t) (length i) (length m) (length b) (length d)) where
+module _ (s : Settings) (t i m b d : List ℕ) (fit : Bool) (l : fit ≡ lengthsFit (length t) (length i) (length m) (length b) (length d)) where
   are : (z : Bool) → fit ≡ z → fitLengths core (readerOf s t i m b d .guarded) ≡ z
   are z e = lengths-are (readerOf s t i m b d .guarded) ∙ sym l ∙ e
 
@@ -35,15 +38,18 @@ module _ (s : Settings) (t i m b d : List ℕ) (fit : Bool) (l : fit ≡ lengths
     unfolding refused
     bad-length e f = rw e (call-bad-length (readerOf s t i m b d) x y (are false (not-true fit f)))
 
-    bad-room : r ≡ called 2 0 0 s → not fit ≡ false → length y < 700 → endedOf r t i m b d y ≡ callOf core (readerOf s t i m b d) x (lentOf y)
+    bad-room : r ≡ called 2 0 0 s → not fit ≡ false → length y < replyRoom → endedOf r t i m b d y ≡ callOf core (readerOf s t i m b d) x (lentOf y)
     unfolding refused
     bad-room e f h = rw e (call-bad-room (readerOf s t i m b d) x y (are true (not-false fit f)) h)
 
-  module _ (f : not fit ≡ false) (legal : Bool) (k : legal ≡ sound (readerOf s t i m b d)) where
-    module _ (x y : List ℕ) (h : 700 ≤ length y) where
+  module _ (f : not fit ≡ false) (legal : Bool) (k : legal ≡ (legalOf s && clearFrom i (length t / pageBytes))) where
+    legal-is : legal ≡ sound (readerOf s t i m b d)
+    legal-is = k ∙ sym (sound-legal s t i m b d)
+
+    module _ (x y : List ℕ) (h : replyRoom ≤ length y) where
       bad-setting : (r : Called) → r ≡ called 3 0 0 s → not legal ≡ true → endedOf r t i m b d y ≡ callOf core (readerOf s t i m b d) x (lentOf y)
       unfolding refused
-      bad-setting r e g = rw e (call-bad-setting (readerOf s t i m b d) x y (are true (not-false fit f)) h (sym k ∙ not-true legal g))
+      bad-setting r e g = rw e (call-bad-setting (readerOf s t i m b d) x y (are true (not-false fit f)) h (sym legal-is ∙ not-true legal g))
 
       module _ (g : not legal ≡ false) (o : Found) (w : o ≡ findOf x) where
         silent : (r : Called) (u : ℕ) → r ≡ called 0 u 0 s → u ≡ usedOf o % 18446744073709551616 → OneOf (0 ∷ 1 ∷ 2 ∷ []) (tagOf the-type o) → length x < 18446744073709551616
@@ -51,33 +57,23 @@ module _ (s : Settings) (t i m b d : List ℕ) (fit : Bool) (l : fit ≡ lengths
         silent r u e v n z =
             rw (e, v)
             (step-silent (readerOf s t i m b d) x y o w z (unheard (s .address) x o n)
-            ∙ call-goes (readerOf s t i m b d) x y (are true (not-false fit f)) h (sym k ∙ not-false legal g))
+            ∙ call-goes (readerOf s t i m b d) x y (are true (not-false fit f)) h (sym legal-is ∙ not-false legal g))
 
-        heard : (e : Ended) (at len : ℕ) → o ≡ Whole at len → e ≡ carriedOf (at + 9 + len) (answer (readerOf s t i m b d) (hearAt (s .address) x (Whole at len))) y
+        heard : (e : Ended) (at len : ℕ) → o ≡ Whole at len → e ≡ carriedOf (at + headBytes + len) (answer (readerOf s t i m b d) (hearAt (s .address) x (Whole at len))) y
             → e ≡ callOf core (readerOf s t i m b d) x (lentOf y)
         heard e at len n v =
             v ∙ step-whole (readerOf s t i m b d) x y at len (sym w ∙ n)
-            ∙ call-goes (readerOf s t i m b d) x y (are true (not-false fit f)) h (sym k ∙ not-false legal g)
+            ∙ call-goes (readerOf s t i m b d) x y (are true (not-false fit f)) h (sym legal-is ∙ not-false legal g)
 
-    module _ (g : not legal ≡ false) where
-      moves : Legal s
-      moves = sound-says s t i m b d (sym k ∙ not-false legal g)
+  fits : not fit ≡ false → Legal s → Fit s t i m b d
+  fits f = fit-says s t i m b d (sym l ∙ not-false fit f)
 
-      fits : Fit s t i m b d
-      fits = fit-says s t i m b d (lengths-say t i m b d (sym l ∙ not-false fit f)) moves
+moves : (s : Settings) (i : List ℕ) (n : ℕ) (legal : Bool) → legal ≡ (legalOf s && clearFrom i n) → not legal ≡ false → Legal s
+moves s i n legal k g = legal-passed s i n (sym k ∙ not-false legal g)
 
 module _ (x : List ℕ) (o : Found) (at len : ℕ) (w : o ≡ findOf x) (n : o ≡ Whole at len) where
   lies : Lies x at len
   lies = whole-lies x at len (sym w ∙ n)
-
-  inside : at + 9 + len ≤ length x
-  inside = lies .inside
-
-  low : 3 ≤ len
-  low = lies .low
-
-  high : len ≤ 65535
-  high = lies .high
 
 run-fits : (s : tie.Start) → length (now (s .args .run)) < 18446744073709551616
 run-fits s = search needs
@@ -130,7 +126,7 @@ unfolding start fitted
 returns-3 c =
     let l = (let p : tie.After-is-fit = search in p .is-fit .ensures) in
     let f = (let p : tie.Else1 = search in p .if1 .left) in
-    let k = (let p : tie.After-is-sound = search in let s : tie.Start = search (start, fitted) in p .is-sound .ensures (now (s .args .templates)) (now (s .args .notepad)) (now (s .args .buffer1)) (now (s .args .buffer2)) refl) in
+    let k = (let p : tie.After-is-sound = search in p .is-sound .ensures) in
     let h = (let p : tie.Else2 = search in p .if2 .left) in
     let g = (let p : tie.Then3 = search in p .if3 .taken) in
     let e = (let p : tie.After-called-of3 = search in p .called-of3 .ensures) in
@@ -156,7 +152,7 @@ unfolding start fitted passed
 returns-4 c =
     let l = (let p : tie.After-is-fit = search fitted in p .is-fit .ensures) in
     let f = (let p : tie.Else1 = search passed in p .if1 .left) in
-    let k = (let p : tie.After-is-sound = search in let s : tie.Start = search (start, fitted) in p .is-sound .ensures (now (s .args .templates)) (now (s .args .notepad)) (now (s .args .buffer1)) (now (s .args .buffer2)) refl) in
+    let k = (let p : tie.After-is-sound = search in p .is-sound .ensures) in
     let h = (let p : tie.Else2 = search in p .if2 .left) in
     let g = (let p : tie.Else3 = search in p .if3 .left) in
     let w = (let p : tie.After-find = search in p .find .ensures) in
@@ -171,12 +167,13 @@ unfolding start fitted passed
 hear-packet-requires c κs =
     let l = (let p : tie.After-is-fit = search fitted in p .is-fit .ensures) in
     let f = (let p : tie.Else1 = search passed in p .if1 .left) in
-    let k = (let p : tie.After-is-sound = search in let s : tie.Start = search (start, fitted) in p .is-sound .ensures (now (s .args .templates)) (now (s .args .notepad)) (now (s .args .buffer1)) (now (s .args .buffer2)) refl) in
+    let k = (let p : tie.After-is-sound = search in p .is-sound .ensures) in
     let h = (let p : tie.Else2 = search in p .if2 .left) in
     let g = (let p : tie.Else3 = search in p .if3 .left) in
     let w = (let p : tie.After-find = search in p .find .ensures) in
     let n = (let p : tie.After-f = search in p .f .given .1) in
-    (fits _ _ _ _ _ _ _ l f _ k g, (moves _ _ _ _ _ _ _ l f _ k g, (inside _ _ _ _ w n, (low _ _ _ _ w n, (high _ _ _ _ w n, h)))))
+    let m = moves _ _ _ _ k g in
+    record { fit = fits _ _ _ _ _ _ _ l f m; legal = m; whole = lies _ _ _ _ w n; room = h }
 
 same-length-3 : tie.Need-same-length-3
 same-length-3 c = search needs
@@ -201,7 +198,7 @@ unfolding start fitted passed
 returns-5 c =
     let l = (let p : tie.After-is-fit = search fitted in p .is-fit .ensures) in
     let f = (let p : tie.Else1 = search passed in p .if1 .left) in
-    let k = (let p : tie.After-is-sound = search in let s : tie.Start = search (start, fitted) in p .is-sound .ensures (now (s .args .templates)) (now (s .args .notepad)) (now (s .args .buffer1)) (now (s .args .buffer2)) refl) in
+    let k = (let p : tie.After-is-sound = search in p .is-sound .ensures) in
     let h = (let p : tie.Else2 = search in p .if2 .left) in
     let g = (let p : tie.Else3 = search in p .if3 .left) in
     let w = (let p : tie.After-find = search in p .find .ensures) in

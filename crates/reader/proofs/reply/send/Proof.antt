@@ -12,6 +12,7 @@ use Rattle.protocol.specs.Data.{packets, dataPackets}
 use Rattle.protocol.proofs.Laws.Sizes.{length-packets}
 use Rattle.rules.specs.Settings.{SizeOf}
 use Rattle.rules.proofs.Sizes.{size-legal}
+use Rattle.reader.specs.Answers.{dataRoom}
 use Rattle.reader.proofs.Replies.{code-size}
 use Rattle.reader.proofs.reply.send.Statement.{statement}
 use Rattle.reader.proofs.reply.send.Tie as tie
@@ -20,7 +21,7 @@ module _ (code z : ℕ) (e : SizeOf code z) (l : code ≤ highestSize) (x : List
   all : length x ≡ pageBytes / z * z
   all = rw (size-legal code z e l) (h ∙ sym (code-size code l .all))
 
-  fits : (at n : ℕ) → at + 688 ≤ n → at + pageBytes / z * (z + frameBytes) ≤ n
+  fits : (at n : ℕ) → at + dataRoom ≤ n → at + pageBytes / z * (z + frameBytes) ≤ n
   fits at n f = rw (size-legal code z e l) (omega (arith, code-size code l .room))
 
   module _ (a : List ℕ) (f : length a ≡ 4) (at : ℕ) where

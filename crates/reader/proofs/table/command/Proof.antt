@@ -1,19 +1,19 @@
--- The gate stops, or the row answers.
+-- What the gate stops is answered by its code alone; what it lets pass, by the row.
 use mathlib.Core.Path.{_≡_, sym, _∙_}
-use mathlib.Core.Bool.{Bool, true, not, _||_}
+use mathlib.Core.Bool.{Bool}
 use mathlib.Core.List.{List}
 use Prim.Native.Nat.{ℕ}
 use borrow.Author.Needs.{needs}
 use Rattle.protocol.specs.declared.Settings.{Settings}
 use Rattle.protocol.specs.Bytes.{byteAt, follow}
 use Rattle.protocol.specs.Packet.{lengthOf}
-use Rattle.protocol.specs.Reader.{Plain, Reader, locked}
+use Rattle.protocol.specs.Reader.{Plain, Reader}
 use Rattle.protocol.specs.Commands.{commands, rowOf, orderOf}
 use Rattle.protocol.specs.Step.{Said, says, obey, heed}
 use Rattle.protocol.specs.Records.{plainOf, readerOf}
 use Rattle.reader.specs.declared.answers.Answer.{Answer}
 use Rattle.reader.specs.Answers.{sent, saidOf, codeAlone}
-use Rattle.rules.specs.Commands.{lenOf, readOf, isFree, gateOf}
+use Rattle.rules.specs.Commands.{readOf, Admitted, gateOf}
 use Rattle.rules.proofs.Gates.{gate-stops, gate-goes, gate-passes}
 use Rattle.reader.proofs.Ready.{ready-alone}
 use Rattle.reader.proofs.table.command.Statement.{statement}
@@ -26,17 +26,14 @@ stops s t i m b d x right stop a e g z = rw (e, g) (sym (gate-stops (readerOf s 
 
 -- what a passed gate says
 module _ (right : Bool) (k n stop : ℕ) (p : Plain) (g : stop ≡ gateOf right k n p) (z : stop ≡ 0) where
-  passed-long : lenOf (rowOf commands k) ≡ n
-  passed-long = gate-passes right k n p (sym g ∙ z) .long
-
-  passed-open : (isFree k || not (locked p)) ≡ true
-  passed-open = gate-passes right k n p (sym g ∙ z) .open′
+  passed : Admitted k n p
+  passed = gate-passes right k n p (sym g ∙ z) .admits
 
 goes : (r : Reader) (x : List ℕ) (right : Bool) (stop : ℕ) (said : Said) → said ≡ obey r (readOf (rowOf commands (byteAt x 0)) x)
     → stop ≡ gateOf right (byteAt x 0) (lengthOf x) (r .plain) → stop ≡ 0 → said ≡ heed r (orderOf right x)
 goes r x right stop said e g z =
     let p = gate-passes right (byteAt x 0) (lengthOf x) (r .plain) (sym g ∙ z) in
-    e ∙ sym (gate-goes r x right (p .sum) (p .long))
+    e ∙ sym (gate-goes r x right (p .sum) (p .admits .long))
 
 shared-slice-read-code : tie.Need-shared-slice-read-code
 shared-slice-read-code c = search needs
@@ -54,7 +51,7 @@ returns : tie.Need-returns
 returns c = (search stops, search ready-alone)
 
 row-requires : tie.Need-row-requires
-row-requires c κs = (search, (search passed-long, search passed-open))
+row-requires c κs = record { fit = search; admits = search passed }
 
 same-length : tie.Need-same-length
 same-length c = search needs

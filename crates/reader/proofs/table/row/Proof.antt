@@ -1,4 +1,4 @@
--- Each arm is its command's contract, at the row of its code; the last is 40h.
+-- Each arm's code has the row that its command's contract cites; behind the gate the catch-all is 40h alone.
 use mathlib.Core.Path.{_≡_, refl, _∙_}
 use mathlib.Core.Bool.{true, false, not, _||_}
 use mathlib.Core.List.{List}
@@ -15,6 +15,7 @@ use Rattle.protocol.specs.Bytes.{follow}
 use Rattle.protocol.specs.Reader.{Reader, locked}
 use Rattle.protocol.specs.Commands.{Free, Barred, free, barred, commands, rowOf}
 use Rattle.protocol.specs.Table.{rule, freeRule, publicOf}
+use Rattle.protocol.specs.Call.{core}
 use Rattle.protocol.specs.Step.{Said, carry, carryFree, obey}
 use Rattle.protocol.specs.Records.{readerOf}
 use Rattle.protocol.proofs.Laws.Logic.{not-true}
@@ -147,6 +148,7 @@ read-note-requires : tie.Need-read-note-requires
 read-note-requires c κs = search needs
 
 count-pages-requires : tie.Need-count-pages-requires
+unfolding core
 count-pages-requires c κs = search needs
 
 shared-slice-read-read-index : tie.Need-shared-slice-read-read-index
@@ -178,7 +180,7 @@ returns c =
     let w = (let p : tie.After-word-at = search in p .word-at .ensures .0) in
     let f = rw w at e in
     let k = (let p : tie.At-match-keys1 = search in p .match .keys1) in
-    let o = (let s : tie.Start = search start in s .pre .1 .1) in
+    let o = (let s : tie.Start = search start in s .pre .admits .open′) in
     (search barred-row, search)
 
 same-length-5 : tie.Need-same-length-5
@@ -200,7 +202,7 @@ returns-2 c =
     let w = (let p : tie.After-word-at2 = search in p .word-at2 .ensures .0) in
     let f = rw w at e in
     let k = (let p : tie.At-match-keys2 = search in p .match .keys2) in
-    let o = (let s : tie.Start = search start in s .pre .1 .1) in
+    let o = (let s : tie.Start = search start in s .pre .admits .open′) in
     (search barred-row, search)
 
 returns-3 : tie.Need-returns-3
