@@ -159,7 +159,11 @@ pub fn step(
 }
 
 // The line switch: any settings, whatever bytes their marks are.
-pub fn line_switch(settings: StoredSettings, buffer1: &mut [u8], buffer2: &mut [u8]) -> StoredSwitched
+pub fn line_switch(
+    settings: StoredSettings,
+    buffer1: &mut [u8],
+    buffer2: &mut [u8],
+) -> StoredSwitched
     ensures { λ r. ⌜ ((t i n : List ℕ) → storedSwitchedOf r t i n (now (buffer1 .exit)) (now (buffer2 .exit)) ≡ storedSwitchOf (storedReaderOf settings t i n (now (buffer1 .entry)) (now (buffer2 .entry)))) ⌝ }
 {
     let switched = call::line_switch(read(settings, settings.level), buffer1, buffer2);
