@@ -58,6 +58,7 @@ struct bystrodol_settings {
     uint8_t verified;    /* 1 once the right password was given */
     uint8_t filled1;     /* 1 if character buffer 1 holds a template, received or put there by the firmware */
     uint8_t filled2;     /* the same of character buffer 2 */
+    uint8_t spare;       /* any byte; kept as it is */
 };
 
 /* What a call answers, 24 bytes. */
