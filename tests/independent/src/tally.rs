@@ -17,8 +17,10 @@ const UPLOADS: usize = 2;
 const DOWNLOADS: usize = 3;
 const REFUSALS: usize = 4;
 const SWITCHES: usize = 5;
+const MARKS: usize = 6;
+const MARKS_SWITCHED: usize = 7;
 
-const KINDS: [Kind; 6] = [
+const KINDS: [Kind; 8] = [
     Kind {
         name: "acknowledge codes",
         codes: true,
@@ -29,6 +31,8 @@ const KINDS: [Kind; 6] = [
     Kind { name: "downloads completed by size", codes: false, awaited: &[32, 64, 128] },
     Kind { name: "calls by refusal", codes: false, awaited: &[0, 1, 2, 3] },
     Kind { name: "line switches by refusal", codes: false, awaited: &[0, 1] },
+    Kind { name: "calls by refusal, with a mark of neither 0 nor 1", codes: false, awaited: &[1, 2, 3] },
+    Kind { name: "line switches by refusal, with such a mark", codes: false, awaited: &[0] },
 ];
 
 #[derive(Default)]
@@ -41,11 +45,18 @@ impl Tally {
     pub fn add(&mut self, request: &Request, outcome: &Outcome) {
         self.calls += 1;
         let refusal = outcome.answer.refusal;
+        let unfit = !request.reader.settings.marks_legal();
         if request.line_switch {
             self.count(SWITCHES, refusal);
+            if unfit {
+                self.count(MARKS_SWITCHED, refusal);
+            }
             return;
         }
         self.count(REFUSALS, refusal);
+        if unfit {
+            self.count(MARKS, refusal);
+        }
         let packet = match find(&request.run) {
             (_, Some(packet)) if refusal == 0 => packet,
             _ => return,
