@@ -1,5 +1,5 @@
-// The settings as C stores them, and the reader on them by value. Any byte may lie in a mark: one that is neither 0 nor 1 is a setting that is
-// not legal. It is read here, so that inside the reader there is no such mark.
+// The settings as C stores them, and the reader on them by value. Any byte may lie in a mark; one that is neither 0 nor 1 is a setting that is
+// not legal. The marks are read here, so that inside the reader there is no such byte.
 ghost use mathlib.Core.Path.{_≡_};
 ghost use mathlib.Core.Bool.{cond};
 ghost use mathlib.Core.List.{List};
@@ -46,7 +46,7 @@ pub struct StoredSwitched {
 }
 
 // Whether each mark is 0 or 1. The two take the same path, since filled marks are guarded.
-fn is_marked(s: StoredSettings) -> bool
+fn has_fit_marks(s: StoredSettings) -> bool
     ensures { λ r. ⌜ r ≡ fitMarks (marksOf s) ⌝ }
 {
     if 1 < s.verified {
@@ -58,11 +58,11 @@ fn is_marked(s: StoredSettings) -> bool
     s.filled2 < 2
 }
 
-// The level that the reader is handed. Where a mark is not fit it is one that is not legal, and the reader refuses it in its turn.
+// The level that the reader is handed: where a mark is not fit, one that is not legal. So the reader refuses such a mark, in its own order.
 fn level_of(s: StoredSettings) -> u8
     ensures { λ r. ⌜ r ≡ cond (fitMarks (marksOf s)) (s .level) 0 ⌝ }
 {
-    let fit = is_marked(s);
+    let fit = has_fit_marks(s);
     if fit { s.level } else { NO_LEVEL }
 }
 

@@ -1,3 +1,4 @@
+-- Fresh settings, stored.
 use borrow.Author.Needs.{needs}
 use Rattle.board.proofs.Storing.{freshly}
 use Rattle.board.proofs.stored.fresh.Statement.{statement}

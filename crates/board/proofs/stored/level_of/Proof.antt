@@ -12,8 +12,8 @@ taken fit m a b t e = rw (← e, t)
 left : (fit m : Bool) (a b : ℕ) → m ≡ false → m ≡ fit → b ≡ cond fit a b
 left fit m a b t e = rw (← e, t)
 
-is-marked-requires : tie.Need-is-marked-requires
-is-marked-requires c κs = search needs
+has-fit-marks-requires : tie.Need-has-fit-marks-requires
+has-fit-marks-requires c κs = search needs
 
 returns : tie.Need-returns
 returns c = search taken
@@ -22,4 +22,4 @@ returns-2 : tie.Need-returns-2
 returns-2 c = search left
 
 pub level-of-spec : {M : Type 1} → statement M
-level-of-spec = tie.close (tie.spec is-marked-requires returns returns-2)
+level-of-spec = tie.close (tie.spec has-fit-marks-requires returns returns-2)

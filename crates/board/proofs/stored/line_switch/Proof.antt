@@ -1,3 +1,4 @@
+-- The reader is called with the marks as they are read, and the record is kept or stored anew.
 use borrow.Author.Needs.{needs}
 use Rattle.board.proofs.Storing.{switched}
 use Rattle.board.proofs.stored.line_switch.Statement.{statement}

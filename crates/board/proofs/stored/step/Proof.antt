@@ -1,3 +1,4 @@
+-- The reader is called at a level that says whether the marks are fit, and the record is kept or stored anew.
 use borrow.Author.Needs.{needs}
 use Rattle.board.proofs.Storing.{stepped}
 use Rattle.board.proofs.stored.step.Statement.{statement}

@@ -2,8 +2,8 @@
 use Rattle.wire.proofs.Picks.{picks}
 use borrow.Author.Needs.{needs}
 use Rattle.board.specs.Stored.{fitMark, fitMarks}
-use Rattle.board.proofs.stored.is_marked.Statement.{statement}
-use Rattle.board.proofs.stored.is_marked.Tie as tie
+use Rattle.board.proofs.stored.has_fit_marks.Statement.{statement}
+use Rattle.board.proofs.stored.has_fit_marks.Tie as tie
 
 returns : tie.Need-returns
 unfolding fitMarks fitMark
@@ -17,5 +17,5 @@ returns-3 : tie.Need-returns-3
 unfolding fitMarks fitMark
 returns-3 c = search (picks, needs)
 
-pub is-marked-spec : {M : Type 1} → statement M
-is-marked-spec = tie.close (tie.spec returns returns-2 returns-3)
+pub has-fit-marks-spec : {M : Type 1} → statement M
+has-fit-marks-spec = tie.close (tie.spec returns returns-2 returns-3)
