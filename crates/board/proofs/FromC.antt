@@ -12,13 +12,13 @@ use Rattle.protocol.specs.Numbers.{badLength, badRoom, badSetting}
 use Rattle.protocol.specs.Tests.{verdict}
 use Rattle.protocol.specs.Reader.{Reader, withMark, withTransfer, emptied}
 use Rattle.protocol.specs.Step.{wiped, switched}
-use Rattle.protocol.specs.Call.{core, fitLengths, fitRoom, Told, Ended, refused, callOf, switchRefusal, switchAs, switchOf}
+use Rattle.protocol.specs.Call.{core, fitLengths, fitRoom, Ended, refused, callOf, switchRefusal, switchAs, switchOf}
 use Rattle.protocol.proofs.Promises.Refused.{refused-call, refused-switch}
 use Rattle.protocol.proofs.Promises.OneResult.{OneReader, one-reader}
 use Rattle.board.specs.declared.stored.StoredSettings.{StoredSettings}
 use Rattle.board.specs.declared.stored.StoredCalled.{StoredCalled}
 use Rattle.board.specs.declared.stored.StoredSwitched.{StoredSwitched}
-use Rattle.board.specs.Stored.{markOf, fitMark, Marks, fitMarks, StoredReader, settingsOf, storedReaderOf, stored, StoredEnd, storedAfter, marksRefusal, storedCallOf, storedSwitchOf, storedEndOf, storedSwitchedOf}
+use Rattle.board.specs.Stored.{markOf, fitMark, fitMarks, StoredReader, settingsOf, storedReaderOf, stored, StoredEnd, storedAfter, marksRefusal, storedCallOf, storedSwitchOf, storedEndOf, storedSwitchedOf}
 
 -- ---- a call, and the line switch
 

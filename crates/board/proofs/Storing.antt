@@ -1,6 +1,6 @@
 -- A stored record: what the reader reads of it, and what a call leaves in it.
 use mathlib.Core.Bool.{Bool, true, false, cond}
-use mathlib.Core.Path.{_≡_, refl, sym, ap, _∙_}
+use mathlib.Core.Path.{_≡_, refl, ap, _∙_}
 use mathlib.Core.Logic.{_≢_}
 use mathlib.Core.List.{List, [], _∷_}
 use Prim.Native.Nat.{ℕ, zero, suc}
@@ -14,9 +14,9 @@ use Rattle.protocol.specs.Tests.{verdict, within}
 use Rattle.protocol.specs.Reader.{Reader}
 use Rattle.protocol.specs.Call.{core, fitLengths, fitRoom, fitPlain, sound, Ended, refusalOf, refused, callAs, callOf, switchOf}
 use Rattle.protocol.specs.Records.{readerOf, freshOf, endedOf, switchedOf}
-use Rattle.protocol.proofs.Promises.Refused.{Unchanged, refused-call, refused-switch}
+use Rattle.protocol.proofs.Promises.Refused.{refused-call, refused-switch}
 use Rattle.board.specs.declared.stored.StoredSettings.{StoredSettings}
-use Rattle.board.specs.Stored.{isSet, markOf, fitMarks, marksOf, settingsAt, settingsOf, stored, storedReaderOf, StoredReader, StoredEnd, storedAfter, marksRefusal, storedCallOf, storedSwitchOf, storedFreshOf, storedEndOf, storedSwitchedOf}
+use Rattle.board.specs.Stored.{isSet, markOf, fitMarks, marksOf, settingsAt, settingsOf, stored, storedReaderOf, StoredReader, storedAfter, marksRefusal, storedCallOf, storedSwitchOf, storedFreshOf, storedEndOf, storedSwitchedOf}
 use Rattle.board.specs.Storing.{storedAt, keptOf}
 
 -- ---- a mark written and read again

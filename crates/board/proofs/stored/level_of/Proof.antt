@@ -1,6 +1,6 @@
 -- The choice that the contract makes.
 use mathlib.Core.Bool.{Bool, true, false, cond}
-use mathlib.Core.Path.{_≡_, sym}
+use mathlib.Core.Path.{_≡_}
 use Prim.Native.Nat.{ℕ}
 use borrow.Author.Needs.{needs}
 use Rattle.board.proofs.stored.level_of.Statement.{statement}

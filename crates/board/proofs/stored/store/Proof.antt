@@ -1,6 +1,5 @@
 -- The record as the code lists it.
 use mathlib.Core.Path.{_≡_, refl}
-use mathlib.Core.Bool.{Bool}
 use Prim.Native.Nat.{ℕ}
 use borrow.Author.Needs.{needs}
 use Rattle.protocol.specs.declared.Settings.{Settings}
