@@ -38,10 +38,8 @@ static void begin(struct table *table, const char *name, size_t capacity) {
     run_length = 0;
 }
 
-/* All bytes, but the one that pads the settings. */
 static int is_same(const struct reader *a, const struct reader *b) {
-    const size_t settings_bytes = offsetof(struct bystrodol_settings, filled2) + 1;
-    return memcmp(&a->settings, &b->settings, settings_bytes) == 0 &&
+    return memcmp(&a->settings, &b->settings, sizeof a->settings) == 0 &&
            memcmp(&a->memory, &b->memory, sizeof a->memory) == 0 && memcmp(a->reply, b->reply, sizeof a->reply) == 0;
 }
 
@@ -141,6 +139,9 @@ static void refusal_rows(size_t capacity) {
     measure_call(REFUSED + BYSTRODOL_BAD_ROOM);
     begin(&calls, "refusal 3, a setting", capacity);
     reader.settings.level = 6;
+    measure_call(REFUSED + BYSTRODOL_BAD_SETTING);
+    begin(&calls, "refusal 3, a mark", capacity);
+    reader.settings.verified = 2;
     measure_call(REFUSED + BYSTRODOL_BAD_SETTING);
 }
 

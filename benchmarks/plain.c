@@ -147,7 +147,10 @@ static int is_size(uint8_t size) { return size <= 2; }
 
 static int is_baud(uint8_t baud) { return baud >= 1 && baud <= 12; }
 
+static int is_mark(uint8_t mark) { return mark <= 1; }
+
 static int is_legal(const struct bystrodol_settings *settings) {
+    if (!is_mark(settings->verified) || !is_mark(settings->filled1) || !is_mark(settings->filled2)) return 0;
     if (!is_level(settings->level) || !is_size(settings->size) || !is_baud(settings->baud)) return 0;
     if (settings->transfer == 0) return settings->got == 0;
     return settings->transfer <= 2 && settings->got < BYSTRODOL_PAGE_BYTES &&

@@ -1,10 +1,12 @@
 /*
  * bench.c: the bench program in C, an example for firmware: a reader of 64 pages that takes packets from standard input and
  * writes replies to standard output. On a board, read and write are those of the serial port, and the memory is where
- * the board keeps it. A board adds the line switch, the port's speed, and the keeping of settings and memory over power-off.
+ * the board keeps it. A board adds what include/bystrodol.h says of power-on, silence, another host, the port's speed, and saving.
  *
  *     rt staticlib board && cc -I include examples/bench.c target/staticlib/libboard.a -o bench
  */
+#define _POSIX_C_SOURCE 200809L /* read, write, ssize_t, dprintf */
+
 #include <stdio.h>
 #include <string.h>
 #include <unistd.h>

@@ -1,24 +1,36 @@
 /*
  * bystrodol.h: the EF01 reader core for C99 and C++: the whole reader, and four plain services.
  *
- * Link with the archive that `rt staticlib board` writes, target/staticlib/libboard.a (x86-64 Linux).
- * The archive needs memcpy and memset, and nothing else of the C library. Nothing is kept between calls: each answer
- * depends on the arguments and the memory that they lead to, and calls on different memory may run at the same time.
+ * Link with the archive that `rt staticlib board` writes, target/staticlib/libboard.a (x86-64 Linux). The archive needs
+ * memcpy and memset, and nothing else of the C library. Nothing is kept between calls: each answer depends on the arguments
+ * and the memory that they lead to, and calls on different memory may run at the same time.
  *
- * Slices. A run, a content, a room or a lent memory is two arguments, a pointer and a length in bytes:
- *   - The pointer leads to that many bytes, all of which the caller may read; where it is not const, also write.
+ * Each function has an answer for every number, every length and every byte, bad ones included, and that answer is proved
+ * (crates/board/src). What no proof can see is the caller's part:
+ *   - A run, a content, a room or a lent memory is two arguments, a pointer and a length in bytes. The pointer leads to that
+ *     many bytes, all of which the caller may read; where it is not const, also write. They need no alignment.
  *   - Where the length is 0 nothing is read or written, and the pointer may be NULL. No other pointer may be NULL.
- *   - Bytes need no alignment.
+ *   - The pointer to the settings leads to a whole, aligned struct bystrodol_settings. Any bytes may lie in it.
  *   - No two arguments of a call share a byte, but two that are both const.
- *   - No other thread or interrupt handler changes the bytes during the call, nor reads those that are not const.
+ *   - No other thread or interrupt handler changes the bytes during the call, nor reads those that are not const. The
+ *     settings may be written with what they have, even when the call is refused.
  *
- * Settings. The pointer leads to a whole, aligned struct bystrodol_settings; its three marks are 0 or 1, nothing else. It
- * shares no byte with another argument, and no other thread or interrupt handler touches it during the call; it may be
- * written with what it has, even when the call is refused.
- *
- * Each function has an answer for every number, every length and every setting, bad ones included, and that answer is
- * proved (crates/board/src/lib.rt). No proof covers a C caller that breaks the rules above: what then happens is
- * undefined.
+ * How a firmware uses it:
+ *   Power-on. Load settings and memory from where they are kept, or start with bystrodol_fresh and zeroed memory. Then, first of
+ *     all, the line switch: what was stored may say that a password was given. It takes any bytes. Then one bystrodol_step
+ *     with a run of 0 bytes: it changes nothing, and its refusal tells whether the stored settings and index are legal. Any
+ *     password and any address are, so keep a sum of your own over what is stored. Fresh settings have no password: do not
+ *     fall back to them where the memory has templates.
+ *   A loop. Receive bytes behind those that are held. Call bystrodol_step with all of them. If refusal is not 0, stop: the same
+ *     call will be refused again. Send length bytes of the reply room, and no more: behind them lie bytes of earlier replies,
+ *     templates among them. Drop used bytes from the front. While used is not 0 call again with what is left.
+ *   Silence. An unfinished packet stays held, and the rest of it is awaited: up to 264 bytes that come next are taken for it.
+ *     The core knows no time. After a pause of your own choosing, longer than a host ever makes inside a packet, drop all
+ *     bytes that are held, and not some: what is left of a packet could have a command in its data. Nothing is called for
+ *     that. A transfer stays open; the host's next command ends it.
+ *   Another host. Call the line switch whenever the line goes to another host: without it that one finds the reader as the last
+ *     one left it, open and with its buffers.
+ *   Saving. The table of commands below says what each one changes.
  */
 #ifndef BYSTRODOL_H
 #define BYSTRODOL_H
@@ -26,38 +38,121 @@
 #include <stddef.h>
 #include <stdint.h>
 
-/* The bytes of a template page, of each character buffer and of the notepad; and the most pages. */
+/* The version of this header and of the archive. Another major number, or, while that is 0, another minor one, may need a
+ * change of the caller. */
+#define BYSTRODOL_VERSION_MAJOR 0
+#define BYSTRODOL_VERSION_MINOR 1
+#define BYSTRODOL_VERSION_PATCH 0
+#define BYSTRODOL_VERSION "0.1.0"
+
+/* ---- lengths, in bytes */
+
+/* A template page, a character buffer, and the notepad; and the most pages. */
 #define BYSTRODOL_PAGE_BYTES 512u
 #define BYSTRODOL_PAGES_MOST 256u
 
-/* The least bytes of a reply room. No reply is longer. */
+/* The index. */
+#define BYSTRODOL_INDEX_BYTES 32u
+
+/* The least reply room. No reply is longer. */
 #define BYSTRODOL_REPLY_BYTES 700u
 
-/* Why a call was refused, tested in this order; 0 is carried out. Refused, it uses, replies and changes nothing. */
+/* A packet beside its content, the most content, and an unfinished packet at most. A line needs room for one byte more. */
+#define BYSTRODOL_FRAME_BYTES 11u
+#define BYSTRODOL_CONTENT_MOST 254u
+#define BYSTRODOL_UNFINISHED_MOST 264u
+
+/* ---- why a call was refused, tested in this order; 0 is carried out. Refused, it uses, replies and changes nothing. */
+
 #define BYSTRODOL_ACCEPTED 0u
 #define BYSTRODOL_BAD_LENGTH 1u  /* a lent length, the reply room's apart, is not as it must be */
 #define BYSTRODOL_BAD_ROOM 2u    /* the reply room is too small */
 #define BYSTRODOL_BAD_SETTING 3u /* a setting or the transfer is not legal, or an index bit at or above the capacity is set */
 
+/* ---- a packet: EF 01, address (4), identifier, length (2), content, sum (2); numbers high byte first. The length counts content
+ * and sum. The sum is identifier, both length bytes and every content byte added, modulo 65536. */
+
+#define BYSTRODOL_PACKET_COMMAND 1u
+#define BYSTRODOL_PACKET_DATA 2u
+#define BYSTRODOL_PACKET_ACKNOWLEDGE 7u
+#define BYSTRODOL_PACKET_LAST_DATA 8u
+
 /*
- * A reader's settings, 20 bytes; the last is padding and means nothing. Numbers are in the machine's byte order. They hold
- * no pointer: they may be copied, stored and moved.
+ * ---- commands, the first byte of the content; behind it the parameters, a page or a count as two bytes
  *
- * A transfer is legal if got is a multiple of the size and below 512, its buffer's filled mark is 0, and the reader is not
- * locked: password 0, or verified 1. No transfer is transfer 0 and got 0.
+ * What a command changes where it is answered 00h. With any other code it changes nothing, but that a wrong password clears the
+ * verified mark. A command, whatever it is answered, also ends an open transfer: settings, and its buffer is zeroed.
+ * A data packet changes a buffer and the settings, and only while a transfer is open.
+ *
+ * Over power-off nothing of a buffer, a mark or a transfer is worth keeping, since the line switch clears them. So save templates
+ * and index after Store, DeletChar and Empty, settings after SetSysPara, SetPwd and SetAdder, and the notepad after
+ * WriteNotepad; or compare them with what was saved. In a call that replied, the packet begins at the first EF 01 of the
+ * run, and its code stands 9 bytes further; the reply's code is byte 9 of the reply room.
+ */
+#define BYSTRODOL_COMMAND_STORE 0x06u            /* buffer, page: templates and index */
+#define BYSTRODOL_COMMAND_LOAD_CHAR 0x07u        /* buffer, page: that buffer; settings (its filled mark) */
+#define BYSTRODOL_COMMAND_UP_CHAR 0x08u          /* buffer: nothing */
+#define BYSTRODOL_COMMAND_DOWN_CHAR 0x09u        /* buffer: that buffer; settings (its filled mark, the transfer) */
+#define BYSTRODOL_COMMAND_DELET_CHAR 0x0Cu       /* page, count: templates and index */
+#define BYSTRODOL_COMMAND_EMPTY 0x0Du            /* templates and index */
+#define BYSTRODOL_COMMAND_SET_SYS_PARA 0x0Eu     /* parameter, value: settings (baud, level or size) */
+#define BYSTRODOL_COMMAND_READ_SYS_PARA 0x0Fu    /* nothing */
+#define BYSTRODOL_COMMAND_SET_PWD 0x12u          /* password: settings (password, verified mark) */
+#define BYSTRODOL_COMMAND_VFY_PWD 0x13u          /* password: settings (verified mark) */
+#define BYSTRODOL_COMMAND_SET_ADDER 0x15u        /* address: settings (address) */
+#define BYSTRODOL_COMMAND_WRITE_NOTEPAD 0x18u    /* notepad page, 32 bytes: notepad */
+#define BYSTRODOL_COMMAND_READ_NOTEPAD 0x19u     /* notepad page: nothing */
+#define BYSTRODOL_COMMAND_TEMPLETE_NUM 0x1Du     /* nothing */
+#define BYSTRODOL_COMMAND_READ_INDEX_TABLE 0x1Fu /* page, one byte, 0: nothing */
+#define BYSTRODOL_COMMAND_HAND_SHAKE 0x40u       /* nothing */
+
+/* The parameters of SetSysPara. */
+#define BYSTRODOL_PARAMETER_BAUD 4u
+#define BYSTRODOL_PARAMETER_LEVEL 5u
+#define BYSTRODOL_PARAMETER_SIZE 6u
+
+/* ---- acknowledge codes, the first byte of an acknowledge's content */
+
+#define BYSTRODOL_CODE_DONE 0x00u
+#define BYSTRODOL_CODE_BAD_PACKET 0x01u      /* a wrong sum, a length that is not the command's, or a buffer that is not 1 or 2 */
+#define BYSTRODOL_CODE_BAD_PAGE 0x0Bu        /* no such page */
+#define BYSTRODOL_CODE_NOTHING_THERE 0x0Cu   /* a buffer that is not filled, or a page that is not stored */
+#define BYSTRODOL_CODE_NOTHING_TO_SEND 0x0Du /* UpChar of a buffer that is not filled */
+#define BYSTRODOL_CODE_TRANSFER_FAILED 0x0Eu /* a data packet did not fit; the transfer is closed and its buffer zeroed */
+#define BYSTRODOL_CODE_BAD_RANGE 0x10u       /* pages to delete that are not there */
+#define BYSTRODOL_CODE_WRONG_PASSWORD 0x13u
+#define BYSTRODOL_CODE_UNKNOWN_COMMAND 0x19u
+#define BYSTRODOL_CODE_BAD_PARAMETER 0x1Au   /* SetSysPara: no such parameter */
+#define BYSTRODOL_CODE_BAD_VALUE 0x1Bu       /* SetSysPara: a value outside the parameter's range */
+#define BYSTRODOL_CODE_BAD_NOTE_PAGE 0x1Cu   /* no such page of the notepad */
+#define BYSTRODOL_CODE_PASSWORD_FIRST 0x21u  /* the reader is locked */
+
+/*
+ * A reader's settings, 20 bytes without a gap. Numbers are in the machine's byte order. They hold no pointer: they may be
+ * copied, compared, stored and moved.
+ *
+ * A mark is 0 or 1. Any other byte there, or a number outside its range, is a setting that is not legal: a call is refused
+ * with 3, and every byte stays as it is. The line switch takes them all.
+ *
+ * The reader is locked if the password is not 0 and verified is 0. A transfer is legal if got is a multiple of the size and
+ * below 512, its buffer's filled mark is 0, and the reader is not locked. No transfer is transfer 0 and got 0.
+ *
+ * The core only keeps the baud factor; the port is the firmware's. The reply to SetSysPara still goes out at the old speed.
+ * When its last byte has left, set the port to 9600 times the new factor, in bits a second.
  */
 struct bystrodol_settings {
     uint8_t password[4]; /* high byte first; 0 is no password */
     uint8_t address[4];  /* high byte first; FFFFFFFFh is a fresh reader's */
     uint8_t level;       /* security level, 1 to 5 */
     uint8_t size;        /* size code of data packets: 0, 1, 2 mean 32, 64, 128 bytes */
-    uint8_t baud;        /* baud factor, 1 to 12; a host changes it here, and the caller the port's speed */
+    uint8_t baud;        /* baud factor, 1 to 12 */
     uint8_t transfer;    /* 0: no transfer; 1 or 2: bytes are being received into that buffer */
     uint16_t sensor;     /* sensor type, any number */
     uint16_t got;        /* bytes of the transfer received so far; 0 where there is none */
     uint8_t verified;    /* 1 once the right password was given */
     uint8_t filled1;     /* 1 if character buffer 1 holds a template, received or put there by the firmware */
     uint8_t filled2;     /* the same of character buffer 2 */
+    uint8_t spare;       /* any byte; no call changes it */
 };
 
 /* What a call answers, 24 bytes. */
@@ -67,16 +162,6 @@ struct bystrodol_answer {
     size_t length;   /* bytes of the reply, at the front of the reply room; 0 is silence */
 };
 
-/* What bystrodol_count answers to an index that is not 32 bytes long. */
-#define BYSTRODOL_NO_COUNT 0xFFFFu
-
-/* The bytes of an index. */
-#define BYSTRODOL_INDEX_BYTES 32u
-
-/* The bytes of a packet beside its content, and the most bytes of content. */
-#define BYSTRODOL_FRAME_BYTES 11u
-#define BYSTRODOL_CONTENT_MOST 254u
-
 #ifdef __cplusplus
 extern "C" {
 #endif
@@ -85,17 +170,20 @@ extern "C" {
 
 /*
  * Fresh settings: password 0, address FFFFFFFFh, level 3, size code 1, baud factor 6, sensor type 0, marks clear, no
- * transfer. With zeroed memory they are a fresh reader.
+ * transfer, spare 0. With zeroed memory they are a fresh reader.
  */
 struct bystrodol_settings bystrodol_fresh(void);
 
 /*
+ * The line switch: verified mark and filled marks 0, transfer closed, both buffers zeroed. It takes any settings, whatever
+ * bytes they are. Returns 0, or BYSTRODOL_BAD_LENGTH if a buffer is not 512 bytes long; then nothing changes.
+ */
+uint8_t bystrodol_line_switch(struct bystrodol_settings *settings, uint8_t *buffer1, size_t buffer1_length,
+                              uint8_t *buffer2, size_t buffer2_length);
+
+/*
  * A call of the reader: finds the first packet in a run of received bytes, carries it out, and writes the reply. It deals
- * with at most one packet. After each call:
- *   - If refusal is not 0, stop: the same call will be refused again, and receiving more does not help.
- *   - Send length bytes of the reply room, and no more: behind them lie bytes of earlier replies, templates among them.
- *   - Drop used bytes of the run. If used is 0, receive more. An unfinished packet has at most 264 bytes, so that a line of
- *     265 or more never fills up.
+ * with at most one packet. Used 0, where it is not refused, means that the run is empty, a lone EFh, or an unfinished packet.
  *
  *   settings                      the reader's; changed where they lie
  *   templates, templates_length   512 bytes for each page, 1 to 256 pages; the length says how many
@@ -111,15 +199,6 @@ struct bystrodol_answer bystrodol_step(struct bystrodol_settings *settings, uint
                                        uint8_t *buffer1, size_t buffer1_length, uint8_t *buffer2,
                                        size_t buffer2_length, const uint8_t *run, size_t run_length, uint8_t *reply,
                                        size_t reply_length);
-
-/*
- * The line switch: verified mark and filled marks cleared, transfer closed, both buffers zeroed. It takes any settings whose
- * marks are 0 or 1, illegal ones too. Call it whenever the line goes to another host, and at power-on: without it the next
- * host finds the reader as the last one left it, open and with its buffers.
- * Returns 0, or BYSTRODOL_BAD_LENGTH if a buffer is not 512 bytes long; then nothing changes.
- */
-uint8_t bystrodol_line_switch(struct bystrodol_settings *settings, uint8_t *buffer1, size_t buffer1_length,
-                              uint8_t *buffer2, size_t buffer2_length);
 
 /* ---- four plain services */
 
@@ -142,14 +221,14 @@ uint16_t bystrodol_sum(const uint8_t *run, size_t run_length);
 size_t bystrodol_used(const uint8_t *run, size_t run_length);
 
 /*
- * Builds a packet at the front of the room: EF 01, address, identifier, length, content, sum; numbers high byte first.
- * Returns the packet's length, content_length + 11. Room past the packet keeps its bytes.
+ * Builds a packet at the front of the room. Returns the packet's length, content_length + 11. Room past the packet keeps
+ * its bytes.
  *
  * Returns 0 and writes nothing if identifier is not 1, 2, 7 or 8, if content_length is not 1 to 254, or if
  * room_length is below content_length + 11.
  *
  *   address                   the module's address as a number; FFFFFFFFh is a fresh reader's
- *   identifier                1 command, 2 data, 7 acknowledge, 8 last data
+ *   identifier                BYSTRODOL_PACKET_COMMAND, _DATA, _ACKNOWLEDGE or _LAST_DATA
  *   content, content_length   the bytes between the length and the sum
  *   room, room_length         where the packet goes
  */
@@ -163,6 +242,8 @@ size_t bystrodol_build(uint32_t address, uint8_t identifier, const uint8_t *cont
  *   index, index_length   the index; page p is the bit of weight 2^(p mod 8) in byte p / 8
  */
 uint16_t bystrodol_count(const uint8_t *index, size_t index_length);
+
+#define BYSTRODOL_NO_COUNT 0xFFFFu
 
 #ifdef __cplusplus
 }

@@ -1,6 +1,7 @@
 /*
- * Calls the whole reader from C: the layout of its structs, fresh settings, a few answers, and every refusal. All memory, the
- * settings too, lies in one area with guard bytes around each part; after a refusal no byte of the area has changed.
+ * Calls the whole reader from C: the layout of its structs, fresh settings, every code that the header names, and every refusal.
+ * Marks of all bytes, and settings of random bytes. All memory, the settings too, lies in one area with guard bytes around
+ * each part; after a refusal no byte of the area has changed.
  * tests/c/run builds and runs it. It writes one line, 'reader: N checks passed', and ends with 0; or names each failed check
  * and ends with 1.
  */
@@ -25,6 +26,7 @@ AT(bystrodol_settings, got, 14);
 AT(bystrodol_settings, verified, 16);
 AT(bystrodol_settings, filled1, 17);
 AT(bystrodol_settings, filled2, 18);
+AT(bystrodol_settings, spare, 19);
 _Static_assert(_Alignof(struct bystrodol_settings) == 2, "the settings' alignment");
 
 _Static_assert(sizeof(struct bystrodol_answer) == 24, "the answer");
@@ -81,11 +83,7 @@ static void step(void) {
                             part(BUFFER1), lengths[BUFFER1], part(BUFFER2), lengths[BUFFER2], part(RUN), lengths[RUN], part(REPLY), lengths[REPLY]);
 }
 
-/* All bytes but the settings' padding. */
-static size_t unchanged(void) {
-    ((uint8_t *)&area.settings)[19] = ((const uint8_t *)&was.settings)[19];
-    return differ((const uint8_t *)&area, (const uint8_t *)&was, sizeof area);
-}
+static size_t unchanged(void) { return differ((const uint8_t *)&area, (const uint8_t *)&was, sizeof area); }
 
 /* The call is refused, and not a byte of the area changes. */
 static void refuses(const char *name, size_t which, uint8_t refusal) {
@@ -99,15 +97,17 @@ static void refuses(const char *name, size_t which, uint8_t refusal) {
 /* Where a part lies in the area as it was. */
 static uint8_t *part_was(int i) { return was.parts + (parts[i] - area.parts); }
 
-/* The run is answered 00h, and nothing else of the area changes. */
-static void is_done(const char *name, size_t which) {
+/* The run is answered with these bytes, and nothing else of the area changes. */
+static void is_answered(const char *name, size_t which, const uint8_t *reply, size_t length) {
     check_of(name, which, "refusal", answer.refusal, BYSTRODOL_ACCEPTED);
     check_of(name, which, "bytes used", answer.used, lengths[RUN]);
-    check_of(name, which, "reply length", answer.length, sizeof done);
-    check_of(name, which, "reply", differ(parts[REPLY], done, sizeof done), sizeof done);
-    memcpy(parts[REPLY], part_was(REPLY), sizeof done);
+    check_of(name, which, "reply length", answer.length, length);
+    check_of(name, which, "reply", differ(parts[REPLY], reply, length), length);
+    memcpy(parts[REPLY], part_was(REPLY), length);
     check_of(name, which, "memory, settings and guards", unchanged(), sizeof area);
 }
+
+static void is_done(const char *name, size_t which) { is_answered(name, which, done, sizeof done); }
 
 static void answers(const char *name, size_t which) {
     step();
@@ -240,6 +240,14 @@ static uint8_t line_switch(void) {
     return bystrodol_line_switch(&area.settings, part(BUFFER1), lengths[BUFFER1], part(BUFFER2), lengths[BUFFER2]);
 }
 
+/* What a line switch leaves of the area as it was. */
+static void switch_what_was(void) {
+    was.settings.verified = was.settings.filled1 = was.settings.filled2 = 0;
+    was.settings.transfer = 0, was.settings.got = 0;
+    memset(part_was(BUFFER1), 0, 512);
+    memset(part_was(BUFFER2), 0, 512);
+}
+
 static void switches(void) {
     for (int i = BUFFER1; i <= BUFFER2; i++)
         for (int wrong = 0; wrong < 3; wrong++) {
@@ -248,15 +256,11 @@ static void switches(void) {
             check_of("a line switch", (size_t)i, "refusal", line_switch(), BYSTRODOL_BAD_LENGTH);
             check_of("a refused line switch", (size_t)i, "memory, settings and guards", unchanged(), sizeof area);
         }
-    /* It takes any settings, illegal ones too, and keeps those that it does not clear. */
+    /* It takes any settings, illegal ones too, blank flash among them, and keeps those that it does not clear. */
     set_up();
-    memset(&area.settings, 0xEE, offsetof(struct bystrodol_settings, verified));
-    area.settings.verified = area.settings.filled1 = area.settings.filled2 = 1;
+    memset(&area.settings, 0xFF, sizeof area.settings);
     check("a line switch", line_switch(), BYSTRODOL_ACCEPTED);
-    was.settings.verified = was.settings.filled1 = was.settings.filled2 = 0;
-    was.settings.transfer = 0, was.settings.got = 0;
-    memset(part_was(BUFFER1), 0, 512);
-    memset(part_was(BUFFER2), 0, 512);
+    switch_what_was();
     check("what a line switch leaves", unchanged(), sizeof area);
 }
 
@@ -276,8 +280,202 @@ static void changes(void) {
     is_done("VfyPwd", 0);
 }
 
+/* ---- marks: 0 and 1 are taken, and every other byte is a setting that is not legal */
+
+static uint8_t *const marks[] = {&area.settings.verified, &area.settings.filled1, &area.settings.filled2};
+static const char *const mark_names[] = {"verified mark", "filled mark 1", "filled mark 2"};
+
+static void any_mark(int mark, uint8_t byte) {
+    const char *name = mark_names[mark];
+    for (int locked = 0; locked < 2; locked++) {
+        set_up();
+        area.settings.password[3] = (uint8_t)locked;
+        *marks[mark] = byte;
+        if (byte < 2) answers(name, byte);
+        else refuses(name, byte, BYSTRODOL_BAD_SETTING);
+    }
+    /* The lengths come first, and then the reply room. */
+    set_up();
+    *marks[mark] = byte;
+    lengths[INDEX] = 31, lengths[REPLY] = 699;
+    refuses(name, byte, BYSTRODOL_BAD_LENGTH);
+    lengths[INDEX] = 32;
+    refuses(name, byte, BYSTRODOL_BAD_ROOM);
+    /* The line switch takes it, and leaves 0. */
+    set_up();
+    *marks[mark] = byte;
+    lengths[BUFFER2] = 511;
+    check_of(name, byte, "a line switch with a wrong length", line_switch(), BYSTRODOL_BAD_LENGTH);
+    check_of(name, byte, "what it leaves", unchanged(), sizeof area);
+    lengths[BUFFER2] = 512;
+    check_of(name, byte, "a line switch", line_switch(), BYSTRODOL_ACCEPTED);
+    switch_what_was();
+    check_of(name, byte, "what it leaves", unchanged(), sizeof area);
+}
+
+/* A reader with a password: the mark decides whether a command is barred, and no byte but 1 opens it. */
+static void opened_by(uint8_t byte) {
+    static const uint8_t count[] = {0xEF, 0x01, 0xFF, 0xFF, 0xFF, 0xFF, 0x01, 0x00, 0x03, 0x1D, 0x00, 0x21};
+    static const uint8_t none[] = {0xEF, 0x01, 0xFF, 0xFF, 0xFF, 0xFF, 0x07, 0x00, 0x05, 0x00, 0x00, 0x00, 0x00, 0x0C};
+    static const uint8_t barred[] = {0xEF, 0x01, 0xFF, 0xFF, 0xFF, 0xFF, 0x07, 0x00, 0x03, 0x21, 0x00, 0x2B};
+    set_up();
+    area.settings.password[0] = 0x80;
+    area.settings.verified = byte;
+    memcpy(parts[RUN], count, lengths[RUN] = sizeof count);
+    if (byte > 1) {
+        refuses("a password and the verified mark", byte, BYSTRODOL_BAD_SETTING);
+        return;
+    }
+    step();
+    is_answered("a password and the verified mark", byte, byte ? none : barred, byte ? sizeof none : sizeof barred);
+}
+
+static void any_marks(void) {
+    for (unsigned byte = 0; byte < 256; byte++) {
+        for (int mark = 0; mark < 3; mark++) any_mark(mark, (uint8_t)byte);
+        opened_by((uint8_t)byte);
+    }
+}
+
+/* ---- settings of random bytes, from a fixed seed */
+
+static uint32_t random_state = 1;
+
+static uint8_t random_byte(void) {
+    random_state = random_state * 1664525 + 1013904223;
+    return (uint8_t)(random_state >> 24);
+}
+
+static void fill_settings(void) {
+    uint8_t *byte = (uint8_t *)&area.settings;
+    for (size_t i = 0; i < sizeof area.settings; i++) byte[i] = random_byte();
+}
+
+/* Each number is legal more often than not; password, address, sensor type and the spare byte are any. */
+static void make_nearly_legal(void) {
+    struct bystrodol_settings *s = &area.settings;
+    if (random_byte() % 16) s->level = (uint8_t)(1 + s->level % 5);
+    if (random_byte() % 16) s->size = (uint8_t)(s->size % 3);
+    if (random_byte() % 16) s->baud = (uint8_t)(1 + s->baud % 12);
+    if (random_byte() % 16) s->transfer = (uint8_t)(s->transfer % 3);
+    if (random_byte() % 16) s->got = (uint16_t)(s->transfer ? s->got % 4 * 128 : 0);
+    for (int i = 0; i < 3; i++)
+        if (random_byte() % 16) *marks[i] &= 1;
+    if (random_byte() % 2) memset(s->password, 0, 4);
+}
+
+static int is_legal(const struct bystrodol_settings *s) {
+    int is_open = s->verified || !(s->password[0] | s->password[1] | s->password[2] | s->password[3]);
+    if (s->verified > 1 || s->filled1 > 1 || s->filled2 > 1) return 0;
+    if (s->level < 1 || s->level > 5 || s->size > 2 || s->baud < 1 || s->baud > 12) return 0;
+    if (s->transfer == 0) return s->got == 0;
+    return s->transfer <= 2 && s->got < 512 && s->got % (32 << s->size) == 0 && is_open && !(s->transfer == 1 ? s->filled1 : s->filled2);
+}
+
+/* A handshake to the reader's address is answered with it, and ends a transfer; or the call is refused. */
+static void any_settings_called(size_t which) {
+    static const uint8_t hand_shake = BYSTRODOL_COMMAND_HAND_SHAKE, code = BYSTRODOL_CODE_DONE;
+    uint8_t reply[sizeof done];
+    const uint8_t *a = area.settings.address;
+    uint32_t address = (uint32_t)a[0] << 24 | (uint32_t)a[1] << 16 | (uint32_t)a[2] << 8 | a[3];
+    if (!is_legal(&area.settings)) {
+        refuses("settings of random bytes", which, BYSTRODOL_BAD_SETTING);
+        return;
+    }
+    bystrodol_build(address, BYSTRODOL_PACKET_COMMAND, &hand_shake, 1, parts[RUN], lengths[RUN]);
+    bystrodol_build(address, BYSTRODOL_PACKET_ACKNOWLEDGE, &code, 1, reply, sizeof reply);
+    step();
+    if (was.settings.transfer) memset(part_was(was.settings.transfer == 1 ? BUFFER1 : BUFFER2), 0, 512);
+    was.settings.transfer = 0, was.settings.got = 0;
+    is_answered("settings of random bytes", which, reply, sizeof reply);
+}
+
+static void any_settings(void) {
+    size_t legal = 0;
+    for (size_t i = 0; i < 4096; i++) {
+        set_up();
+        fill_settings();
+        if (i % 4) make_nearly_legal();
+        legal += (size_t)is_legal(&area.settings);
+        any_settings_called(i);
+        set_up();
+        fill_settings();
+        check_of("settings of random bytes", i, "a line switch", line_switch(), BYSTRODOL_ACCEPTED);
+        switch_what_was();
+        check_of("settings of random bytes", i, "what a line switch leaves", unchanged(), sizeof area);
+    }
+    check("random settings, of which some are legal", legal > 256 && legal < 3840, 1);
+}
+
+/* ---- every command and code that the header names */
+
+static const struct {
+    uint8_t code;
+    size_t length;
+    uint8_t content[34];
+} calls[] = {
+    {BYSTRODOL_CODE_NOTHING_THERE, 4, {BYSTRODOL_COMMAND_STORE, 1, 0, 0}},
+    {BYSTRODOL_CODE_BAD_PAGE, 4, {BYSTRODOL_COMMAND_STORE, 1, 0, 10}},
+    {BYSTRODOL_CODE_BAD_PACKET, 4, {BYSTRODOL_COMMAND_STORE, 3, 0, 0}},
+    {BYSTRODOL_CODE_NOTHING_THERE, 4, {BYSTRODOL_COMMAND_LOAD_CHAR, 2, 0, 9}},
+    {BYSTRODOL_CODE_NOTHING_TO_SEND, 2, {BYSTRODOL_COMMAND_UP_CHAR, 1}},
+    {BYSTRODOL_CODE_DONE, 2, {BYSTRODOL_COMMAND_DOWN_CHAR, 2}},
+    {BYSTRODOL_CODE_BAD_RANGE, 5, {BYSTRODOL_COMMAND_DELET_CHAR, 0, 9, 0, 2}},
+    {BYSTRODOL_CODE_DONE, 5, {BYSTRODOL_COMMAND_DELET_CHAR, 0, 9, 0, 1}},
+    {BYSTRODOL_CODE_DONE, 1, {BYSTRODOL_COMMAND_EMPTY}},
+    {BYSTRODOL_CODE_DONE, 3, {BYSTRODOL_COMMAND_SET_SYS_PARA, BYSTRODOL_PARAMETER_BAUD, 12}},
+    {BYSTRODOL_CODE_DONE, 3, {BYSTRODOL_COMMAND_SET_SYS_PARA, BYSTRODOL_PARAMETER_LEVEL, 5}},
+    {BYSTRODOL_CODE_BAD_VALUE, 3, {BYSTRODOL_COMMAND_SET_SYS_PARA, BYSTRODOL_PARAMETER_SIZE, 3}},
+    {BYSTRODOL_CODE_BAD_PARAMETER, 3, {BYSTRODOL_COMMAND_SET_SYS_PARA, 7, 1}},
+    {BYSTRODOL_CODE_DONE, 1, {BYSTRODOL_COMMAND_READ_SYS_PARA}},
+    {BYSTRODOL_CODE_DONE, 5, {BYSTRODOL_COMMAND_SET_PWD, 0, 0, 0, 5}},
+    {BYSTRODOL_CODE_WRONG_PASSWORD, 5, {BYSTRODOL_COMMAND_VFY_PWD, 0, 0, 0, 5}},
+    {BYSTRODOL_CODE_DONE, 5, {BYSTRODOL_COMMAND_SET_ADDER, 0xFF, 0xFF, 0xFF, 0xFF}},
+    {BYSTRODOL_CODE_DONE, 34, {BYSTRODOL_COMMAND_WRITE_NOTEPAD, 15}},
+    {BYSTRODOL_CODE_BAD_NOTE_PAGE, 2, {BYSTRODOL_COMMAND_READ_NOTEPAD, 16}},
+    {BYSTRODOL_CODE_DONE, 1, {BYSTRODOL_COMMAND_TEMPLETE_NUM}},
+    {BYSTRODOL_CODE_DONE, 2, {BYSTRODOL_COMMAND_READ_INDEX_TABLE, 0}},
+    {BYSTRODOL_CODE_DONE, 1, {BYSTRODOL_COMMAND_HAND_SHAKE}},
+    {BYSTRODOL_CODE_UNKNOWN_COMMAND, 1, {0x41}},
+};
+
+/* The acknowledge code of a packet sent to the reader as it is. */
+static void is_code(const char *name, size_t which, uint8_t identifier, const uint8_t *content, size_t length, uint8_t code) {
+    lengths[RUN] = bystrodol_build(0xFFFFFFFF, identifier, content, length, parts[RUN], rooms[RUN]);
+    step();
+    check_of(name, which, "refusal", answer.refusal, BYSTRODOL_ACCEPTED);
+    check_of(name, which, "bytes used", answer.used, lengths[RUN]);
+    check_of(name, which, "identifier", parts[REPLY][6], BYSTRODOL_PACKET_ACKNOWLEDGE);
+    check_of(name, which, "code", parts[REPLY][9], code);
+}
+
+static void named_codes(void) {
+    static const uint8_t empty = BYSTRODOL_COMMAND_EMPTY, data[] = {1, 2, 3};
+    for (size_t i = 0; i < sizeof calls / sizeof *calls; i++) {
+        set_up();
+        is_code("a command", i, BYSTRODOL_PACKET_COMMAND, calls[i].content, calls[i].length, calls[i].code);
+    }
+    set_up();
+    area.settings.password[3] = 5;
+    is_code("a locked reader", 0, BYSTRODOL_PACKET_COMMAND, &empty, 1, BYSTRODOL_CODE_PASSWORD_FIRST);
+    for (int last = 0; last < 2; last++) {
+        set_up();
+        area.settings.transfer = 1;
+        is_code("data of another size", (size_t)last, last ? BYSTRODOL_PACKET_LAST_DATA : BYSTRODOL_PACKET_DATA, data, sizeof data, BYSTRODOL_CODE_TRANSFER_FAILED);
+    }
+}
+
+/* An unfinished packet is held to its last byte but one: the most that is ever held. */
+static void unfinished(void) {
+    static const uint8_t head[] = {0xEF, 0x01, 0xFF, 0xFF, 0xFF, 0xFF, 0x01, 0x01, 0x00};
+    static uint8_t held[BYSTRODOL_UNFINISHED_MOST + 1];
+    memcpy(held, head, sizeof head);
+    check("an unfinished packet", bystrodol_used(held, BYSTRODOL_UNFINISHED_MOST), 0);
+    check("and one byte more", bystrodol_used(held, sizeof held), sizeof held);
+}
+
 static void fresh(void) {
-    static const uint8_t bytes[] = {0, 0, 0, 0, 0xFF, 0xFF, 0xFF, 0xFF, 3, 1, 6, 0, 0, 0, 0, 0, 0, 0, 0};
+    static const uint8_t bytes[] = {0, 0, 0, 0, 0xFF, 0xFF, 0xFF, 0xFF, 3, 1, 6, 0, 0, 0, 0, 0, 0, 0, 0, 0};
     struct bystrodol_settings s = bystrodol_fresh();
     check("fresh settings", differ((const uint8_t *)&s, bytes, sizeof bytes), sizeof bytes);
 }
@@ -291,5 +489,9 @@ int main(void) {
     order();
     switches();
     changes();
+    any_marks();
+    any_settings();
+    named_codes();
+    unfinished();
     return report("reader");
 }

@@ -1,15 +1,14 @@
 // What the board's C firmware calls: four plain services, and the whole reader with its settings lent. include/bystrodol.h is the C face.
+pub mod stored;
+
 ghost use mathlib.Core.Path.{_≡_};
 ghost use mathlib.Core.List.{List};
 ghost use Prim.Native.Nat.{ℕ};
-ghost use Rattle.protocol.specs.Call.{core, callOf, switchOf};
-ghost use Rattle.protocol.specs.Records.{readerOf, freshOf, endedOf, switchedOf};
-ghost use Rattle.place.specs.Lent.{calledAt, switchedAt};
 ghost use Rattle.protocol.specs.Services.{sumService, usedService, buildService, countService};
+ghost use Rattle.board.specs.Stored.{storedReaderOf, storedFreshOf, storedCallOf, storedSwitchOf, storedEndOf, storedSwitchedOf, storedCalledAt, storedSwitchedAt};
+use crate::stored::StoredSettings;
 use library::index;
 use place::Answered;
-use protocol::Settings;
-use rules::settings;
 use wire::builder;
 use wire::bytes;
 use wire::finder;
@@ -64,7 +63,7 @@ pub extern "C" fn bystrodol_count(index: &[u8]) -> u16
 // A call of the reader on lent settings.
 #[no_mangle]
 pub extern "C" fn bystrodol_step(
-    settings: &mut Settings,
+    settings: &mut StoredSettings,
     templates: &mut [u8],
     index: &mut [u8],
     notepad: &mut [u8],
@@ -73,10 +72,10 @@ pub extern "C" fn bystrodol_step(
     run: &[u8],
     reply: &mut [u8],
 ) -> Answered
-    ensures { λ r. ⌜ endedOf (calledAt (now (settings .exit)) r) (now (templates .exit)) (now (index .exit)) (now (notepad .exit)) (now (buffer1 .exit)) (now (buffer2 .exit)) (now (reply .exit)) ≡ callOf core (readerOf (now (settings .entry)) (now (templates .entry)) (now (index .entry)) (now (notepad .entry)) (now (buffer1 .entry)) (now (buffer2 .entry))) (now (run .entry)) (now (reply .entry)) ⌝ }
+    ensures { λ r. ⌜ storedEndOf (storedCalledAt (now (settings .exit)) r) (now (templates .exit)) (now (index .exit)) (now (notepad .exit)) (now (buffer1 .exit)) (now (buffer2 .exit)) (now (reply .exit)) ≡ storedCallOf (storedReaderOf (now (settings .entry)) (now (templates .entry)) (now (index .entry)) (now (notepad .entry)) (now (buffer1 .entry)) (now (buffer2 .entry))) (now (run .entry)) (now (reply .entry)) ⌝ }
 {
-    place::step_in_place(
-        settings,
+    let called = stored::step(
+        *settings,
         templates,
         index,
         notepad,
@@ -84,25 +83,33 @@ pub extern "C" fn bystrodol_step(
         buffer2,
         run,
         reply,
-    )
+    );
+    *settings = called.settings;
+    Answered {
+        refusal: called.refusal,
+        used: called.used,
+        length: called.length,
+    }
 }
 
 // A line switch on lent settings.
 #[no_mangle]
 pub extern "C" fn bystrodol_line_switch(
-    settings: &mut Settings,
+    settings: &mut StoredSettings,
     buffer1: &mut [u8],
     buffer2: &mut [u8],
 ) -> u8
-    ensures { λ r. ⌜ ((t i n : List ℕ) → switchedOf (switchedAt (now (settings .exit)) r) t i n (now (buffer1 .exit)) (now (buffer2 .exit)) ≡ switchOf (readerOf (now (settings .entry)) t i n (now (buffer1 .entry)) (now (buffer2 .entry)))) ⌝ }
+    ensures { λ r. ⌜ ((t i n : List ℕ) → storedSwitchedOf (storedSwitchedAt (now (settings .exit)) r) t i n (now (buffer1 .exit)) (now (buffer2 .exit)) ≡ storedSwitchOf (storedReaderOf (now (settings .entry)) t i n (now (buffer1 .entry)) (now (buffer2 .entry)))) ⌝ }
 {
-    place::line_switch_in_place(settings, buffer1, buffer2)
+    let switched = stored::line_switch(*settings, buffer1, buffer2);
+    *settings = switched.settings;
+    switched.refusal
 }
 
 // Fresh settings.
 #[no_mangle]
-pub extern "C" fn bystrodol_fresh() -> Settings
-    ensures { λ r. ⌜ ((t i n b c : List ℕ) → readerOf r t i n b c ≡ freshOf t i n b c) ⌝ }
+pub extern "C" fn bystrodol_fresh() -> StoredSettings
+    ensures { λ r. ⌜ ((t i n b c : List ℕ) → storedReaderOf r t i n b c ≡ storedFreshOf t i n b c) ⌝ }
 {
-    settings::fresh()
+    stored::fresh()
 }

@@ -1,4 +1,4 @@
-// The settings record lent, and changed where it lies: the form of the cabinet loop and of the C face. The functions through it take the
+// The settings record lent, and changed where it lies: the form of the cabinet loop. The functions through it take the
 // record by value, lend it, and give it back by value, so that other Rattle code runs the lent form and never lends a record itself.
 ghost use mathlib.Core.Path.{_≡_};
 ghost use mathlib.Core.List.{List};

@@ -1,13 +1,12 @@
--- One call, or one line switch with a reply room beside it that it leaves alone.
+-- One call, or one line switch with a reply room beside it that it leaves alone, as C has them.
 use mathlib.Core.Bool.{cond}
 use mathlib.Core.List.{List}
 use Prim.Native.Nat.{ℕ}
 use lib.Dec.{eqb}
-use Rattle.protocol.specs.Reader.{Reader}
-use Rattle.protocol.specs.Call.{Ended, core, callOf, switchOf}
+use Rattle.board.specs.Stored.{StoredReader, StoredEnd, storedCallOf, storedSwitchOf}
 
-abbrev pub besides : List ℕ → Ended → Ended
+abbrev pub besides : List ℕ → StoredEnd → StoredEnd
 besides room e = record { told = record { refusal = e .told .refusal; used = e .told .used; length = e .told .length; room = room }; after = e .after }
 
-unfoldable pub onceOf : ℕ → Reader → List ℕ → List ℕ → Ended
-onceOf op r run room = cond (eqb op 0) (callOf core r run room) (besides room (switchOf r))
+unfoldable pub onceOf : ℕ → StoredReader → List ℕ → List ℕ → StoredEnd
+onceOf op k run room = cond (eqb op 0) (storedCallOf k run room) (besides room (storedSwitchOf k))

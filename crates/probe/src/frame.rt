@@ -3,9 +3,9 @@ ghost use mathlib.Core.Path.{_≡_};
 ghost use Prim.Native.Nat.{_+_, _≤_};
 ghost use lib.ListN.{length};
 ghost use Rattle.protocol.specs.Bytes.{wordAt};
-ghost use Rattle.probe.specs.Frame.{lengthAt, settingsOf, markOf, headOf};
-use protocol::Called;
-use protocol::Settings;
+ghost use Rattle.probe.specs.Frame.{lengthAt, settingsOf, headOf};
+use board::stored::StoredCalled;
+use board::stored::StoredSettings;
 use wire::bytes;
 
 fn word_at(head: &[u8], at: usize) -> usize
@@ -23,12 +23,12 @@ pub(crate) fn length_at(head: &[u8], at: usize) -> usize
     word_at(head, at) * 65536 + word_at(head, at + 2)
 }
 
-// The settings of a frame in. A mark is set if its byte is not 0.
-pub(crate) fn settings_of(head: &[u8]) -> Settings
+// The settings of a frame in, a mark as the byte that it is. A frame has no spare byte.
+pub(crate) fn settings_of(head: &[u8]) -> StoredSettings
     requires { ⌜ 20 ≤ length (now head) ⌝ }
     ensures { λ r. ⌜ r ≡ settingsOf (now (head .entry)) ⌝ }
 {
-    Settings {
+    StoredSettings {
         password: [head[1], head[2], head[3], head[4]],
         address: [head[5], head[6], head[7], head[8]],
         level: head[9],
@@ -37,20 +37,15 @@ pub(crate) fn settings_of(head: &[u8]) -> Settings
         transfer: head[12],
         sensor: word_at(head, 13) as u16,
         got: word_at(head, 15) as u16,
-        verified: head[17] != 0,
-        filled1: head[18] != 0,
-        filled2: head[19] != 0,
+        verified: head[17],
+        filled1: head[18],
+        filled2: head[19],
+        spare: 0,
     }
 }
 
-fn mark_of(on: bool) -> u8
-    ensures { λ r. ⌜ r ≡ markOf on ⌝ }
-{
-    if on { 1 } else { 0 }
-}
-
 // The head of a frame out: the refusal, the bytes used, the reply's length, and the settings.
-pub(crate) fn head_of(c: Called) -> [u8; 28]
+pub(crate) fn head_of(c: StoredCalled) -> [u8; 28]
     ensures { λ r. ⌜ r ≡ headOf c ⌝ }
 {
     let s = c.settings;
@@ -82,8 +77,8 @@ pub(crate) fn head_of(c: Called) -> [u8; 28]
         (s.sensor % 256) as u8,
         (s.got / 256) as u8,
         (s.got % 256) as u8,
-        mark_of(s.verified),
-        mark_of(s.filled1),
-        mark_of(s.filled2),
+        s.verified,
+        s.filled1,
+        s.filled2,
     ]
 }

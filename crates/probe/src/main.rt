@@ -3,10 +3,10 @@
 mod frame;
 mod once;
 
+use board::stored::StoredSettings;
 use libc::STDERR_FILENO;
 use libc::STDIN_FILENO;
 use libc::STDOUT_FILENO;
-use protocol::Settings;
 use protocol::numbers;
 
 // The bytes of a frame in before those of its memory.
@@ -82,7 +82,7 @@ fn send_all(
 // The rest of a frame in, its call, and the frame out. It says whether all of it could be read and written.
 fn exchange(
     op: u8,
-    settings: Settings,
+    settings: StoredSettings,
     templates: &mut [u8],
     index: &mut [u8],
     notepad: &mut [u8],

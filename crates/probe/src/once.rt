@@ -1,16 +1,15 @@
-// One call of the reader or one line switch, with the settings lent.
+// One call of the reader or one line switch, as the doors for C have them.
 ghost use mathlib.Core.Path.{_≡_};
-ghost use Rattle.protocol.specs.Records.{readerOf, endedOf};
+ghost use Rattle.board.specs.Stored.{storedReaderOf, storedEndOf};
 ghost use Rattle.probe.specs.Once.{onceOf};
-use place::line_switch_through;
-use place::step_through;
-use protocol::Called;
-use protocol::Settings;
+use board::stored;
+use board::stored::StoredCalled;
+use board::stored::StoredSettings;
 
 // 0 is a call, anything else a line switch.
 pub(crate) fn once(
     op: u8,
-    settings: Settings,
+    settings: StoredSettings,
     templates: &mut [u8],
     index: &mut [u8],
     notepad: &mut [u8],
@@ -18,11 +17,11 @@ pub(crate) fn once(
     buffer2: &mut [u8],
     run: &[u8],
     reply: &mut [u8],
-) -> Called
-    ensures { λ r. ⌜ endedOf r (now (templates .exit)) (now (index .exit)) (now (notepad .exit)) (now (buffer1 .exit)) (now (buffer2 .exit)) (now (reply .exit)) ≡ onceOf op (readerOf settings (now (templates .entry)) (now (index .entry)) (now (notepad .entry)) (now (buffer1 .entry)) (now (buffer2 .entry))) (now (run .entry)) (now (reply .entry)) ⌝ }
+) -> StoredCalled
+    ensures { λ r. ⌜ storedEndOf r (now (templates .exit)) (now (index .exit)) (now (notepad .exit)) (now (buffer1 .exit)) (now (buffer2 .exit)) (now (reply .exit)) ≡ onceOf op (storedReaderOf settings (now (templates .entry)) (now (index .entry)) (now (notepad .entry)) (now (buffer1 .entry)) (now (buffer2 .entry))) (now (run .entry)) (now (reply .entry)) ⌝ }
 {
     if op == 0 {
-        return step_through(
+        return stored::step(
             settings,
             templates,
             index,
@@ -33,9 +32,9 @@ pub(crate) fn once(
             reply,
         );
     }
-    let switched = line_switch_through(settings, buffer1, buffer2);
+    let switched = stored::line_switch(settings, buffer1, buffer2);
     let after = switched.settings;
-    Called {
+    StoredCalled {
         settings: after,
         refusal: switched.refusal,
         used: 0,

@@ -1,6 +1,6 @@
 //! The frames that a probe takes and gives. All numbers are high byte first.
 
-use crate::reader::{self, Answer, Reader, Settings};
+use crate::reader::{self, Answer, Mark, Reader, Settings};
 use std::io::{Error, ErrorKind, Read, Result};
 
 /// What a frame in asks for.
@@ -127,7 +127,7 @@ fn settings_to_bytes(settings: &Settings) -> Vec<u8> {
     bytes.extend([settings.level, settings.size_code, settings.baud_factor, settings.transfer]);
     bytes.extend(settings.sensor_type.to_be_bytes());
     bytes.extend(settings.got.to_be_bytes());
-    bytes.extend([settings.verified, settings.filled[0], settings.filled[1]].map(u8::from));
+    bytes.extend([settings.verified, settings.filled[0], settings.filled[1]].map(|mark| mark.0));
     bytes
 }
 
@@ -137,11 +137,7 @@ fn read_settings(input: &mut impl Read) -> Result<Settings> {
     let [level, size_code, baud_factor, transfer] = read_bytes(input)?;
     let sensor_type = u16::from_be_bytes(read_bytes(input)?);
     let got = u16::from_be_bytes(read_bytes(input)?);
-    let marks: [u8; 3] = read_bytes(input)?;
-    if let Some(mark) = marks.iter().find(|&&mark| mark > 1) {
-        return Err(broken(format!("a mark of {mark}")));
-    }
-    let [verified, filled_1, filled_2] = marks.map(|mark| mark == 1);
+    let [verified, filled_1, filled_2] = read_bytes(input)?.map(Mark);
     let filled = [filled_1, filled_2];
     Ok(Settings { password, address, level, size_code, baud_factor, transfer, sensor_type, got, verified, filled })
 }

@@ -59,6 +59,31 @@ pub const COMMANDS: [u8; 16] = [
     HAND_SHAKE,
 ];
 
+/// A mark as the byte that it is kept in: 0 is clear and 1 is set. Any other byte is a setting that is not legal.
+#[derive(Clone, Copy, Debug, PartialEq, Eq)]
+pub struct Mark(pub u8);
+
+pub const CLEAR: Mark = Mark(0);
+pub const SET: Mark = Mark(1);
+
+impl Mark {
+    pub fn of(set: bool) -> Mark {
+        if set {
+            SET
+        } else {
+            CLEAR
+        }
+    }
+
+    pub fn legal(self) -> bool {
+        self == CLEAR || self == SET
+    }
+
+    pub fn is_set(self) -> bool {
+        self == SET
+    }
+}
+
 #[derive(Clone, Debug, PartialEq, Eq)]
 pub struct Settings {
     pub password: [u8; 4],
@@ -71,8 +96,8 @@ pub struct Settings {
     pub sensor_type: u16,
     /// The bytes that the transfer got so far.
     pub got: u16,
-    pub verified: bool,
-    pub filled: [bool; 2],
+    pub verified: Mark,
+    pub filled: [Mark; 2],
 }
 
 /// The settings and the lent memory, the reply room apart.
@@ -112,8 +137,8 @@ pub fn line_switch(reader: &mut Reader) -> Answer {
     if !reader.buffers_fit() {
         return Answer { refusal: 1, used: 0, length: 0 };
     }
-    reader.settings.verified = false;
-    reader.settings.filled = [false; 2];
+    reader.settings.verified = CLEAR;
+    reader.settings.filled = [CLEAR; 2];
     reader.settings.close_transfer();
     for buffer in &mut reader.buffers {
         buffer.fill(0);
@@ -132,13 +157,13 @@ impl Settings {
             transfer: 0,
             sensor_type: 0,
             got: 0,
-            verified: false,
-            filled: [false; 2],
+            verified: CLEAR,
+            filled: [CLEAR; 2],
         }
     }
 
     pub fn locked(&self) -> bool {
-        self.password != [0; 4] && !self.verified
+        self.password != [0; 4] && !self.verified.is_set()
     }
 
     /// The data bytes that the size code means; the code is legal.
@@ -150,7 +175,12 @@ impl Settings {
         LEVELS.contains(&self.level)
             && SIZE_CODES.contains(&self.size_code)
             && BAUD_FACTORS.contains(&self.baud_factor)
+            && self.marks_legal()
             && self.transfer_legal()
+    }
+
+    pub fn marks_legal(&self) -> bool {
+        self.verified.legal() && self.filled.iter().all(|mark| mark.legal())
     }
 
     fn transfer_legal(&self) -> bool {
@@ -158,7 +188,7 @@ impl Settings {
         match self.transfer {
             0 => got == 0,
             1 | 2 => {
-                let filled = self.filled[usize::from(self.transfer) - 1];
+                let filled = self.filled[usize::from(self.transfer) - 1].is_set();
                 got % self.size() == 0 && got < PAGE && !filled && !self.locked()
             }
             _ => false,
@@ -249,7 +279,7 @@ impl Reader {
             }
             self.buffers[buffer][got..total].copy_from_slice(packet.content);
             if last {
-                self.settings.filled[buffer] = true;
+                self.settings.filled[buffer] = SET;
                 self.settings.close_transfer();
             } else {
                 self.settings.got = total as u16;
@@ -273,7 +303,7 @@ impl Reader {
         match code {
             STORE => {
                 let (buffer, page) = self.buffer_and_page(parameters)?;
-                demand(self.settings.filled[buffer], 0x0C)?;
+                demand(self.settings.filled[buffer].is_set(), 0x0C)?;
                 let template = self.buffers[buffer].clone();
                 self.template(page).copy_from_slice(&template);
                 self.index[page / 8] |= bit(page);
@@ -282,17 +312,17 @@ impl Reader {
                 let (buffer, page) = self.buffer_and_page(parameters)?;
                 demand(self.stored(page), 0x0C)?;
                 self.buffers[buffer] = self.template(page).to_vec();
-                self.settings.filled[buffer] = true;
+                self.settings.filled[buffer] = SET;
             }
             UP_CHAR => {
                 let buffer = buffer(parameters[0])?;
-                demand(self.settings.filled[buffer], 0x0D)?;
+                demand(self.settings.filled[buffer].is_set(), 0x0D)?;
                 return Ok(self.upload(buffer));
             }
             DOWN_CHAR => {
                 let buffer = buffer(parameters[0])?;
                 self.buffers[buffer].fill(0);
-                self.settings.filled[buffer] = false;
+                self.settings.filled[buffer] = CLEAR;
                 self.settings.transfer = parameters[0];
                 self.settings.got = 0;
             }
@@ -321,11 +351,11 @@ impl Reader {
             READ_SYS_PARA => listed = self.system_parameters(),
             SET_PWD => {
                 self.settings.password.copy_from_slice(parameters);
-                self.settings.verified = false;
+                self.settings.verified = CLEAR;
             }
             VFY_PWD => {
-                self.settings.verified = parameters == self.settings.password;
-                demand(self.settings.verified, 0x13)?;
+                self.settings.verified = Mark::of(parameters == self.settings.password);
+                demand(self.settings.verified.is_set(), 0x13)?;
             }
             SET_ADDER => self.settings.address.copy_from_slice(parameters),
             WRITE_NOTEPAD => {
@@ -359,7 +389,7 @@ impl Reader {
 
     fn system_parameters(&self) -> Vec<u8> {
         let settings = &self.settings;
-        let status = if settings.verified { 4 } else { 0 };
+        let status = if settings.verified.is_set() { 4 } else { 0 };
         let mut listed = Vec::new();
         listed.extend(two_bytes(status));
         listed.extend(settings.sensor_type.to_be_bytes());

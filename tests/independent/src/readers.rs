@@ -58,8 +58,8 @@ fn legal_settings(chance: &mut Chance) -> Settings {
         transfer: 0,
         sensor_type: chance.pick(&[0, 1, 0x00FF, 0x1234, 0xFFFF]),
         got: 0,
-        verified: chance.percent(50),
-        filled: [chance.percent(60), chance.percent(60)],
+        verified: Mark::of(chance.percent(50)),
+        filled: [Mark::of(chance.percent(60)), Mark::of(chance.percent(60))],
     };
     if !settings.locked() && chance.percent(40) {
         open_transfer(chance, &mut settings);
@@ -74,7 +74,7 @@ fn open_transfer(chance: &mut Chance, settings: &mut Settings) {
     let part = if chance.percent(30) { parts - 1 } else { chance.below(parts) };
     settings.transfer = chance.pick(&[1, 2]);
     settings.got = (part * size) as u16;
-    settings.filled[usize::from(settings.transfer) - 1] = false;
+    settings.filled[usize::from(settings.transfer) - 1] = CLEAR;
 }
 
 fn within(chance: &mut Chance, range: RangeInclusive<u8>) -> u8 {
@@ -107,7 +107,7 @@ pub fn size(settings: &Settings) -> usize {
 /// Makes something wrong that a refusal is for.
 pub fn spoil(chance: &mut Chance, reader: &mut Reader, room: &mut usize) {
     let settings = &mut reader.settings;
-    match chance.below(16) {
+    match chance.below(19) {
         0 | 1 => {
             let length = reader.templates.len().clamp(1, PAGE * MOST_PAGES);
             let far = if chance.percent(10) { PAGE * (MOST_PAGES + 1) } else { 0 };
@@ -138,11 +138,17 @@ pub fn spoil(chance: &mut Chance, reader: &mut Reader, room: &mut usize) {
         14 => {
             open_transfer(chance, settings);
             if chance.percent(50) {
-                settings.filled[usize::from(settings.transfer) - 1] = true;
+                settings.filled[usize::from(settings.transfer) - 1] = SET;
             } else {
                 settings.password = [0, chance.byte(), 0, 1];
-                settings.verified = false;
+                settings.verified = CLEAR;
             }
+        }
+        15 => settings.verified = unfit_mark(chance),
+        16 => settings.filled[chance.below(2)] = unfit_mark(chance),
+        17 => {
+            settings.verified = Mark(chance.byte());
+            settings.filled = [Mark(chance.byte()), Mark(chance.byte())];
         }
         _ => {
             let (first, end) = (reader.capacity(), 8 * reader.index.len());
@@ -153,6 +159,11 @@ pub fn spoil(chance: &mut Chance, reader: &mut Reader, room: &mut usize) {
             }
         }
     }
+}
+
+/// A mark that is neither clear nor set.
+fn unfit_mark(chance: &mut Chance) -> Mark {
+    Mark(chance.pick(&[2, 3, 0x10, 0x7F, 0x80, 0x81, 0xFE, 0xFF]))
 }
 
 /// Gives a memory one of these lengths, with bytes by chance where it grows.

@@ -1,7 +1,7 @@
 //! Tells readably what a case is and where two readers differ.
 
 use crate::frame::{Outcome, Request};
-use crate::reader::Settings;
+use crate::reader::{Mark, Settings, CLEAR, SET};
 
 /// The case in lines.
 pub fn case(request: &Request) -> Vec<String> {
@@ -57,7 +57,11 @@ fn fields(outcome: &Outcome) -> Vec<(&'static str, String)> {
 }
 
 fn settings(settings: &Settings) -> [(&'static str, String); 10] {
-    let mark = |set| if set { "set" } else { "clear" }.to_string();
+    let mark = |mark| match mark {
+        CLEAR => "clear".to_string(),
+        SET => "set".to_string(),
+        Mark(other) => format!("{other:02X}h, not legal"),
+    };
     let transfer = match (settings.transfer, settings.got) {
         (0, 0) => "none".to_string(),
         (buffer, got) => format!("of buffer {buffer} with {got} bytes got"),

@@ -17,22 +17,26 @@ const UPLOADS: usize = 2;
 const DOWNLOADS: usize = 3;
 const REFUSALS: usize = 4;
 const SWITCHES: usize = 5;
+const MARKS: usize = 6;
+const MARKS_SWITCHED: usize = 7;
 
 /// Every kind.
-pub const ALL: &[usize] = &[ACKNOWLEDGES, FINE, UPLOADS, DOWNLOADS, REFUSALS, SWITCHES];
+pub const ALL: &[usize] = &[ACKNOWLEDGES, FINE, UPLOADS, DOWNLOADS, REFUSALS, SWITCHES, MARKS, MARKS_SWITCHED];
 /// What a legal reader on a line can bring about.
 pub const ON_A_LINE: &[usize] = &[ACKNOWLEDGES, FINE, UPLOADS, DOWNLOADS];
 
 /// The acknowledge codes of document 01.
 pub const CODES: [u8; 13] = [0x00, 0x01, 0x0B, 0x0C, 0x0D, 0x0E, 0x10, 0x13, 0x19, 0x1A, 0x1B, 0x1C, 0x21];
 
-const KINDS: [Kind; 6] = [
+const KINDS: [Kind; 8] = [
     Kind { name: "acknowledge codes", codes: true, awaited: &CODES },
     Kind { name: "commands answered 00h", codes: true, awaited: &COMMANDS },
     Kind { name: "uploads by size", codes: false, awaited: &[32, 64, 128] },
     Kind { name: "downloads completed by size", codes: false, awaited: &[32, 64, 128] },
     Kind { name: "calls by refusal", codes: false, awaited: &[0, 1, 2, 3] },
     Kind { name: "line switches by refusal", codes: false, awaited: &[0, 1] },
+    Kind { name: "calls by refusal, with a mark of neither 0 nor 1", codes: false, awaited: &[1, 2, 3] },
+    Kind { name: "line switches by refusal, with such a mark", codes: false, awaited: &[0] },
 ];
 
 #[derive(Default)]
@@ -45,11 +49,18 @@ impl Tally {
     pub fn add(&mut self, request: &Request, outcome: &Outcome) {
         self.calls += 1;
         let refusal = outcome.answer.refusal;
+        let unfit = !request.reader.settings.marks_legal();
         if request.line_switch {
             self.count(SWITCHES, refusal);
+            if unfit {
+                self.count(MARKS_SWITCHED, refusal);
+            }
             return;
         }
         self.count(REFUSALS, refusal);
+        if unfit {
+            self.count(MARKS, refusal);
+        }
         let packet = match find(&request.run) {
             (_, Some(packet)) if refusal == 0 => packet,
             _ => return,

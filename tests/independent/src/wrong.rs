@@ -5,7 +5,7 @@ use crate::reader::*;
 
 type Wrong = fn(&Request) -> Outcome;
 
-pub const ERRORS: [(&str, Wrong); 18] = [
+pub const ERRORS: [(&str, Wrong); 20] = [
     ("lock-before-sum", lock_before_sum),
     ("delete-keeps-templates", delete_keeps_templates),
     ("sum-in-16-bits", sum_in_16_bits),
@@ -24,6 +24,8 @@ pub const ERRORS: [(&str, Wrong); 18] = [
     ("foreign-ends-transfer", foreign_ends_transfer),
     ("eats-last-ef", eats_last_ef),
     ("switch-keeps-buffers", switch_keeps_buffers),
+    ("takes-any-mark", takes_any_mark),
+    ("switch-keeps-unfit-marks", switch_keeps_unfit_marks),
 ];
 
 /// A locked reader gives 21h to a command with a wrong sum.
@@ -104,7 +106,7 @@ fn first_packet_only(request: &Request) -> Outcome {
     let after = &outcome.reader.settings;
     for buffer in 0..2 {
         let open = usize::from(before.transfer) == buffer + 1 && before.got > 0;
-        let taken = after.got > before.got || after.filled[buffer];
+        let taken = after.got > before.got || after.filled[buffer].is_set();
         if open && taken && outcome.answer.length == 0 {
             outcome.reader.buffers[buffer] = request.reader.buffers[buffer].clone();
         }
@@ -223,6 +225,26 @@ fn switch_keeps_buffers(request: &Request) -> Outcome {
     let mut outcome = request.carried_out();
     if request.line_switch {
         outcome.reader.buffers = request.reader.buffers.clone();
+    }
+    outcome
+}
+
+/// A mark of any byte but 0 is taken for set.
+fn takes_any_mark(request: &Request) -> Outcome {
+    let mut asked = request.clone();
+    let Settings { verified, filled: [one, two], .. } = &mut asked.reader.settings;
+    for mark in [verified, one, two] {
+        *mark = Mark::of(*mark != CLEAR);
+    }
+    asked.carried_out()
+}
+
+/// The line switch clears a set mark only.
+fn switch_keeps_unfit_marks(request: &Request) -> Outcome {
+    let mut outcome = request.carried_out();
+    let (before, after) = (&request.reader.settings, &mut outcome.reader.settings);
+    if request.line_switch && !before.verified.legal() {
+        after.verified = before.verified;
     }
     outcome
 }

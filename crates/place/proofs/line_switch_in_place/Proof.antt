@@ -47,7 +47,7 @@ use Rattle.protocol.proofs.Settings.Laws as T′
 use Rattle.protocol.specs.declared.Switched.{Switched}
 use Rattle.protocol.proofs.Switched as D
 use Rattle.protocol.proofs.Switched.Laws as D′
-use Rattle.place.proofs.Lent.{slice, Fits, val}
+use Rattle.place.proofs.Lent.{slice, Fits}
 use Rattle.place.proofs.Told.{rest, tolds, tolds-fit, tolds-go}
 use Rattle.reader.proofs.call.line_switch as g
 use Rattle.reader.proofs.call.line_switch.Symbol as g-def
@@ -60,6 +60,9 @@ use Rattle.place.proofs.line_switch_in_place.Code as code
 
 abbrev stayed : Stays (f.ended .signature .params) (f.ended .kept)
 stayed = (stay-ref (0 ∷ []) tt (plain (λ _. T.the-row)), tolds (rest (f.ended .signature .params)) (f.ended .kept .1))
+
+abbrev val : Settings → Val
+val = LL.val T.the-type T′.the-laws
 
 -- what the wrapper returns
 abbrev taken : Switched → ℕ

@@ -55,14 +55,17 @@ cast-t31 c = search needs
 shared-slice-read-t33 : tie.Need-shared-slice-read-t33
 shared-slice-read-t33 c = search needs
 
-shared-slice-read-t36 : tie.Need-shared-slice-read-t36
-shared-slice-read-t36 c = search needs
+shared-slice-read-t35 : tie.Need-shared-slice-read-t35
+shared-slice-read-t35 c = search needs
 
-shared-slice-read-t39 : tie.Need-shared-slice-read-t39
-shared-slice-read-t39 c = search needs
+shared-slice-read-t37 : tie.Need-shared-slice-read-t37
+shared-slice-read-t37 c = search needs
 
 returns : tie.Need-returns
-returns c = rw (c .before .before .before .word-at2 .ensures .0, c .before .before .before .before .word-at .ensures .0) refl
+returns c =
+    let g = (let p : tie.After-word-at2 = search in p .word-at2 .ensures .0) in
+    let s = (let p : tie.After-word-at = search in p .word-at .ensures .0) in
+    rw (g, s) refl
 
 pub settings-of-spec : {M : Type 1} → statement M
 settings-of-spec =
@@ -85,6 +88,6 @@ settings-of-spec =
     word-at-requires-2
     cast-t31
     shared-slice-read-t33
-    shared-slice-read-t36
-    shared-slice-read-t39
+    shared-slice-read-t35
+    shared-slice-read-t37
     returns)

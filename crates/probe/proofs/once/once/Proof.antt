@@ -2,13 +2,13 @@
 use mathlib.Core.Path.{ap}
 use borrow.Author.Tests.{eq-eqb, ne-eqb}
 use denote.Ref.{now}
-use borrow.Author.Needs.{needs}
 use Rattle.probe.specs.Once.{besides, onceOf}
+use borrow.Author.Needs.{needs}
 use Rattle.probe.proofs.once.once.Statement.{statement}
 use Rattle.probe.proofs.once.once.Tie as tie
 
-step-through-requires : tie.Need-step-through-requires
-step-through-requires c κs = search needs
+step-requires : tie.Need-step-requires
+step-requires c κs = search needs
 
 same-length : tie.Need-same-length
 same-length c = search needs
@@ -30,10 +30,13 @@ same-length-6 c = search needs
 
 returns : tie.Need-returns
 unfolding onceOf
-returns c = rw (eq-eqb _ _ (c .before .before .before .before .before .before .before .before .before .before .before .before .before .before .before .before .before .before .before .if1 .taken)) (c .before .before .before .before .before .before .before .before .before .before .before .before .step-through .ensures)
+returns c =
+    let z = (let p : tie.Then1 = search in p .if1 .taken) in
+    let e = (let p : tie.After-step = search in p .step .ensures) in
+    rw (eq-eqb _ _ z) e
 
-line-switch-through-requires : tie.Need-line-switch-through-requires
-line-switch-through-requires c κs = search needs
+line-switch-requires : tie.Need-line-switch-requires
+line-switch-requires c κs = search needs
 
 same-length-7 : tie.Need-same-length-7
 same-length-7 c = search needs
@@ -44,14 +47,16 @@ same-length-8 c = search needs
 returns-2 : tie.Need-returns-2
 unfolding onceOf
 returns-2 c =
-    let a = c .before .before .before .before .before .before .before .before .before .before .before .before .before .before .before .before .args in
-    rw (ne-eqb _ _ (c .before .before .before .before .before .before .before .before .if1 .left)) (ap (besides (now (a .reply))) (c .before .before .before .before .before .line-switch-through .ensures (now (a .templates)) (now (a .index)) (now (a .notepad))))
+    let a = (let p : tie.Start = search in p .args) in
+    let d = (let p : tie.Else1 = search in p .if1 .left) in
+    let e = (let p : tie.After-line-switch = search in p .line-switch .ensures (now (a .templates)) (now (a .index)) (now (a .notepad))) in
+    rw (ne-eqb _ _ d) (ap (besides (now (a .reply))) e)
 
 pub once-spec : {M : Type 1} → statement M
 once-spec =
     tie.close
     (tie.spec
-    step-through-requires
+    step-requires
     same-length
     same-length-2
     same-length-3
@@ -59,7 +64,7 @@ once-spec =
     same-length-5
     same-length-6
     returns
-    line-switch-through-requires
+    line-switch-requires
     same-length-7
     same-length-8
     returns-2)

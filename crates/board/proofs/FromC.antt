@@ -1,0 +1,137 @@
+-- Demand 1, from C: "any settings". What a call and a line switch do for every byte of a mark, and that each contract admits one result. By `called-fit`
+-- and `switched-any` the promises over `callOf` and `switchOf` are promises to C.
+use mathlib.Core.Bool.{Bool, true, false, cond}
+use mathlib.Core.Path.{_≡_, refl, sym, ap}
+use mathlib.Core.Logic.{_≢_}
+use mathlib.Core.List.{List, [], _∷_}
+use Prim.Native.Nat.{ℕ, zero, suc}
+use native.Mathlib.Omega.{arith}
+use lib.Dec.{eqb}
+use borrow.Author.Tests.{ne-eqb}
+use Rattle.protocol.specs.Numbers.{badLength, badRoom, badSetting}
+use Rattle.protocol.specs.Tests.{verdict}
+use Rattle.protocol.specs.Reader.{Reader, withMark, withTransfer, emptied}
+use Rattle.protocol.specs.Step.{wiped, switched}
+use Rattle.protocol.specs.Call.{core, fitLengths, fitRoom, Ended, refused, callOf, switchRefusal, switchAs, switchOf}
+use Rattle.protocol.proofs.Promises.Refused.{refused-call, refused-switch}
+use Rattle.protocol.proofs.Promises.OneResult.{OneReader, one-reader}
+use Rattle.board.specs.declared.stored.StoredSettings.{StoredSettings}
+use Rattle.board.specs.declared.stored.StoredCalled.{StoredCalled}
+use Rattle.board.specs.declared.stored.StoredSwitched.{StoredSwitched}
+use Rattle.board.specs.Stored.{markOf, fitMark, fitMarks, StoredReader, settingsOf, storedReaderOf, stored, StoredEnd, storedAfter, marksRefusal, storedCallOf, storedSwitchOf, storedEndOf, storedSwitchedOf}
+
+-- ---- a call, and the line switch
+
+-- document 01's answer, and document 01's reader
+pub record Follows (e : Ended) (s : StoredEnd) : Type 0 where
+  pub told : s .told ≡ e .told
+  pub reader : s .after .reader ≡ e .after
+
+stored-fit : (spare : ℕ) (r : Reader) → fitMarks (stored spare r .marks) ≡ true
+unfolding stored fitMarks fitMark
+stored-fit spare r = go (r .plain .verified) (r .guarded .buffer1 .filled) (r .guarded .buffer2 .filled)
+  where
+    go : (v f g : Bool) → fitMarks record { verified = markOf v; filled1 = markOf f; filled2 = markOf g; spare = spare } ≡ true
+    go true true true = refl
+    go true true false = refl
+    go true false true = refl
+    go true false false = refl
+    go false true true = refl
+    go false true false = refl
+    go false false true = refl
+    go false false false = refl
+
+after-fit : (k : StoredReader) (e : Ended) → fitMarks (k .marks) ≡ true → fitMarks (storedAfter k e .after .marks) ≡ true
+unfolding storedAfter
+after-fit k e f = go (eqb (e .told .refusal) 0)
+  where
+    go : (b : Bool) → fitMarks (cond b (stored (k .marks .spare) (e .after)) k .marks) ≡ true
+    go true = stored-fit (k .marks .spare) (e .after)
+    go false = f
+
+-- a refused call leaves the reader as it was
+after-follows : (k : StoredReader) (e : Ended) → (e .told .refusal ≢ 0 → e .after ≡ k .reader) → Follows e (storedAfter k e)
+unfolding storedAfter stored
+after-follows k e same = go (e .told .refusal) refl
+  where
+    go : (n : ℕ) → e .told .refusal ≡ n → Follows e (storedAfter k e)
+    go zero z = record { told = refl; reader = rw z refl }
+    go (suc n) z =
+        let d : e .told .refusal ≢ 0 = (λ q. absurd (omega (arith, q, z))) in
+        record { told = refl; reader = rw (ne-eqb (e .told .refusal) 0 d) (sym (same d)) }
+
+-- marks of 0 and 1: the call is document 01's
+pub called-fit : (k : StoredReader) (run room : List ℕ) → fitMarks (k .marks) ≡ true → Follows (callOf core (k .reader) run room) (storedCallOf k run room)
+unfolding storedCallOf
+called-fit k run room f = rw f (after-follows k (callOf core (k .reader) run room) (λ d. refused-call core (k .reader) run room d .after))
+
+-- and its marks are 0 and 1 again
+pub called-fitly : (k : StoredReader) (run room : List ℕ) → fitMarks (k .marks) ≡ true → fitMarks (storedCallOf k run room .after .marks) ≡ true
+unfolding storedCallOf
+called-fitly k run room f = after-fit k _ f
+
+-- any other mark: refusal 1, 2 or 3, and every byte stays
+pub called-unfit : (k : StoredReader) (run room : List ℕ) → fitMarks (k .marks) ≡ false
+    → (storedCallOf k run room ≡ record { told = record { refusal = marksRefusal (k .reader) room; used = 0; length = 0; room = room }; after = k }) × (marksRefusal (k .reader) room ≢ 0)
+unfolding storedCallOf storedAfter refused marksRefusal verdict
+called-unfit k run room f = rw f (go (fitLengths core (k .reader .guarded)) (fitRoom room))
+  where
+    number : Bool → Bool → ℕ
+    number g h = verdict ((g, badLength) ∷ (h, badRoom) ∷ (false, badSetting) ∷ [])
+
+    go : (g h : Bool) → (storedAfter k (refused (number g h) (k .reader) room) ≡ record { told = record { refusal = number g h; used = 0; length = 0; room = room }; after = k }) × (number g h ≢ 0)
+    go true true = (refl, λ e. absurd (omega (arith, e)))
+    go true false = (refl, λ e. absurd (omega (arith, e)))
+    go false h = (refl, λ e. absurd (omega (arith, e)))
+
+-- any mark: the line switch is document 01's
+pub switched-any : (k : StoredReader) → Follows (switchOf (k .reader)) (storedSwitchOf k)
+unfolding storedSwitchOf
+switched-any k = after-follows k (switchOf (k .reader)) (λ d. refused-switch (k .reader) d .after)
+
+-- and leaves marks of 0
+pub switched-clear : (k : StoredReader) → storedSwitchOf k .told .refusal ≡ 0 → storedSwitchOf k .after .marks ≡ record { verified = 0; filled1 = 0; filled2 = 0; spare = k .marks .spare }
+unfolding storedSwitchOf storedAfter switchOf switchAs switched withTransfer withMark wiped emptied stored refused
+switched-clear k = go (switchRefusal (k .reader .guarded))
+  where
+    go : (n : ℕ) → storedAfter k (switchAs (k .reader) n) .told .refusal ≡ 0 → storedAfter k (switchAs (k .reader) n) .after .marks ≡ record { verified = 0; filled1 = 0; filled2 = 0; spare = k .marks .spare }
+    go zero z = refl
+    go (suc n) z = absurd (omega (arith, z))
+
+-- ---- one result
+
+pub one-stored : (s z : StoredSettings) (t i n b c t′ i′ n′ b′ c′ : List ℕ) → storedReaderOf s t i n b c ≡ storedReaderOf z t′ i′ n′ b′ c′
+    → (s ≡ z) × OneReader (settingsOf s) (settingsOf z) t i n b c t′ i′ n′ b′ c′
+one-stored s z t i n b c t′ i′ n′ b′ c′ e =
+    let r : OneReader (settingsOf s) (settingsOf z) t i n b c t′ i′ n′ b′ c′ =
+    one-reader (settingsOf s) (settingsOf z) t i n b c t′ i′ n′ b′ c′ (ap (λ (k : StoredReader). k .reader) e)
+    in (
+      λ j.
+          record {
+            password = r .settings j .password;
+            address = r .settings j .address;
+            level = r .settings j .level;
+            size = r .settings j .size;
+            baud = r .settings j .baud;
+            transfer = r .settings j .transfer;
+            sensor = r .settings j .sensor;
+            got = r .settings j .got;
+            verified = e j .marks .verified;
+            filled1 = e j .marks .filled1;
+            filled2 = e j .marks .filled2;
+            spare = e j .marks .spare;
+          },
+      r,
+    )
+
+pub one-stored-call : (x y : StoredCalled) (t i n b c o t′ i′ n′ b′ c′ o′ : List ℕ) → storedEndOf x t i n b c o ≡ storedEndOf y t′ i′ n′ b′ c′ o′
+    → (x ≡ y) × (OneReader (settingsOf (x .settings)) (settingsOf (y .settings)) t i n b c t′ i′ n′ b′ c′ × (o ≡ o′))
+one-stored-call x y t i n b c o t′ i′ n′ b′ c′ o′ e =
+    let r = one-stored (x .settings) (y .settings) t i n b c t′ i′ n′ b′ c′ (ap (λ (k : StoredEnd). k .after) e) in
+    (λ j. record { settings = r .0 j; refusal = e j .told .refusal; used = e j .told .used; length = e j .told .length }, (r .1, ap (λ (k : StoredEnd). k .told .room) e))
+
+pub one-stored-switch : (x y : StoredSwitched) (t i n b c t′ i′ n′ b′ c′ : List ℕ) → storedSwitchedOf x t i n b c ≡ storedSwitchedOf y t′ i′ n′ b′ c′
+    → (x ≡ y) × OneReader (settingsOf (x .settings)) (settingsOf (y .settings)) t i n b c t′ i′ n′ b′ c′
+one-stored-switch x y t i n b c t′ i′ n′ b′ c′ e =
+    let r = one-stored (x .settings) (y .settings) t i n b c t′ i′ n′ b′ c′ (ap (λ (k : StoredEnd). k .after) e) in
+    (λ j. record { settings = r .0 j; refusal = e j .told .refusal }, r .1)
