@@ -18,7 +18,7 @@ use Rattle.protocol.specs.Bytes.{Bytes, lay}
 use Rattle.protocol.specs.Reader.{Reader}
 use Rattle.protocol.specs.Step.{stepOf}
 use Rattle.protocol.specs.Call.{core, fitRoom, Typed, Ended, refused, carried, callOf}
-use Rattle.protocol.specs.Records.{readerOf, endedOf}
+use Rattle.protocol.specs.Records.{readerOf, lentOf, endedOf}
 use Rattle.protocol.proofs.Laws.Answers.{call-kinds, call-legal}
 use Rattle.protocol.proofs.Laws.Lists.{length-lay}
 use Rattle.protocol.proofs.Laws.Finder.{used-in}
@@ -29,27 +29,27 @@ use Rattle.bench.specs.declared.serve.Served.{Served}
 use Rattle.bench.specs.Serve.{Once, Service, service, serveOf, served, serviceOf}
 use Rattle.bench.proofs.Lengths.{Kept, kept-all, kept-on}
 
-used-within : (r : Reader) (s room : List ℕ) → callOf core r s room .told .used ≤ length s
+used-within : (r : Reader) (s room : List ℕ) → callOf core r s (lentOf room) .told .used ≤ length s
 unfolding refused carried stepOf
-used-within r s room = call-kinds core r s room (λ (e : Ended). e .told .used ≤ length s) (λ n. omega arith) (λ t u. used-in s)
+used-within r s room = call-kinds core r s (lentOf room) (λ (e : Ended). e .told .used ≤ length s) (λ n. omega arith) (λ t u. used-in s)
 
-reply-within : (r : Reader) → Typed r → (s room : List ℕ) → callOf core r s room .told .length ≤ length room
+reply-within : (r : Reader) → Typed r → (s room : List ℕ) → callOf core r s (lentOf room) .told .length ≤ length room
 unfolding refused fitRoom
 reply-within r h s room =
-    call-kinds core r s room (λ (e : Ended). e .told .length ≤ length room) (λ n. omega arith)
+    call-kinds core r s (lentOf room) (λ (e : Ended). e .told .length ≤ length room) (λ n. omega arith)
     (λ t u.
-    subst (λ (e : Ended). e .told .length ≤ length room) (call-legal core r s room t u)
-    (omega (arith, reply-fits core core-holds r record { typed = h; legal = t } s room, leb→le replyRoom (length room) u)))
+    subst (λ (e : Ended). e .told .length ≤ length room) (call-legal core r s (lentOf room) t u)
+    (omega (arith, reply-fits core core-holds r record { typed = h; legal = t } s (lentOf room), leb→le replyRoom (length room) u)))
 
 pub call-within : (s : Settings) (t i n b d run room : List ℕ) (q : Called) (t′ i′ n′ b′ d′ room′ : List ℕ) → length (s .password) ≡ fourBytes → length (s .address) ≡ fourBytes
     → ((k : ℕ) → Fits w8 (getD i k 0))
-    → endedOf q t′ i′ n′ b′ d′ room′ ≡ callOf core (readerOf s t i n b d) run room
-    → Once (callOf core (readerOf s t i n b d) run room) (length run) (length room) (endedOf q t′ i′ n′ b′ d′ room′)
+    → endedOf q t′ i′ n′ b′ d′ room′ ≡ callOf core (readerOf s t i n b d) run (lentOf room)
+    → Once (callOf core (readerOf s t i n b d) run (lentOf room)) (length run) (length room) (endedOf q t′ i′ n′ b′ d′ room′)
 unfolding Bytes
 call-within s t i n b d run room q t′ i′ n′ b′ d′ room′ p a h e =
     let r : Reader = readerOf s t i n b d in
-    let u : q .used ≡ callOf core r run room .told .used = ap (λ (x : Ended). x .told .used) e in
-    let l : q .length ≡ callOf core r run room .told .length = ap (λ (x : Ended). x .told .length) e in
+    let u : q .used ≡ callOf core r run (lentOf room) .told .used = ap (λ (x : Ended). x .told .used) e in
+    let l : q .length ≡ callOf core r run (lentOf room) .told .length = ap (λ (x : Ended). x .told .length) e in
     record {
       call = e;
       used = rw u (used-within r run room);
@@ -63,10 +63,10 @@ rest-long : (a : ℕ) (s : List ℕ) → length (take (length s - a) (drop a s))
 rest-long a s = simp (length-take, length-drop) (omega arith)
 
 module _ (k : ℕ) (r : Reader) (s room : List ℕ) (from at : ℕ) (e : Ended)
-    (h : e ≡ callOf core r (take (length s - from) (drop from s)) (take (length room - at) (drop at room)))
+    (h : e ≡ callOf core r (take (length s - from) (drop from s)) (lentOf (take (length room - at) (drop at room))))
     (m : at ≤ length room) (n : length (e .told .room) ≡ length room - at) where
-  here : callOf core r (drop from s) (drop at room) ≡ e
-  here = sym (h ∙ ap₂ (callOf core r) (rest from s) (rest at room))
+  here : callOf core r (drop from s) (lentOf (drop at room)) ≡ e
+  here = sym (h ∙ ap₂ (λ (x y : List ℕ). callOf core r x (lentOf y)) (rest from s) (rest at room))
 
   -- a call that uses something goes on behind it
   goes-on : 1 ≤ e .told .used
@@ -85,7 +85,7 @@ unfolding serveOf
 last-call k r s room from at a = go (eqb (e .told .used) 0) refl
   where
     e : Ended
-    e = callOf core r (drop from s) (drop at room)
+    e = callOf core r (drop from s) (lentOf (drop at room))
 
     go : (t : Bool) → eqb (e .told .used) 0 ≡ t → serveOf 1 r s room from at ≡ serveOf (suc k) r s room from at
     go true f = rw f refl
@@ -101,7 +101,7 @@ enough-calls (suc j) (suc k) r s room from at a b =
     go (eqb (e .told .used) 0) refl (enough-calls j k (e .after) s (lay at (e .told .room) room) (from + e .told .used) (at + e .told .length))
   where
     e : Ended
-    e = callOf core r (drop from s) (drop at room)
+    e = callOf core r (drop from s) (lentOf (drop at room))
 
     next : ℕ → Service
     next n = serveOf (suc n) (e .after) s (lay at (e .told .room) room) (from + e .told .used) (at + e .told .length)
@@ -148,7 +148,7 @@ module _ (s : List ℕ) (r₀ : Reader) (room₀ : List ℕ) (r : Reader) (room 
 
   -- the next call returned q, and left the memory t, i, n, b, d and the part of the room y
   module _ (q : Called) (t i n b d y : List ℕ)
-      (h : endedOf q t i n b d y ≡ callOf core r (take (length s - from) (drop from s)) (take (length room - at) (drop at room)))
+      (h : endedOf q t i n b d y ≡ callOf core r (take (length s - from) (drop from s)) (lentOf (take (length room - at) (drop at room))))
       (k : length y ≡ length (take (length room - at) (drop at room))) where
     room-long : length y ≡ length room - at
     room-long = k ∙ rest-long at room
@@ -182,7 +182,7 @@ module _ (s : List ℕ) (r₀ : Reader) (room₀ : List ℕ) (r : Reader) (room 
 -- q was the last
 pub over : (q : Called) (s : List ℕ) (r₀ : Reader) (room₀ : List ℕ) (r : Reader) (room : List ℕ) (from at : ℕ) (t i n b d y : List ℕ) (o : Served)
     → o ≡ served (q .settings) from at
-    → endedOf q t i n b d y ≡ callOf core r (take (length s - from) (drop from s)) (take (length room - at) (drop at room))
+    → endedOf q t i n b d y ≡ callOf core r (take (length s - from) (drop from s)) (lentOf (take (length room - at) (drop at room)))
     → q .used ≡ 0 → length y ≡ length (take (length room - at) (drop at room)) → Serving s r₀ room₀ r room from at
     → serviceOf o t i n b d (putMid at (length room - at) room y) ≡ serveOf (suc (length s)) r₀ s room₀ 0 0
 over q s r₀ room₀ r room from at t i n b d y o f h u k v = rw f (last s r₀ room₀ r room from at v q t i n b d y h k u)

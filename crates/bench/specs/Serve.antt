@@ -9,7 +9,7 @@ use Rattle.protocol.specs.declared.Settings.{Settings}
 use Rattle.protocol.specs.Bytes.{lay}
 use Rattle.protocol.specs.Reader.{Reader}
 use Rattle.protocol.specs.Call.{core, Ended, callOf}
-use Rattle.protocol.specs.Records.{readerOf}
+use Rattle.protocol.specs.Records.{readerOf, lentOf}
 use Rattle.bench.specs.declared.serve.Served.{Served}
 
 -- what a call does: it is the call c of the definitions, and keeps within a run and a room of so many bytes
@@ -33,7 +33,7 @@ service r used written room = record { after = r; used = used; written = written
 unfoldable pub serveOf : ℕ → Reader → List ℕ → List ℕ → ℕ → ℕ → Service
 serveOf zero r s room from at = service r from at room
 serveOf (suc k) r s room from at =
-    let e = callOf core r (drop from s) (drop at room) in
+    let e = callOf core r (drop from s) (lentOf (drop at room)) in
     let laid = lay at (e .told .room) room in
     cond (eqb (e .told .used) 0) (service (e .after) from at laid) (serveOf k (e .after) s laid (from + e .told .used) (at + e .told .length))
 

@@ -3,7 +3,7 @@ ghost use mathlib.Core.Path.{_≡_};
 ghost use Prim.Native.Nat.{suc, _-_, _≤_};
 ghost use lib.ListN.{length, take, drop};
 ghost use Rattle.protocol.specs.Call.{core, callOf};
-ghost use Rattle.protocol.specs.Records.{readerOf, endedOf};
+ghost use Rattle.protocol.specs.Records.{readerOf, lentOf, endedOf};
 ghost use Rattle.bench.specs.Serve.{Once, Serviced, served, serviceOf, serveOf};
 use place::step_through;
 use protocol::Called;
@@ -27,7 +27,7 @@ fn call_once(
     run: &[u8],
     out: &mut [u8],
 ) -> Called
-    ensures { λ r. ⌜ Once (callOf core (readerOf settings (now (templates .entry)) (now (index .entry)) (now (notepad .entry)) (now (buffer1 .entry)) (now (buffer2 .entry))) (now (run .entry)) (now (out .entry))) (length (now (run .entry))) (length (now (out .entry))) (endedOf r (now (templates .exit)) (now (index .exit)) (now (notepad .exit)) (now (buffer1 .exit)) (now (buffer2 .exit)) (now (out .exit))) ⌝ }
+    ensures { λ r. ⌜ Once (callOf core (readerOf settings (now (templates .entry)) (now (index .entry)) (now (notepad .entry)) (now (buffer1 .entry)) (now (buffer2 .entry))) (now (run .entry)) (lentOf (now (out .entry)))) (length (now (run .entry))) (length (now (out .entry))) (endedOf r (now (templates .exit)) (now (index .exit)) (now (notepad .exit)) (now (buffer1 .exit)) (now (buffer2 .exit)) (now (out .exit))) ⌝ }
 {
     step_through(
         settings,

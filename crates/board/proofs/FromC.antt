@@ -12,8 +12,8 @@ use Rattle.protocol.specs.Numbers.{badLength, badRoom, badSetting}
 use Rattle.protocol.specs.Tests.{verdict}
 use Rattle.protocol.specs.Reader.{Reader, withMark, withTransfer, emptied}
 use Rattle.protocol.specs.Step.{wiped, switched}
-use Rattle.protocol.specs.Call.{core, fitLengths, fitRoom, Ended, refused, callOf, switchRefusal, switchAs, switchOf}
-use Rattle.protocol.proofs.Promises.Refused.{refused-call, refused-switch}
+use Rattle.protocol.specs.Call.{core, fitLengths, Lent, fitLent, Ended, refused, callOf, switchRefusal, switchAs, switchOf}
+use Rattle.protocol.proofs.Laws.Answers.{call-stays, switch-stays}
 use Rattle.protocol.proofs.Promises.OneResult.{OneReader, one-reader}
 use Rattle.board.specs.declared.stored.StoredSettings.{StoredSettings}
 use Rattle.board.specs.declared.stored.StoredCalled.{StoredCalled}
@@ -61,25 +61,25 @@ after-follows k e same = go (e .told .refusal) refl
         record { told = refl; reader = rw (ne-eqb (e .told .refusal) 0 d) (sym (same d)) }
 
 -- marks of 0 and 1: the call is document 01's
-pub called-fit : (k : StoredReader) (run room : List ℕ) → fitMarks (k .marks) ≡ true → Follows (callOf core (k .reader) run room) (storedCallOf k run room)
+pub called-fit : (k : StoredReader) (run : List ℕ) (lent : Lent) → fitMarks (k .marks) ≡ true → Follows (callOf core (k .reader) run lent) (storedCallOf k run lent)
 unfolding storedCallOf
-called-fit k run room f = rw f (after-follows k (callOf core (k .reader) run room) (λ d. refused-call core (k .reader) run room d .after))
+called-fit k run lent f = rw f (after-follows k (callOf core (k .reader) run lent) (λ d. call-stays core (k .reader) run lent d))
 
 -- and its marks are 0 and 1 again
-pub called-fitly : (k : StoredReader) (run room : List ℕ) → fitMarks (k .marks) ≡ true → fitMarks (storedCallOf k run room .after .marks) ≡ true
+pub called-fitly : (k : StoredReader) (run : List ℕ) (lent : Lent) → fitMarks (k .marks) ≡ true → fitMarks (storedCallOf k run lent .after .marks) ≡ true
 unfolding storedCallOf
-called-fitly k run room f = after-fit k _ f
+called-fitly k run lent f = after-fit k _ f
 
 -- any other mark: refusal 1, 2 or 3, and every byte stays
-pub called-unfit : (k : StoredReader) (run room : List ℕ) → fitMarks (k .marks) ≡ false
-    → (storedCallOf k run room ≡ record { told = record { refusal = marksRefusal (k .reader) room; used = 0; length = 0; room = room }; after = k }) × (marksRefusal (k .reader) room ≢ 0)
+pub called-unfit : (k : StoredReader) (run : List ℕ) (lent : Lent) → fitMarks (k .marks) ≡ false
+    → (storedCallOf k run lent ≡ record { told = record { refusal = marksRefusal (k .reader) lent; used = 0; length = 0; room = lent .room }; after = k }) × (marksRefusal (k .reader) lent ≢ 0)
 unfolding storedCallOf storedAfter refused marksRefusal verdict
-called-unfit k run room f = rw f (go (fitLengths core (k .reader .guarded)) (fitRoom room))
+called-unfit k run lent f = rw f (go (fitLengths core (k .reader .guarded)) (fitLent lent))
   where
     number : Bool → Bool → ℕ
     number g h = verdict ((g, badLength) ∷ (h, badRoom) ∷ (false, badSetting) ∷ [])
 
-    go : (g h : Bool) → (storedAfter k (refused (number g h) (k .reader) room) ≡ record { told = record { refusal = number g h; used = 0; length = 0; room = room }; after = k }) × (number g h ≢ 0)
+    go : (g h : Bool) → (storedAfter k (refused (number g h) (k .reader) (lent .room)) ≡ record { told = record { refusal = number g h; used = 0; length = 0; room = lent .room }; after = k }) × (number g h ≢ 0)
     go true true = (refl, λ e. absurd (omega (arith, e)))
     go true false = (refl, λ e. absurd (omega (arith, e)))
     go false h = (refl, λ e. absurd (omega (arith, e)))
@@ -87,7 +87,7 @@ called-unfit k run room f = rw f (go (fitLengths core (k .reader .guarded)) (fit
 -- any mark: the line switch is document 01's
 pub switched-any : (k : StoredReader) → Follows (switchOf (k .reader)) (storedSwitchOf k)
 unfolding storedSwitchOf
-switched-any k = after-follows k (switchOf (k .reader)) (λ d. refused-switch (k .reader) d .after)
+switched-any k = after-follows k (switchOf (k .reader)) (λ d. switch-stays (k .reader) d)
 
 -- and leaves marks of 0
 pub switched-clear : (k : StoredReader) → storedSwitchOf k .told .refusal ≡ 0 → storedSwitchOf k .after .marks ≡ record { verified = 0; filled1 = 0; filled2 = 0; spare = k .marks .spare }

@@ -12,9 +12,9 @@ use Rattle.protocol.specs.declared.Switched.{Switched}
 use Rattle.protocol.specs.Numbers.{badLength, badRoom, badSetting}
 use Rattle.protocol.specs.Tests.{verdict, within}
 use Rattle.protocol.specs.Reader.{Reader}
-use Rattle.protocol.specs.Call.{core, fitLengths, fitRoom, fitPlain, sound, Ended, refusalOf, refused, callAs, callOf, switchOf}
+use Rattle.protocol.specs.Call.{core, fitLengths, Lent, fitLent, fitPlain, sound, Ended, refusalOf, refused, callAs, callOf, switchOf}
 use Rattle.protocol.specs.Records.{readerOf, freshOf, endedOf, switchedOf}
-use Rattle.protocol.proofs.Promises.Refused.{refused-call, refused-switch}
+use Rattle.protocol.proofs.Laws.Answers.{call-stays, switch-stays}
 use Rattle.board.specs.declared.stored.StoredSettings.{StoredSettings}
 use Rattle.board.specs.Stored.{isSet, markOf, fitMarks, marksOf, settingsAt, settingsOf, stored, storedReaderOf, StoredReader, storedAfter, marksRefusal, storedCallOf, storedSwitchOf, storedFreshOf, storedEndOf, storedSwitchedOf}
 use Rattle.board.specs.Storing.{storedAt, keptOf}
@@ -52,7 +52,7 @@ after-kept s t i n b c z y (suc k) used length t′ i′ n′ b′ c′ o′ sam
 
 -- ---- a call
 
-module _ (s : StoredSettings) (t i n b c run room : List ℕ) where
+module _ (s : StoredSettings) (t i n b c run : List ℕ) (lent : Lent) where
   abbrev lies : StoredReader
   lies = storedReaderOf s t i n b c
 
@@ -67,44 +67,44 @@ module _ (s : StoredSettings) (t i n b c run room : List ℕ) where
   refusal f g = verdict ((f, badLength) ∷ (g, badRoom) ∷ (false, badSetting) ∷ [])
 
   -- a level of 0 is refused just as a mark is that is not fit
-  level-refused : callOf core (made (settingsAt 0 s)) run room ≡ refused (marksRefusal was room) (made (settingsAt 0 s)) room
+  level-refused : callOf core (made (settingsAt 0 s)) run lent ≡ refused (marksRefusal was lent) (made (settingsAt 0 s)) (lent .room)
   unfolding callOf callAs refusalOf sound fitPlain within marksRefusal verdict
-  level-refused = go (fitLengths core (was .guarded)) (fitRoom room)
+  level-refused = go (fitLengths core (was .guarded)) (fitLent lent)
     where
-      go : (f g : Bool) → callAs (made (settingsAt 0 s)) run room (refusal f g) ≡ refused (refusal f g) (made (settingsAt 0 s)) room
+      go : (f g : Bool) → callAs (made (settingsAt 0 s)) run lent (refusal f g) ≡ refused (refusal f g) (made (settingsAt 0 s)) (lent .room)
       go true true = refl
       go true false = refl
       go false g = refl
 
   -- refused, the stored record stays, whatever was read of it
-  refused-stays : (z : Settings) → storedAfter lies (refused (marksRefusal was room) (made z) room) ≡ storedAfter lies (refused (marksRefusal was room) was room)
+  refused-stays : (z : Settings) → storedAfter lies (refused (marksRefusal was lent) (made z) (lent .room)) ≡ storedAfter lies (refused (marksRefusal was lent) was (lent .room))
   unfolding storedAfter refused marksRefusal verdict
-  refused-stays z = go (fitLengths core (was .guarded)) (fitRoom room)
+  refused-stays z = go (fitLengths core (was .guarded)) (fitLent lent)
     where
-      go : (f g : Bool) → storedAfter lies (refused (refusal f g) (made z) room) ≡ storedAfter lies (refused (refusal f g) was room)
+      go : (f g : Bool) → storedAfter lies (refused (refusal f g) (made z) (lent .room)) ≡ storedAfter lies (refused (refusal f g) was (lent .room))
       go true true = refl
       go true false = refl
       go false g = refl
 
-  call-stored : storedAfter lies (callOf core (made (settingsAt (cond (fitMarks (marksOf s)) (s .level) 0) s)) run room) ≡ storedCallOf lies run room
+  call-stored : storedAfter lies (callOf core (made (settingsAt (cond (fitMarks (marksOf s)) (s .level) 0) s)) run lent) ≡ storedCallOf lies run lent
   unfolding storedCallOf
   call-stored = go (fitMarks (marksOf s))
     where
-      go : (fit : Bool) → storedAfter lies (callOf core (made (settingsAt (cond fit (s .level) 0) s)) run room) ≡ storedAfter lies (cond fit (callOf core was run room) (refused (marksRefusal was room) was room))
+      go : (fit : Bool) → storedAfter lies (callOf core (made (settingsAt (cond fit (s .level) 0) s)) run lent) ≡ storedAfter lies (cond fit (callOf core was run lent) (refused (marksRefusal was lent) was (lent .room)))
       go true = refl
       go false = ap (storedAfter lies) level-refused ∙ refused-stays (settingsAt 0 s)
 
   pub stepped : (level : ℕ) (z : Settings) (x : Called) (a : StoredSettings) (t′ i′ n′ b′ c′ o′ : List ℕ)
-      → level ≡ cond (fitMarks (marksOf s)) (s .level) 0 → z ≡ settingsAt level s → endedOf x t′ i′ n′ b′ c′ o′ ≡ callOf core (made z) run room → a ≡ keptOf s (x .settings) (x .refusal)
-      → storedEndOf record { settings = a; refusal = x .refusal; used = x .used; length = x .length } t′ i′ n′ b′ c′ o′ ≡ storedCallOf lies run room
+      → level ≡ cond (fitMarks (marksOf s)) (s .level) 0 → z ≡ settingsAt level s → endedOf x t′ i′ n′ b′ c′ o′ ≡ callOf core (made z) run lent → a ≡ keptOf s (x .settings) (x .refusal)
+      → storedEndOf record { settings = a; refusal = x .refusal; used = x .used; length = x .length } t′ i′ n′ b′ c′ o′ ≡ storedCallOf lies run lent
   stepped level z x a t′ i′ n′ b′ c′ o′ l p e q =
       ap (λ (y : StoredSettings). storedEndOf record { settings = y; refusal = x .refusal; used = x .used; length = x .length } t′ i′ n′ b′ c′ o′) q
       ∙ after-kept s t i n b c z (x .settings) (x .refusal) (x .used) (x .length) t′ i′ n′ b′ c′ o′ same
-      ∙ ap (storedAfter lies) (e ∙ ap (λ (y : Settings). callOf core (made y) run room) p ∙ ap (λ m. callOf core (made (settingsAt m s)) run room) l)
+      ∙ ap (storedAfter lies) (e ∙ ap (λ (y : Settings). callOf core (made y) run lent) p ∙ ap (λ m. callOf core (made (settingsAt m s)) run lent) l)
       ∙ call-stored
     where
       same : x .refusal ≢ 0 → readerOf (x .settings) t′ i′ n′ b′ c′ ≡ made z
-      same d = ap (λ (y : Ended). y .after) e ∙ refused-call core (made z) run room (λ f. d (ap (λ (y : Ended). y .told .refusal) e ∙ f)) .after
+      same d = ap (λ (y : Ended). y .after) e ∙ call-stays core (made z) run lent (λ f. d (ap (λ (y : Ended). y .told .refusal) e ∙ f))
 
 -- ---- a line switch
 
@@ -118,7 +118,7 @@ switched s z x a t i n b c b′ c′ p e q =
     ∙ ap (storedAfter (storedReaderOf s t i n b c)) (e ∙ ap (λ (y : Settings). switchOf (readerOf y t i n b c)) p)
   where
     same : x .refusal ≢ 0 → readerOf (x .settings) t i n b′ c′ ≡ readerOf z t i n b c
-    same d = ap (λ (y : Ended). y .after) e ∙ refused-switch (readerOf z t i n b c) (λ f. d (ap (λ (y : Ended). y .told .refusal) e ∙ f)) .after
+    same d = ap (λ (y : Ended). y .after) e ∙ switch-stays (readerOf z t i n b c) (λ f. d (ap (λ (y : Ended). y .told .refusal) e ∙ f))
 
 -- ---- fresh settings
 

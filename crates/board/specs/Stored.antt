@@ -7,7 +7,7 @@ use Rattle.protocol.specs.declared.Settings.{Settings}
 use Rattle.protocol.specs.Numbers.{badLength, badRoom, badSetting}
 use Rattle.protocol.specs.Tests.{verdict}
 use Rattle.protocol.specs.Reader.{Reader}
-use Rattle.protocol.specs.Call.{core, fitLengths, fitRoom, Told, Ended, refused, callOf, switchOf}
+use Rattle.protocol.specs.Call.{core, fitLengths, Lent, fitLent, Told, Ended, refused, callOf, switchOf}
 use Rattle.protocol.specs.Records.{readerOf, freshOf}
 use Rattle.place.specs.declared.Answered.{Answered}
 use Rattle.board.specs.declared.stored.StoredSettings.{StoredSettings}
@@ -100,13 +100,13 @@ unfoldable pub storedAfter : StoredReader → Ended → StoredEnd
 storedAfter k e = record { told = e .told; after = cond (eqb (e .told .refusal) 0) (stored (k .marks .spare) (e .after)) k }
 
 -- a mark that is not fit is refused in document 01's order: 1, 2, and then 3
-unfoldable pub marksRefusal : Reader → List ℕ → ℕ
-marksRefusal r room = verdict ((fitLengths core (r .guarded), badLength) ∷ (fitRoom room, badRoom) ∷ (false, badSetting) ∷ [])
+unfoldable pub marksRefusal : Reader → Lent → ℕ
+marksRefusal r lent = verdict ((fitLengths core (r .guarded), badLength) ∷ (fitLent lent, badRoom) ∷ (false, badSetting) ∷ [])
 
-unfoldable pub storedCallOf : StoredReader → List ℕ → List ℕ → StoredEnd
-storedCallOf k run room =
+unfoldable pub storedCallOf : StoredReader → List ℕ → Lent → StoredEnd
+storedCallOf k run lent =
     let r = k .reader in
-    storedAfter k (cond (fitMarks (k .marks)) (callOf core r run room) (refused (marksRefusal r room) r room))
+    storedAfter k (cond (fitMarks (k .marks)) (callOf core r run lent) (refused (marksRefusal r lent) r (lent .room)))
 
 -- it takes any settings, and marks of any byte
 unfoldable pub storedSwitchOf : StoredReader → StoredEnd

@@ -5,6 +5,7 @@ ghost use mathlib.Core.Path.{_≡_};
 ghost use mathlib.Core.List.{List};
 ghost use Prim.Native.Nat.{ℕ};
 ghost use Rattle.protocol.specs.Services.{sumService, usedService, buildService, countService};
+ghost use Rattle.protocol.specs.Records.{lentOf};
 ghost use Rattle.board.specs.Stored.{storedReaderOf, storedFreshOf, storedCallOf, storedSwitchOf, storedEndOf, storedSwitchedOf, storedCalledAt, storedSwitchedAt};
 use crate::stored::StoredSettings;
 use library::index;
@@ -72,7 +73,7 @@ pub extern "C" fn bystrodol_step(
     run: &[u8],
     reply: &mut [u8],
 ) -> Answered
-    ensures { λ r. ⌜ storedEndOf (storedCalledAt (now (settings .exit)) r) (now (templates .exit)) (now (index .exit)) (now (notepad .exit)) (now (buffer1 .exit)) (now (buffer2 .exit)) (now (reply .exit)) ≡ storedCallOf (storedReaderOf (now (settings .entry)) (now (templates .entry)) (now (index .entry)) (now (notepad .entry)) (now (buffer1 .entry)) (now (buffer2 .entry))) (now (run .entry)) (now (reply .entry)) ⌝ }
+    ensures { λ r. ⌜ storedEndOf (storedCalledAt (now (settings .exit)) r) (now (templates .exit)) (now (index .exit)) (now (notepad .exit)) (now (buffer1 .exit)) (now (buffer2 .exit)) (now (reply .exit)) ≡ storedCallOf (storedReaderOf (now (settings .entry)) (now (templates .entry)) (now (index .entry)) (now (notepad .entry)) (now (buffer1 .entry)) (now (buffer2 .entry))) (now (run .entry)) (lentOf (now (reply .entry))) ⌝ }
 {
     let called = stored::step(
         *settings,

@@ -4,12 +4,13 @@ ghost use mathlib.Core.Path.{_≡_};
 ghost use mathlib.Core.Bool.{cond};
 ghost use mathlib.Core.List.{List};
 ghost use Prim.Native.Nat.{ℕ};
+ghost use Rattle.protocol.specs.Records.{lentOf};
 ghost use Rattle.board.specs.Stored.{markOf, fitMarks, marksOf, settingsAt, storedReaderOf, storedFreshOf, storedCallOf, storedSwitchOf, storedEndOf, storedSwitchedOf};
 ghost use Rattle.board.specs.Storing.{storedAt, keptOf};
 use protocol::Settings;
 use protocol::refusals;
 use reader::call;
-use reader::settings;
+use rules::settings;
 
 // A level that is not legal.
 const NO_LEVEL: u8 = 0;
@@ -136,7 +137,7 @@ pub fn step(
     run: &[u8],
     reply: &mut [u8],
 ) -> StoredCalled
-    ensures { λ r. ⌜ storedEndOf r (now (templates .exit)) (now (index .exit)) (now (notepad .exit)) (now (buffer1 .exit)) (now (buffer2 .exit)) (now (reply .exit)) ≡ storedCallOf (storedReaderOf settings (now (templates .entry)) (now (index .entry)) (now (notepad .entry)) (now (buffer1 .entry)) (now (buffer2 .entry))) (now (run .entry)) (now (reply .entry)) ⌝ }
+    ensures { λ r. ⌜ storedEndOf r (now (templates .exit)) (now (index .exit)) (now (notepad .exit)) (now (buffer1 .exit)) (now (buffer2 .exit)) (now (reply .exit)) ≡ storedCallOf (storedReaderOf settings (now (templates .entry)) (now (index .entry)) (now (notepad .entry)) (now (buffer1 .entry)) (now (buffer2 .entry))) (now (run .entry)) (lentOf (now (reply .entry))) ⌝ }
 {
     let level = level_of(settings);
     let called = call::step(

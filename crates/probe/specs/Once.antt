@@ -3,10 +3,11 @@ use mathlib.Core.Bool.{cond}
 use mathlib.Core.List.{List}
 use Prim.Native.Nat.{ℕ}
 use lib.Dec.{eqb}
+use Rattle.protocol.specs.Records.{lentOf}
 use Rattle.board.specs.Stored.{StoredReader, StoredEnd, storedCallOf, storedSwitchOf}
 
 abbrev pub besides : List ℕ → StoredEnd → StoredEnd
 besides room e = record { told = record { refusal = e .told .refusal; used = e .told .used; length = e .told .length; room = room }; after = e .after }
 
 unfoldable pub onceOf : ℕ → StoredReader → List ℕ → List ℕ → StoredEnd
-onceOf op k run room = cond (eqb op 0) (storedCallOf k run room) (besides room (storedSwitchOf k))
+onceOf op k run room = cond (eqb op 0) (storedCallOf k run (lentOf room)) (besides room (storedSwitchOf k))

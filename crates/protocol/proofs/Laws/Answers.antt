@@ -1,6 +1,7 @@
 -- The one principle of a call: refused, or an answer of five kinds. What holds of each kind holds of every answer.
 use mathlib.Core.Bool.{Bool, true, false, cond}
 use mathlib.Core.Path.{_≡_, refl, ap, _∙_, subst}
+use mathlib.Core.Logic.{_≢_}
 use mathlib.Core.List.{List}
 use Prim.Native.Nat.{ℕ, zero, suc, _-_}
 use lib.Dec.{T}
@@ -10,7 +11,7 @@ use Rattle.protocol.specs.Reader.{Transfer, closed, opened, unfit, Reade
 use Rattle.protocol.specs.Commands.{Free, Barred, free, barred, damaged, unknown, misfit, command}
 use Rattle.protocol.specs.Table.{rule, freeRule, publicOf}
 use Rattle.protocol.specs.Step.{Heard, nothing, order, piece, hear, Said, silence, says, carryAs, carry, carryFree, obey, heed, ended, rested, fits, takeAs, takeIn, answer, stepOf}
-use Rattle.protocol.specs.Call.{Shape, Lent, fitLengths, fitLent, sound, legal, Ended, refusalOf, refused, carried, callAs, callOf}
+use Rattle.protocol.specs.Call.{Shape, Lent, fitLengths, fitLent, sound, legal, Ended, refusalOf, refused, carried, callAs, callOf, switchRefusal, switchAs, switchOf}
 use Rattle.protocol.proofs.Laws.Logic.{T→true, and-l, and-r, and-i, passed, verdict-passed, passed-verdict}
 use Rattle.protocol.proofs.Laws.Commands.{tests-numbered}
 
@@ -123,3 +124,17 @@ module _ (σ : Shape) (r : Reader) (s : List ℕ) (lent : Lent) where
   pub call-short : T (legal σ r) → fitLent lent ≡ false → callOf σ r s lent ≡ refused badRoom r (lent .room)
   unfolding callOf callAs refusalOf legal verdict
   call-short t u = simp (T→true (fitLengths σ (r .guarded)) (search (and-l)), T→true (sound r) (search (and-r)), u) refl
+
+  -- a refused call leaves the reader as it was
+  pub call-stays : callOf σ r s lent .told .refusal ≢ 0 → callOf σ r s lent .after ≡ r
+  unfolding refused carried
+  call-stays = call-kinds (λ (e : Ended). e .told .refusal ≢ 0 → e .after ≡ r) (λ n d. refl) (λ t u d. absurd (d refl))
+
+-- and so does a refused line switch
+pub switch-stays : (r : Reader) → switchOf r .told .refusal ≢ 0 → switchOf r .after ≡ r
+unfolding switchOf switchAs refused
+switch-stays r = go (switchRefusal (r .guarded))
+  where
+    go : (n : ℕ) → switchAs r n .told .refusal ≢ 0 → switchAs r n .after ≡ r
+    go zero d = absurd (d refl)
+    go (suc n) d = refl
