@@ -60,7 +60,7 @@ same-length-2 c = search needs
 
 returns-4 : tie.Need-returns-4
 unfolding carry carryAs rule verdict capacity says follow sent apply withLibrary bufferOf
-returns-4 c = (λ m. rw (c .plain4 .ensures, c .before .before .before .before .before .store-now .ensures .0, c .before .before .before .before .before .store-now .ensures .1, ← c .before .before .before .before .before .before .before .before .before .before .before .before .is-buffer .ensures, not-false (c .before .before .before .before .before .before .before .before .before .before .before .before .is-buffer .result) (c .before .before .before .before .before .before .before .before .before .before .before .if1 .left), lt-ltb _ _ (c .before .before .before .before .before .before .before .before .before .before .if2 .left), chosen-filled, chosen-bytes, ← c .before .before .before .before .before .before .before .before .before .filled-of .ensures, not-false (c .before .before .before .before .before .before .before .before .before .filled-of .result) (c .before .before .before .before .before .before .before .before .if3 .left)), rw (c .plain4 .ensures) (record { few = omega arith; size = c .before .before .before .before .before .before .before .before .before .before .before .before .before .before .before .before .before .pre .1 .1 }))
+returns-4 c = (λ m. rw (c .plain4 .ensures, c .before .before .before .before .before .store-now .ensures .0, c .before .before .before .before .before .store-now .ensures .1, ← c .before .before .before .before .before .before .before .before .before .before .before .before .is-buffer .ensures, not-false (c .before .before .before .before .before .before .before .before .before .before .before .before .is-buffer .result) (c .before .before .before .before .before .before .before .before .before .before .before .if1 .left), lt-ltb _ _ (c .before .before .before .before .before .before .before .before .before .before .if2 .left), chosen-filled, ← c .before .before .before .before .before .before .before .before .before .filled-of .ensures, not-false (c .before .before .before .before .before .before .before .before .before .filled-of .result) (c .before .before .before .before .before .before .before .before .if3 .left), chosen-bytes), rw (c .plain4 .ensures) (record { few = omega arith; size = c .before .before .before .before .before .before .before .before .before .before .before .before .before .before .before .before .before .pre .1 .1 }))
 
 pub store-page-spec : {M : Type 1} → statement M
 store-page-spec =
