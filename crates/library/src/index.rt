@@ -1,6 +1,6 @@
 // The index: page p is the bit of weight 2^(p mod 8) in byte p / 8. A page that the index has no bit for is not stored, and stays so.
 ghost use mathlib.Core.Path.{_≡_};
-ghost use Prim.Native.Nat.{_+_, _*_, _/_, _%_, _≤_, _<_};
+ghost use Prim.Native.Nat.{_*_, _/_, _%_, _≤_, _<_};
 ghost use lib.ListN.{length};
 ghost use Rattle.protocol.specs.Bytes.{byteAt};
 ghost use Rattle.protocol.specs.Index.{bit, stored, setBit, clearBit, clearBits, setBits, clearFrom};

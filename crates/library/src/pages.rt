@@ -1,6 +1,5 @@
 // Pages of the templates: page p is the 512 bytes that start at 512 × p, lent as a part. What does not fit changes nothing.
 ghost use mathlib.Core.Path.{_≡_};
-ghost use Prim.Native.Nat.{_+_, _*_, _/_, _≤_, _<_};
 ghost use lib.ListN.{length};
 ghost use Rattle.protocol.specs.Bytes.{zeros};
 ghost use Rattle.library.specs.Lent.{writePage, readPage, zeroPage, zeroPages};

@@ -6,7 +6,7 @@ use native.Mathlib.Nat.{add-mod-mod}
 use native.Mathlib.Omega.{arith}
 use lib.ListN.{length, getD, set, take, length-append}
 use lib.Seq.{take-all}
-use Rattle.protocol.specs.Numbers.{firstMark, secondMark, headBytes, frameBytes}
+use Rattle.protocol.specs.Numbers.{firstMark, secondMark, headBytes, frameBytes, fourBytes}
 use Rattle.protocol.specs.Bytes.{two, total, lay}
 use Rattle.protocol.specs.Packet.{lengthOf, sumOf, packet}
 use Rattle.protocol.proofs.Laws.Lists.{by-four, lay-lay, lay-more}
@@ -18,31 +18,31 @@ unfolding sumOf
 packet-sum i c = add-mod-mod _ _ _
 
 -- the head as the code lists it
-pub head-list : (a : List ℕ) (i n : ℕ) → length a ≡ 4
+pub head-list : (a : List ℕ) (i n : ℕ) → length a ≡ fourBytes
     → firstMark ∷ secondMark ∷ getD a 0 0 ∷ getD a 1 0 ∷ getD a 2 0 ∷ getD a 3 0 ∷ i ∷ n / 256 % 256 ∷ n % 256 ∷ [] ≡ headOf a i n
 unfolding headOf two
 head-list a i n e =
     by-four a e
     (λ (x : List ℕ). firstMark ∷ secondMark ∷ getD x 0 0 ∷ getD x 1 0 ∷ getD x 2 0 ∷ getD x 3 0 ∷ i ∷ n / 256 % 256 ∷ n % 256 ∷ [] ≡ headOf x i n) (λ w x y z. refl)
 
-length-head : (a : List ℕ) (i n : ℕ) → length a ≡ 4 → length (headOf a i n) ≡ 9
+length-head : (a : List ℕ) (i n : ℕ) → length a ≡ fourBytes → length (headOf a i n) ≡ headBytes
 unfolding headOf two
 length-head a i n e = simp length-append (omega arith)
 
-packet-laid : (a : List ℕ) (i : ℕ) (c d : List ℕ) → length a ≡ 4 → length c + frameBytes ≤ length d
-    → lay (9 + length c) (two (sumOf i c)) (lay 9 c (lay 0 (headOf a i (lengthOf c)) d)) ≡ lay 0 (packet a i c) d
+packet-laid : (a : List ℕ) (i : ℕ) (c d : List ℕ) → length a ≡ fourBytes → length c + frameBytes ≤ length d
+    → lay (headBytes + length c) (two (sumOf i c)) (lay headBytes c (lay 0 (headOf a i (lengthOf c)) d)) ≡ lay 0 (packet a i c) d
 unfolding headOf packet two
 packet-laid a i c d e h =
     let head : List ℕ = headOf a i (lengthOf c) in
     let sum : List ℕ = two (sumOf i c) in
-    let long : length head ≡ 9 = length-head a i (lengthOf c) e in
-    let both : length (head ++ c) ≡ 9 + length c = length-append head c ∙ omega arith in
-    ap (lay (9 + length c) sum) (lay-lay 0 9 head c d (omega arith) (omega arith))
-    ∙ lay-lay 0 (9 + length c) (head ++ c) sum d (omega arith) (omega arith)
+    let long : length head ≡ headBytes = length-head a i (lengthOf c) e in
+    let both : length (head ++ c) ≡ headBytes + length c = length-append head c ∙ omega arith in
+    ap (lay (headBytes + length c) sum) (lay-lay 0 headBytes head c d (omega arith) (omega arith))
+    ∙ lay-lay 0 (headBytes + length c) (head ++ c) sum d (omega arith) (omega arith)
     ∙ ap (λ (x : List ℕ). lay 0 x d) (append-assoc head c sum ∙ simp append-assoc)
 
 -- the three pieces one behind the other: p, t and r are what is given back, q is the sum, and x, y, z are the room after each piece
-pub pieces : (a : List ℕ) (i : ℕ) (c d x y z : List ℕ) (p t q r : ℕ) → length a ≡ 4 → length c + frameBytes ≤ length d
+pub pieces : (a : List ℕ) (i : ℕ) (c d x y z : List ℕ) (p t q r : ℕ) → length a ≡ fourBytes → length c + frameBytes ≤ length d
     → Laid headBytes 0 (headOf a i (lengthOf c)) d p x
     → Laid (total c % 65536) p c x t y
     → q ≡ (i + total (two (lengthOf c)) + t) % 65536

@@ -10,6 +10,7 @@ use mir.Val.{Fits}
 use lib.Dec.{eqb}
 use lib.ListN.{length, getD, drop, drop-of-length-le}
 use borrow.Author.Tests.{eq-eqb, ne-eqb, eqb-true, eqb-false}
+use Rattle.protocol.specs.Numbers.{fourBytes}
 use Rattle.protocol.specs.Bytes.{total, same}
 use Rattle.protocol.proofs.Laws.Lists.{from, by-four}
 
@@ -68,7 +69,7 @@ same-number p q r s w x y z hp hq hr hs hw hx hy hz = go (eqb p w) (eqb q x) (eq
     go true true true true e f g h = eq-eqb n m (rw (eqb-true p w e, eqb-true q x f, eqb-true r y g, eqb-true s z h) refl)
 
 -- the code compares the numbers of the bytes that it has widened
-pub same-four : (a b : List ℕ) (p q r s w x y z : ℕ) → length a ≡ 4 → length b ≡ 4
+pub same-four : (a b : List ℕ) (p q r s w x y z : ℕ) → length a ≡ fourBytes → length b ≡ fourBytes
     → p ≡ getD a 0 0 → q ≡ getD a 1 0 → r ≡ getD a 2 0 → s ≡ getD a 3 0 → w ≡ getD b 0 0 → x ≡ getD b 1 0 → y ≡ getD b 2 0 → z ≡ getD b 3 0
     → p < 256 → q < 256 → r < 256 → s < 256 → w < 256 → x < 256 → y < 256 → z < 256
     → eqb (p + q * 256 + r * 65536 + s * 16777216) (w + x * 256 + y * 65536 + z * 16777216) ≡ same a b

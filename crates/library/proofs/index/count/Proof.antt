@@ -1,4 +1,4 @@
--- Where the index has the length that is asked for, its set bits are counted; otherwise the answer is FFFFh.
+-- Where the index has the length that is asked for, its set bits are counted; otherwise the answer is the number that says so.
 use mathlib.Core.Path.{_≡_, sym, _∙_}
 use mathlib.Core.List.{List}
 use Prim.Native.Nat.{ℕ}

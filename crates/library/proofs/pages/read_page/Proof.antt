@@ -1,4 +1,4 @@
--- The part that is put over the 512 bytes is the page; where there is no such page, or the bytes are not 512, nothing is put.
+-- The part that is put is the page; where there is no such page, or dst is not as long as one, nothing is put.
 use mathlib.Core.Path.{_≡_, _∙_}
 use mathlib.Core.List.{List}
 use Prim.Native.Nat.{ℕ, _+_, _-_, _*_, _/_, _≤_, _<_}

@@ -1,4 +1,4 @@
--- The part that is lent is the page, and it comes back as the 512 bytes; where there is no such page, or the bytes are not 512, nothing is lent.
+-- The part that is lent is the page, and it comes back as src; where there is no such page, or src is not as long as one, nothing is lent.
 use mathlib.Core.Path.{_≡_}
 use mathlib.Core.List.{List}
 use Prim.Native.Nat.{ℕ, _+_, _-_, _*_, _/_, _≤_, _<_}

@@ -1,4 +1,4 @@
--- Refusal 4 goes by the limits of a packet, then 2 by the room; what is left is built.
+-- Identifier and length are tested before the room, in the order of the refusals; what passes both is laid as a packet.
 use mathlib.Core.Path.{_≡_}
 use mathlib.Core.Bool.{Bool, true, false}
 use mathlib.Core.List.{List}
