@@ -113,9 +113,9 @@ lengths-say t i n b c e =
       buffer2 = eqb→eq (length c) 512 (search (and-l, and-r) depth 9);
     }
 
-pub plain-size : (p : Plain) → fitPlain p ≡ true → p .size ≤ 2
-unfolding fitPlain highestSize
-plain-size p e = let h : T (fitPlain p) = rw e tt in leb→le (p .size) 2 (search (and-l, and-r) depth 9)
+pub plain-size : (p : Plain) → fitPlain p ≡ true → p .size ≤ highestSize
+unfolding fitPlain
+plain-size p e = let h : T (fitPlain p) = rw e tt in leb→le (p .size) highestSize (search (and-l, and-r) depth 9)
 
 moving : (p : Plain) (g : Guarded) (s : Settings) → fitTransfer p g (transferOf (s .transfer) (s .got)) ≡ true → Moving s
 moving p g s e = record { which = go (decLt 2 (s .transfer)); none = λ z. eqb-true (s .got) 0 (sym (fit-none p g (s .transfer) (s .got) z) ∙ e) }

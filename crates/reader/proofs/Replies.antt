@@ -12,7 +12,7 @@ use borrow.Author.Tests.{le-leb}
 use borrow.Rule.Slice.PartMut.{putMid}
 use Rattle.protocol.specs.declared.Built.{Built}
 use Rattle.protocol.specs.Reader.{sizeOf}
-use Rattle.protocol.specs.Numbers.{highestSize, frameBytes, dataPacket, lastPacket}
+use Rattle.protocol.specs.Numbers.{pageBytes, highestSize, frameBytes, dataPacket, lastPacket}
 use Rattle.protocol.specs.Bytes.{lay, follow, joined}
 use Rattle.protocol.specs.Tests.{verdict}
 use Rattle.protocol.specs.Packet.{lengthOf, packet, isIdentifier, accepts, Made, buildRefusal, buildAs, buildOf}
@@ -23,11 +23,12 @@ use Rattle.protocol.proofs.Laws.Lists.{follow-append, lay-lay, lay-whole}
 use Rattle.protocol.proofs.Laws.Finder.{length-packet, accepts-of}
 use Rattle.protocol.proofs.Laws.Sizes.{Size, sizes, length-packets, length-data}
 use Rattle.library.proofs.Parts.{part-laid}
+use Rattle.reader.specs.Answers.{listedBytes, contentBytes, uploadBytes}
 
 -- ---- a packet that the builder does not refuse
 
--- an identifier of a packet, and content of 1 to 254 bytes
-pub accepted : (i : ℕ) (c : List ℕ) → isIdentifier i ≡ true → 1 ≤ length c → length c ≤ 254 → T (accepts i (lengthOf c))
+-- an identifier of a packet, and content that is not too long
+pub accepted : (i : ℕ) (c : List ℕ) → isIdentifier i ≡ true → 1 ≤ length c → length c ≤ contentBytes → T (accepts i (lengthOf c))
 accepted i c e l h = accepts-of i (lengthOf c) (rw e tt) (omega arith) (omega arith)
 
 pub build-laid : (a : List ℕ) (i : ℕ) (c room : List ℕ) → T (accepts i (lengthOf c)) → length c + frameBytes ≤ length room
@@ -111,22 +112,20 @@ spoken-two a p y y1 y2 n r e h f g k =
     let q = follow-append a p in
     (k ∙ omega (arith, ap length q, length-append a p), g ∙ ap (lay n p) f ∙ lay-lay 0 n a p y (omega arith) h ∙ ap (λ (x : List ℕ). lay 0 x y) (sym q))
 
-pub few-all : (t : Bool) (n : ℕ) → n ≤ cond t 32 0 → n ≤ 32
+pub few-all : (t : Bool) (n : ℕ) → n ≤ cond t listedBytes 0 → n ≤ listedBytes
 few-all true n h = h
 few-all false n h = omega arith
 
 -- ---- the sizes, in the code's numbers
 
 pub record CodeSize (z : ℕ) : Type 0 where
-  pub all : 512 / z * z ≡ 512
-  pub room : 512 / z * (z + 11) ≤ 688
+  pub all : pageBytes / z * z ≡ pageBytes
+  pub room : pageBytes / z * (z + frameBytes) ≤ uploadBytes
 
-pub code-size : (code : ℕ) → code ≤ 2 → CodeSize (sizeOf code)
-unfolding highestSize
+pub code-size : (code : ℕ) → code ≤ highestSize → CodeSize (sizeOf code)
 code-size code h =
     let z : Size (sizeOf code) = sizes code h in
     record { all = ap (λ (k : ℕ). k * sizeOf code) (z .count) ∙ z .whole; room = rw (z .count) (omega (arith, z .room)) }
 
-pub sent-length : (a : List ℕ) (code : ℕ) (s : List ℕ) → length a ≡ 4 → code ≤ 2 → length s ≡ 512 → length (dataPackets a (sizeOf code) s) ≤ 688
-unfolding highestSize
+pub sent-length : (a : List ℕ) (code : ℕ) (s : List ℕ) → length a ≡ 4 → code ≤ highestSize → length s ≡ pageBytes → length (dataPackets a (sizeOf code) s) ≤ uploadBytes
 sent-length a code s h l m = omega (arith, length-data a (sizeOf code) s (sizes code l) h m)

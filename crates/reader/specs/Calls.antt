@@ -2,10 +2,12 @@
 use mathlib.Core.Bool.{Bool, _&&_}
 use mathlib.Core.List.{List}
 use mathlib.Core.Path.{_≡_}
-use Prim.Native.Nat.{ℕ, _*_, _/_, _≤_}
+use Prim.Native.Nat.{ℕ, _+_, _*_, _/_, _≤_}
 use lib.Dec.{eqb}
-use Rattle.protocol.specs.Numbers.{pageBytes}
+use lib.ListN.{length}
+use Rattle.protocol.specs.Numbers.{pageBytes, highestSize}
 use Rattle.protocol.specs.Tests.{within}
+use Rattle.protocol.specs.Reader.{sizeOf}
 use Rattle.protocol.specs.Step.{Said}
 use Rattle.protocol.specs.Call.{core, Ended, carried}
 use Rattle.protocol.specs.declared.Settings.{Settings}
@@ -16,6 +18,16 @@ use Rattle.protocol.specs.declared.Switched.{Switched}
 pub record Moving (s : Settings) : Type 0 where
   pub which : s .transfer ≤ 2
   pub none : s .transfer ≡ 0 → s .got ≡ 0
+
+-- a data packet that fits an open transfer
+pub record Placing (s : Settings) (b c x : List ℕ) : Type 0 where
+  pub buffer1 : length b ≡ pageBytes
+  pub buffer2 : length c ≡ pageBytes
+  pub size : s .size ≤ highestSize
+  pub opened : s .transfer ≡ 0 → ⊥
+  pub which : s .transfer ≤ 2
+  pub room : s .got + length x ≤ pageBytes
+  pub long : length x ≡ sizeOf (s .size)
 
 abbrev pub called : ℕ → ℕ → ℕ → Settings → Called
 called refusal used length s = record { settings = s; refusal = refusal; used = used; length = length }

@@ -1,4 +1,5 @@
 pub mod Records
+pub mod Buffers
 pub mod Answers
 pub mod Commands
 pub mod Calls

@@ -5,12 +5,14 @@ ghost use mathlib.Core.List.{_∷_};
 ghost use Prim.Native.Nat.{_+_, _-_, _*_, _/_, _≤_, _<_};
 ghost use lib.Dec.{eqb};
 ghost use lib.ListN.{length, take};
+ghost use Rattle.protocol.specs.Numbers.{pageBytes, frameBytes, replyRoom, dataPacket, lastPacket, highestSize};
 ghost use Rattle.protocol.specs.Bytes.{lay, joined};
 ghost use Rattle.protocol.specs.Packet.{packet, isIdentifier};
 ghost use Rattle.protocol.specs.Reader.{sizeOf};
 ghost use Rattle.protocol.specs.Data.{acknowledge, packets, dataPackets};
-ghost use Rattle.reader.specs.Answers.{spokenOf, Ready};
+ghost use Rattle.reader.specs.Answers.{spokenOf, Ready, listedBytes, contentBytes, uploadBytes};
 use crate::answers::Answer;
+use crate::buffers;
 use crate::settings;
 use protocol::Settings;
 use protocol::numbers;
@@ -18,7 +20,7 @@ use wire::builder;
 
 // A code with 32 bytes behind it.
 fn content_of(code: u8, bytes: [u8; 32]) -> [u8; 33]
-    ensures { λ r. ⌜ (r ≡ code ∷ bytes) × (length r ≡ 33) ⌝ }
+    ensures { λ r. ⌜ (r ≡ code ∷ bytes) × (length r ≡ 1 + listedBytes) ⌝ }
 {
     let mut content = [0u8; 33];
     content[0] = code;
@@ -28,8 +30,8 @@ fn content_of(code: u8, bytes: [u8; 32]) -> [u8; 33]
 
 // Writes an acknowledge at the front of the reply room. Most have a code alone.
 fn put_acknowledge(a: Answer, reply: &mut [u8]) -> usize
-    requires { ⌜ (a .count ≤ 32) × (700 ≤ length (now reply)) ⌝ }
-    ensures { λ r. ⌜ (r ≡ a .count + 12) × (now (reply .exit) ≡ lay 0 (acknowledge (a .settings .address) (a .code) (take (a .count) (a .bytes))) (now (reply .entry))) ⌝ }
+    requires { ⌜ (a .count ≤ listedBytes) × (replyRoom ≤ length (now reply)) ⌝ }
+    ensures { λ r. ⌜ (r ≡ a .count + 1 + frameBytes) × (now (reply .exit) ≡ lay 0 (acknowledge (a .settings .address) (a .code) (take (a .count) (a .bytes))) (now (reply .entry))) ⌝ }
 {
     let n = a.count;
     let s = a.settings;
@@ -52,7 +54,7 @@ fn put_acknowledge(a: Answer, reply: &mut [u8]) -> usize
 
 fn data_identifier(left: usize) -> u8
     requires { ⌜ 0 < left ⌝ }
-    ensures { λ r. ⌜ r ≡ cond (eqb (left - 1) 0) 8 2 ⌝ }
+    ensures { λ r. ⌜ r ≡ cond (eqb (left - 1) 0) lastPacket dataPacket ⌝ }
 {
     if left == 1 {
         numbers::LAST_PACKET
@@ -69,8 +71,8 @@ fn put_packet(
     address: [u8; 4],
     content: &[u8],
 ) -> usize
-    requires { ⌜ (at + length (now content) + 11 ≤ length (now reply)) × ((1 ≤ length (now content)) × ((length (now content) ≤ 254) × (isIdentifier identifier ≡ true))) ⌝ }
-    ensures { λ r. ⌜ (r ≡ at + length (now (content .entry)) + 11) × (now (reply .exit) ≡ lay at (packet address identifier (now (content .entry))) (now (reply .entry))) ⌝ }
+    requires { ⌜ (at + length (now content) + frameBytes ≤ length (now reply)) × ((1 ≤ length (now content)) × ((length (now content) ≤ contentBytes) × (isIdentifier identifier ≡ true))) ⌝ }
+    ensures { λ r. ⌜ (r ≡ at + length (now (content .entry)) + frameBytes) × (now (reply .exit) ≡ lay at (packet address identifier (now (content .entry))) (now (reply .entry))) ⌝ }
 {
     let e = at + content.len() + numbers::FRAME;
     builder::build(address, identifier, content, &mut reply[at..e]);
@@ -86,8 +88,8 @@ fn put_data(
     count: usize,
     src: &[u8],
 ) -> usize
-    requires { ⌜ (1 ≤ size) × ((size ≤ 254) × ((length (now src) ≡ count * size) × (at + count * (size + 11) ≤ length (now reply)))) ⌝ }
-    ensures { λ r. ⌜ (r ≡ at + count * (size + 11)) × (now (reply .exit) ≡ lay at (joined (packets address count size (now (src .entry)))) (now (reply .entry))) ⌝ }
+    requires { ⌜ (1 ≤ size) × ((size ≤ contentBytes) × ((length (now src) ≡ count * size) × (at + count * (size + frameBytes) ≤ length (now reply)))) ⌝ }
+    ensures { λ r. ⌜ (r ≡ at + count * (size + frameBytes)) × (now (reply .exit) ≡ lay at (joined (packets address count size (now (src .entry)))) (now (reply .entry))) ⌝ }
 {
     let mut left = count;
     let mut from = 0;
@@ -104,7 +106,7 @@ fn put_data(
 
 // Writes the data packets of a buffer behind the acknowledge.
 fn send(settings: Settings, at: usize, src: &[u8], reply: &mut [u8]) -> usize
-    requires { ⌜ (settings .size ≤ 2) × ((length (now src) ≡ 512) × (at + 688 ≤ length (now reply))) ⌝ }
+    requires { ⌜ (settings .size ≤ highestSize) × ((length (now src) ≡ pageBytes) × (at + uploadBytes ≤ length (now reply))) ⌝ }
     ensures { λ r. ⌜ (r ≡ at + length (dataPackets (settings .address) (sizeOf (settings .size)) (now (src .entry)))) × (now (reply .exit) ≡ lay at (dataPackets (settings .address) (sizeOf (settings .size)) (now (src .entry))) (now (reply .entry))) ⌝ }
 {
     let z = settings::size_of(settings.size);
@@ -115,7 +117,7 @@ fn send(settings: Settings, at: usize, src: &[u8], reply: &mut [u8]) -> usize
 
 // Writes what an answer says, and returns its length.
 pub(crate) fn speak<'a>(a: Answer, b: &'a [u8], c: &'a [u8], reply: &mut [u8]) -> usize
-    requires { ⌜ Ready a × ((length (now b) ≡ 512) × ((length (now c) ≡ 512) × (700 ≤ length (now reply)))) ⌝ }
+    requires { ⌜ Ready a × ((length (now b) ≡ pageBytes) × ((length (now c) ≡ pageBytes) × (replyRoom ≤ length (now reply)))) ⌝ }
     ensures { λ r. ⌜ (r ≡ length (spokenOf a (now (b .entry)) (now (c .entry)))) × (now (reply .exit) ≡ lay 0 (spokenOf a (now (b .entry)) (now (c .entry))) (now (reply .entry))) ⌝ }
 {
     let speaks = a.speaks;
@@ -126,10 +128,8 @@ pub(crate) fn speak<'a>(a: Answer, b: &'a [u8], c: &'a [u8], reply: &mut [u8]) -
             return n;
         }
         let s = a.settings;
-        if up == 1 {
-            return send(s, n, b, reply);
-        }
-        return send(s, n, c, reply);
+        let src = buffers::chosen(up, b, c);
+        return send(s, n, src, reply);
     }
     0
 }

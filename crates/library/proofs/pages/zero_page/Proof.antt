@@ -1,17 +1,28 @@
 -- The part that is lent and comes back is the page.
-use denote.Ref.{now}
 use borrow.Author.Tests.{lt-ltb, le-ltb}
+use borrow.Rule.Slice.PartMut.{putMid}
 use native.Mathlib.Omega.{arith}
-use Prim.Native.Nat.{zero, _-_, _*_}
-use mathlib.Core.Path.{refl}
+use Prim.Native.Nat.{ℕ, _+_, _-_, _*_, _/_, _<_, _≤_}
+use lib.ListN.{length, take, drop}
+use mathlib.Core.Path.{_≡_}
+use mathlib.Core.List.{List}
 use borrow.Author.Needs.{needs}
+use Rattle.protocol.specs.Numbers.{pageBytes}
+use Rattle.protocol.specs.Bytes.{zeros}
 use Rattle.library.specs.Lent.{zeroPage}
 use Rattle.library.proofs.Parts.{part-zeroed}
 use Rattle.library.proofs.pages.zero_page.Statement.{statement}
 use Rattle.library.proofs.pages.zero_page.Tie as tie
-use Rattle.library.proofs.pages.zero_page.Reads as reads
-use Rattle.library.proofs.pages.zero_page.Lts as lts
-use Rattle.library.proofs.pages.zero.Reads as zero-reads
+
+module _ (p : ℕ) (t : List ℕ) where
+  page-zeroed : (y : List ℕ) → p < length t / pageBytes → y ≡ zeros (length (take (pageBytes * p + pageBytes - pageBytes * p) (drop (pageBytes * p) t)))
+      → putMid (pageBytes * p) (pageBytes * p + pageBytes - pageBytes * p) t y ≡ zeroPage p t
+  unfolding zeroPage
+  page-zeroed y h e = rw (lt-ltb _ _ h) (part-zeroed (pageBytes * p) pageBytes t y (omega arith) e)
+
+  no-page : length t / pageBytes ≤ p → t ≡ zeroPage p t
+  unfolding zeroPage
+  no-page h = rw (le-ltb _ _ h)
 
 mul-a : tie.Need-mul-a
 mul-a c = search needs
@@ -35,12 +46,10 @@ same-length : tie.Need-same-length
 same-length c = search needs
 
 returns : tie.Need-returns
-unfolding zeroPage
-returns c = rw (lt-ltb _ _ (c .before .before .before .before .if1 .taken)) (part-zeroed (512 * c .before .before .before .before .before .before .args .page) 512 (now (c .before .before .before .before .before .before .args .templates)) _ (omega arith) (c .before .before .zero .ensures))
+returns c = search page-zeroed
 
 returns-2 : tie.Need-returns-2
-unfolding zeroPage
-returns-2 c = rw (le-ltb _ _ (c .if1 .left)) refl
+returns-2 c = search no-page
 
 pub zero-page-spec : {M : Type 1} → statement M
 zero-page-spec =

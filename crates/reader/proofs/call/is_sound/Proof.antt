@@ -4,6 +4,7 @@ use Prim.Native.Nat.{_-_}
 use mathlib.Core.Path.{refl, sym, _∙_}
 use borrow.Author.Needs.{needs}
 use Rattle.protocol.specs.Reader.{capacity}
+use Rattle.protocol.specs.Numbers.{highestSize}
 use Rattle.protocol.specs.Call.{sound}
 use Rattle.protocol.specs.Records.{plainOf}
 use Rattle.reader.proofs.Calls.{plain-size}
@@ -24,6 +25,7 @@ unfolding sound capacity
 returns c = λ t n b d e. rw (← c .before .is-plain-fit .ensures, not-true (c .before .is-plain-fit .result) (c .if1 .taken)) refl
 
 is-transfer-fit-requires : tie.Need-is-transfer-fit-requires
+unfolding highestSize
 is-transfer-fit-requires c κs = plain-size (plainOf (c .before .before .before .args .settings)) (sym (c .before .is-plain-fit .ensures) ∙ not-false (c .before .is-plain-fit .result) (c .if1 .left))
 
 returns-2 : tie.Need-returns-2

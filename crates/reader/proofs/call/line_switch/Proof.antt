@@ -14,7 +14,7 @@ use Rattle.reader.proofs.call.line_switch.Statement.{statement}
 use Rattle.reader.proofs.call.line_switch.Tie as tie
 use Rattle.reader.proofs.call.line_switch.Reads as reads
 use Rattle.reader.proofs.call.line_switch.Lts as lts
-use Rattle.library.proofs.pages.zero.Reads as zero-reads
+use Rattle.wire.proofs.bytes.zero.Reads as zero-reads
 use Rattle.reader.proofs.call.switched_of.Reads as switched-of-reads
 use Rattle.reader.proofs.settings.filled.Reads as filled-reads
 use Rattle.reader.proofs.settings.marked.Reads as marked-reads

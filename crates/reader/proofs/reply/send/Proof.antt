@@ -1,46 +1,62 @@
--- A page is a whole number of packets of each size.
-use lib.ListN.{length}
-use denote.Ref.{now}
-use native.Mathlib.Omega.{arith}
-use Prim.Native.Nat.{_-_, _/_}
+-- A page is a whole number of packets of each size, and they fit.
 use mathlib.Core.Path.{_≡_, refl, sym, _∙_}
-use borrow.Author.Needs.{needs}
+use mathlib.Core.List.{List}
+use Prim.Native.Nat.{ℕ, _+_, _*_, _/_, _≤_}
+use native.Mathlib.Omega.{arith}
+use lib.ListN.{length}
+use Rattle.protocol.specs.Numbers.{pageBytes, fourBytes, frameBytes, highestSize}
+use Rattle.protocol.specs.Bytes.{lay, joined}
 use Rattle.protocol.specs.Reader.{sizeOf}
-use Rattle.protocol.specs.Data.{dataPackets}
-use Rattle.reader.proofs.Replies.{code-size}
+use Rattle.protocol.specs.Data.{packets, dataPackets}
 use Rattle.protocol.proofs.Laws.Sizes.{length-packets}
+use Rattle.reader.specs.Answers.{uploadBytes}
+use Rattle.reader.proofs.Replies.{code-size}
+use borrow.Author.Needs.{needs}
 use Rattle.reader.proofs.reply.send.Statement.{statement}
 use Rattle.reader.proofs.reply.send.Tie as tie
-use Rattle.reader.proofs.reply.send.Reads as reads
-use Rattle.reader.proofs.reply.send.Lts as lts
-use Rattle.reader.proofs.reply.put_data.Reads as put-data-reads
-use Rattle.reader.proofs.settings.size_of.Reads as size-of-reads
+
+module _ (code z at : ℕ) (src y : List ℕ) (e : z ≡ sizeOf code) (l : code ≤ highestSize) (p : length src ≡ pageBytes) where
+  whole : length src ≡ pageBytes / z * z
+  whole = rw e (p ∙ sym (code-size code l .all))
+
+  room : at + uploadBytes ≤ length y → at + pageBytes / z * (z + frameBytes) ≤ length y
+  room h = rw e (omega (arith, code-size code l .room))
+
+  module _ (a y′ : List ℕ) where
+    sent-long : (r : ℕ) → length a ≡ fourBytes → r ≡ at + pageBytes / z * (z + frameBytes) → r ≡ at + length (dataPackets a (sizeOf code) src)
+    unfolding dataPackets
+    sent-long r h f = let m = length-packets a (pageBytes / sizeOf code) (sizeOf code) src h (p ∙ sym (code-size code l .all)) in f ∙ rw (e, m) refl
+
+    sent-laid : y′ ≡ lay at (joined (packets a (pageBytes / z) z src)) y → y′ ≡ lay at (dataPackets a (sizeOf code) src) y
+    unfolding dataPackets
+    sent-laid f = f ∙ rw e refl
+
+-- the address has four bytes
+four-bytes : (c : tie.Start) → length (c .args .settings .address) ≡ fourBytes
+four-bytes c = search (needs, c .good)
 
 size-of-requires : tie.Need-size-of-requires
+unfolding highestSize
 size-of-requires c κs = search needs
 
 div-k : tie.Need-div-k
 div-k c = search needs
 
 put-data-requires : tie.Need-put-data-requires
-put-data-requires c κs =
-    let a = c .before .before .before .before .before .args in
-    let z = code-size (a .settings .size) (c .before .before .before .before .before .pre .0) in
-    let e = c .before .before .size-of .ensures .0 in
-    (omega arith, (omega arith, (rw e (c .before .before .before .before .before .pre .1 .0 ∙ sym (z .all)), rw e (omega (arith, z .room, c .before .before .before .before .before .pre .1 .1)))))
+put-data-requires c κs = (search needs, (search needs, (search whole, search room)))
 
 same-length : tie.Need-same-length
 same-length c = search needs
 
 returns : tie.Need-returns
-unfolding dataPackets
-returns c =
-    let a = c .before .before .before .before .before .before .before .before .args in
-    let h : length (a .settings .address) ≡ 4 = search (needs, c .before .before .before .before .before .before .before .before .good) in
-    let z = code-size (a .settings .size) (c .before .before .before .before .before .before .before .before .pre .0) in
-    let e = c .before .before .before .before .before .size-of .ensures .0 in
-    let l = length-packets (a .settings .address) (512 / sizeOf (a .settings .size)) (sizeOf (a .settings .size)) (now (a .src)) h (c .before .before .before .before .before .before .before .before .pre .1 .0 ∙ sym (z .all)) in
-    (c .before .before .put-data .ensures .0 ∙ rw (e, l) refl, c .before .before .put-data .ensures .1 ∙ rw e refl)
+returns c = let h = (let s : tie.Start = search in four-bytes s) in (search sent-long, search sent-laid)
 
 pub send-spec : {M : Type 1} → statement M
-send-spec = tie.close (tie.spec size-of-requires div-k put-data-requires same-length returns)
+send-spec =
+    tie.close
+    (tie.spec
+    size-of-requires
+    div-k
+    put-data-requires
+    same-length
+    returns)

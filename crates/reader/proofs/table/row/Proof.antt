@@ -1,83 +1,126 @@
 -- Each arm is its command's contract, at the row of its code; the last is 40h.
-use denote.Ref.{now}
+use mathlib.Core.Path.{_≡_, refl, _∙_}
+use mathlib.Core.Bool.{true, false, not, _||_}
+use mathlib.Core.List.{List}
+use Prim.Native.Nat.{ℕ, _+_, _/_, _<_}
 use native.Mathlib.Omega.{arith}
-use Prim.Native.Nat.{_-_}
-use mathlib.Core.Path.{refl}
+use lib.Dec.{eqb, leb}
+use lib.ListN.{length}
+use borrow.Author.Tests.{leb-true, eqb-true}
 use borrow.Author.Needs.{needs}
+use Rattle.protocol.specs.declared.Settings.{Settings}
+use Rattle.protocol.specs.Numbers.{pageBytes, done}
 use Rattle.protocol.specs.Bytes.{follow}
 use Rattle.protocol.specs.Reader.{locked}
-use Rattle.protocol.specs.Commands.{commands, rowOf}
+use Rattle.protocol.specs.Commands.{Free, Barred, free, barred, commands, rowOf}
 use Rattle.protocol.specs.Table.{freeRule, publicOf}
-use Rattle.protocol.specs.Step.{obey, carryFree}
-use Rattle.protocol.specs.Records.{plainOf}
-use Rattle.reader.specs.Answers.{sent}
-use Rattle.reader.specs.Commands.{lenOf, readOf, isFree}
+use Rattle.protocol.specs.Step.{carryFree, obey}
+use Rattle.protocol.specs.Records.{plainOf, readerOf}
+use Rattle.reader.specs.declared.answers.Answer.{Answer}
+use Rattle.reader.specs.Answers.{sent, saidOf, codeAlone}
+use Rattle.reader.specs.Commands.{obeyed, Obeyed, ObeyedPages, ObeyedIndex, ObeyedNotepad, ObeyedBuffers, ObeyedLibrary, ObeyedCopy, Freed, lenOf, readOf, isFree}
 use Rattle.reader.proofs.Gates.{not-locked, last-row}
+use Rattle.reader.proofs.Ready.{ready-alone}
 use Rattle.reader.proofs.table.row.Statement.{statement}
 use Rattle.reader.proofs.table.row.Tie as tie
-use Rattle.reader.proofs.table.row.Reads as reads
-use Rattle.reader.proofs.table.row.Lts as lts
-use Rattle.reader.proofs.answers.plain.Reads as plain-reads
-use Rattle.reader.proofs.buffers.down_char.Reads as down-char-reads
-use Rattle.reader.proofs.buffers.up_char.Reads as up-char-reads
-use Rattle.reader.proofs.bytes.word_at.Reads as word-at-reads
-use Rattle.reader.proofs.keys.set_address.Reads as set-address-reads
-use Rattle.reader.proofs.keys.set_password.Reads as set-password-reads
-use Rattle.reader.proofs.keys.verify_password.Reads as verify-password-reads
-use Rattle.reader.proofs.notes.read_note.Reads as read-note-reads
-use Rattle.reader.proofs.notes.write_note.Reads as write-note-reads
-use Rattle.reader.proofs.parameters.read_parameters.Reads as read-parameters-reads
-use Rattle.reader.proofs.parameters.set_parameter.Reads as set-parameter-reads
-use Rattle.reader.proofs.stored.count_pages.Reads as count-pages-reads
-use Rattle.reader.proofs.stored.delete_pages.Reads as delete-pages-reads
-use Rattle.reader.proofs.stored.empty_all.Reads as empty-all-reads
-use Rattle.reader.proofs.stored.load_page.Reads as load-page-reads
-use Rattle.reader.proofs.stored.read_index.Reads as read-index-reads
-use Rattle.reader.proofs.stored.store_page.Reads as store-page-reads
+
+-- the length of a code's content, and a place in it
+module _ (k j n : ℕ) (x : List ℕ) (l : lenOf (rowOf commands k) ≡ length x + 2) (e : k ≡ j) where
+  inside : leb (n + 3) (lenOf (rowOf commands j)) ≡ true → n < length x
+  inside h = let m = leb-true (n + 3) (lenOf (rowOf commands j)) h in let o = rw e at l in omega arith
+
+  exact : eqb (n + 2) (lenOf (rowOf commands j)) ≡ true → length x ≡ n
+  exact h = let m = eqb-true (n + 2) (lenOf (rowOf commands j)) h in let o = rw e at l in omega arith
+
+-- each arm: what its command says is what its code's row says, for every memory that it does not touch
+module _ (s : Settings) (t i n b c x : List ℕ) (k j : ℕ) (e : k ≡ j) where
+  free-row : (a : Answer) (f : Free) → Freed a s f → free f ≡ readOf (rowOf commands j) x
+      → saidOf a t i n b c ≡ obey (readerOf s t i n b c) (readOf (rowOf commands k) x)
+  unfolding obey
+  free-row a f h q = h .said t i n b c ∙ rw (e, ← q)
+
+  module _ (o : (isFree k || not (locked (plainOf s))) ≡ true) (z : isFree j ≡ false) (d : Barred) (q : barred d ≡ readOf (rowOf commands j) x) where
+    row : obeyed s t i n b c d ≡ obey (readerOf s t i n b c) (readOf (rowOf commands k) x)
+    unfolding obey
+    row = let l : locked (plainOf s) ≡ false = not-locked (locked (plainOf s)) (rw (e, z) at o) in rw (e, ← q, l)
+
+    module _ (a : Answer) where
+      settings-row : Obeyed a s d → saidOf a t i n b c ≡ obey (readerOf s t i n b c) (readOf (rowOf commands k) x)
+      settings-row h = h .said t i n b c ∙ row
+
+      pages-row : ObeyedPages a s d (length t / pageBytes) → saidOf a t i n b c ≡ obey (readerOf s t i n b c) (readOf (rowOf commands k) x)
+      pages-row h = h .said t i n b c refl ∙ row
+
+      index-row : ObeyedIndex a s d i → saidOf a t i n b c ≡ obey (readerOf s t i n b c) (readOf (rowOf commands k) x)
+      index-row h = h .said t n b c ∙ row
+
+      notepad-row : (n′ : List ℕ) → ObeyedNotepad a s d n n′ → saidOf a t i n′ b c ≡ obey (readerOf s t i n b c) (readOf (rowOf commands k) x)
+      notepad-row n′ h = h .said t i b c ∙ row
+
+      buffers-row : (b′ c′ : List ℕ) → ObeyedBuffers a s d b c b′ c′ → saidOf a t i n b′ c′ ≡ obey (readerOf s t i n b c) (readOf (rowOf commands k) x)
+      buffers-row b′ c′ h = h .said t i n ∙ row
+
+      library-row : (t′ i′ : List ℕ) → ObeyedLibrary a s d t i t′ i′ → saidOf a t′ i′ n b c ≡ obey (readerOf s t i n b c) (readOf (rowOf commands k) x)
+      library-row t′ i′ h = h .said n b c ∙ row
+
+      copy-row : (t′ i′ b′ c′ : List ℕ) → ObeyedCopy a s d t i b c t′ i′ b′ c′ → saidOf a t′ i′ n b′ c′ ≡ obey (readerOf s t i n b c) (readOf (rowOf commands k) x)
+      copy-row t′ i′ b′ c′ h = h .said n ∙ row
+
+-- none of them: the last
+shaken : (s : Settings) (t i m b d x : List ℕ) (k : ℕ) (a : Answer) → a ≡ codeAlone done s
+    → (k ≡ 0x06 → ⊥) → (k ≡ 0x07 → ⊥) → (k ≡ 0x08 → ⊥) → (k ≡ 0x09 → ⊥) → (k ≡ 0x0c → ⊥) → (k ≡ 0x0d → ⊥) → (k ≡ 0x0e → ⊥) → (k ≡ 0x0f → ⊥)
+    → (k ≡ 0x12 → ⊥) → (k ≡ 0x13 → ⊥) → (k ≡ 0x15 → ⊥) → (k ≡ 0x18 → ⊥) → (k ≡ 0x19 → ⊥) → (k ≡ 0x1d → ⊥) → (k ≡ 0x1f → ⊥)
+    → saidOf a t i m b d ≡ obey (readerOf s t i m b d) (readOf (rowOf commands k) x)
+unfolding obey carryFree freeRule publicOf follow sent
+shaken s t i m b d x k a e h0 h1 h2 h3 h4 h5 h6 h7 h8 h9 h10 h11 h12 h13 h14 = rw (e, last-row k x h0 h1 h2 h3 h4 h5 h6 h7 h8 h9 h10 h11 h12 h13 h14)
+
+-- the start, from the match
+unfoldable start : tie.After-shared-slice-known → tie.Start
+start c = search
 
 shared-slice-read-n : tie.Need-shared-slice-read-n
 unfolding lenOf rowOf commands
-shared-slice-read-n c = let h = rw (c .before .match .keys1) at (c .before .before .before .before .before .before .before .before .pre .1 .0) in omega arith
+shared-slice-read-n c = search inside
 
 word-at-requires : tie.Need-word-at-requires
 unfolding lenOf rowOf commands
-word-at-requires c κs = let h = rw (c .before .match .keys1) at (c .before .before .before .before .before .before .before .before .pre .1 .0) in omega arith
+word-at-requires c κs = search inside
 
 store-page-requires : tie.Need-store-page-requires
 store-page-requires c κs = search needs
 
 shared-slice-read-n-2 : tie.Need-shared-slice-read-n-2
 unfolding lenOf rowOf commands
-shared-slice-read-n-2 c = let h = rw (c .before .match .keys2) at (c .before .before .before .before .before .before .before .before .pre .1 .0) in omega arith
+shared-slice-read-n-2 c = search inside
 
 word-at-requires-2 : tie.Need-word-at-requires-2
 unfolding lenOf rowOf commands
-word-at-requires-2 c κs = let h = rw (c .before .match .keys2) at (c .before .before .before .before .before .before .before .before .pre .1 .0) in omega arith
+word-at-requires-2 c κs = search inside
 
 load-page-requires : tie.Need-load-page-requires
 load-page-requires c κs = search needs
 
 shared-slice-read-up-char : tie.Need-shared-slice-read-up-char
 unfolding lenOf rowOf commands
-shared-slice-read-up-char c = let h = rw (c .before .match .keys3) at (c .before .before .before .before .before .before .before .before .pre .1 .0) in omega arith
+shared-slice-read-up-char c = search inside
 
 up-char-requires : tie.Need-up-char-requires
 up-char-requires c κs = search needs
 
 shared-slice-read-down-char : tie.Need-shared-slice-read-down-char
 unfolding lenOf rowOf commands
-shared-slice-read-down-char c = let h = rw (c .before .before .before .match .keys4) at (c .before .before .before .before .before .before .before .before .before .before .pre .1 .0) in omega arith
+shared-slice-read-down-char c = search inside
 
 down-char-requires : tie.Need-down-char-requires
 down-char-requires c κs = search needs
 
 word-at-requires-3 : tie.Need-word-at-requires-3
 unfolding lenOf rowOf commands
-word-at-requires-3 c κs = let h = rw (c .match .keys5) at (c .before .before .before .before .before .before .before .pre .1 .0) in omega arith
+word-at-requires-3 c κs = search inside
 
 word-at-requires-4 : tie.Need-word-at-requires-4
 unfolding lenOf rowOf commands
-word-at-requires-4 c κs = let h = rw (c .before .match .keys5) at (c .before .before .before .before .before .before .before .before .pre .1 .0) in omega arith
+word-at-requires-4 c κs = search inside
 
 delete-pages-requires : tie.Need-delete-pages-requires
 delete-pages-requires c κs = search needs
@@ -87,11 +130,11 @@ empty-all-requires c κs = search needs
 
 shared-slice-read-set-parameter : tie.Need-shared-slice-read-set-parameter
 unfolding lenOf rowOf commands
-shared-slice-read-set-parameter c = let h = rw (c .before .match .keys7) at (c .before .before .before .before .before .before .before .before .pre .1 .0) in omega arith
+shared-slice-read-set-parameter c = search inside
 
 shared-slice-read-set-parameter-2 : tie.Need-shared-slice-read-set-parameter-2
 unfolding lenOf rowOf commands
-shared-slice-read-set-parameter-2 c = let h = rw (c .before .before .match .keys7) at (c .before .before .before .before .before .before .before .before .before .pre .1 .0) in omega arith
+shared-slice-read-set-parameter-2 c = search inside
 
 set-parameter-requires : tie.Need-set-parameter-requires
 set-parameter-requires c κs = search needs
@@ -101,23 +144,23 @@ read-parameters-requires c κs = search needs
 
 set-password-requires : tie.Need-set-password-requires
 unfolding lenOf rowOf commands
-set-password-requires c κs = let h = rw (c .match .keys9) at (c .before .before .before .before .before .before .before .pre .1 .0) in (omega arith, c .before .before .before .before .before .before .before .pre .0 .size)
+set-password-requires c κs = (search exact, search)
 
 verify-password-requires : tie.Need-verify-password-requires
 unfolding lenOf rowOf commands
-verify-password-requires c κs = let h = rw (c .match .keys10) at (c .before .before .before .before .before .before .before .pre .1 .0) in (omega arith, c .before .before .before .before .before .before .before .pre .0 .size)
+verify-password-requires c κs = (search exact, search)
 
 set-address-requires : tie.Need-set-address-requires
 unfolding lenOf rowOf commands
-set-address-requires c κs = let h = rw (c .match .keys11) at (c .before .before .before .before .before .before .before .pre .1 .0) in (omega arith, c .before .before .before .before .before .before .before .pre .0 .size)
+set-address-requires c κs = (search exact, search)
 
 write-note-requires : tie.Need-write-note-requires
 unfolding lenOf rowOf commands
-write-note-requires c κs = let h = rw (c .before .match .keys12) at (c .before .before .before .before .before .before .before .before .pre .1 .0) in (omega arith, c .before .before .before .before .before .before .before .before .pre .0 .size)
+write-note-requires c κs = (search exact, search)
 
 shared-slice-read-read-note : tie.Need-shared-slice-read-read-note
 unfolding lenOf rowOf commands
-shared-slice-read-read-note c = let h = rw (c .before .before .match .keys13) at (c .before .before .before .before .before .before .before .before .before .pre .1 .0) in omega arith
+shared-slice-read-read-note c = search inside
 
 read-note-requires : tie.Need-read-note-requires
 read-note-requires c κs = search needs
@@ -127,7 +170,7 @@ count-pages-requires c κs = search needs
 
 shared-slice-read-read-index : tie.Need-shared-slice-read-read-index
 unfolding lenOf rowOf commands
-shared-slice-read-read-index c = let h = rw (c .before .before .match .keys15) at (c .before .before .before .before .before .before .before .before .before .pre .1 .0) in omega arith
+shared-slice-read-read-index c = search inside
 
 read-index-requires : tie.Need-read-index-requires
 read-index-requires c κs = search needs
@@ -148,10 +191,13 @@ same-length-4 : tie.Need-same-length-4
 same-length-4 c = search needs
 
 returns : tie.Need-returns
-unfolding readOf rowOf commands obey isFree
+unfolding readOf rowOf commands isFree start
 returns c =
-    let s = c .before .before .before .before .before .before .before .before .before .before .before .before .before .before .before .before .before .before .args in let free′ = not-locked (locked (plainOf (s .settings))) (rw (c .before .before .before .before .before .before .before .before .before .before .before .match .keys1) at (c .before .before .before .before .before .before .before .before .before .before .before .before .before .before .before .before .before .before .pre .1 .1)) in
-    (rw (c .before .before .before .before .before .before .before .before .before .before .before .match .keys1, free′, ← c .before .before .before .before .before .before .before .before .before .word-at .ensures .0) (c .before .before .before .before .store-page .ensures .0 (now (s .notepad))), c .before .before .before .before .store-page .ensures .1)
+    let w = (let p : tie.After-word-at = search in p .word-at .ensures .0) in
+    let f = (let p : tie.After-store-page = search in rw w at (p .store-page .ensures)) in
+    let k = (let p : tie.At-match-keys1 = search in p .match .keys1) in
+    let o = (let s : tie.Start = search start in s .pre .1 .1) in
+    (search copy-row, search)
 
 same-length-5 : tie.Need-same-length-5
 same-length-5 c = search needs
@@ -166,16 +212,17 @@ same-length-8 : tie.Need-same-length-8
 same-length-8 c = search needs
 
 returns-2 : tie.Need-returns-2
-unfolding readOf rowOf commands obey isFree
+unfolding readOf rowOf commands isFree start
 returns-2 c =
-    let s = c .before .before .before .before .before .before .before .before .before .before .before .before .before .before .before .before .before .before .args in let free′ = not-locked (locked (plainOf (s .settings))) (rw (c .before .before .before .before .before .before .before .before .before .before .before .match .keys2) at (c .before .before .before .before .before .before .before .before .before .before .before .before .before .before .before .before .before .before .pre .1 .1)) in
-    (rw (c .before .before .before .before .before .before .before .before .before .before .before .match .keys2, free′, ← c .before .before .before .before .before .before .before .before .before .word-at2 .ensures .0) (c .before .before .before .before .load-page .ensures .0 (now (s .notepad))), c .before .before .before .before .load-page .ensures .1)
+    let w = (let p : tie.After-word-at2 = search in p .word-at2 .ensures .0) in
+    let f = (let p : tie.After-load-page = search in rw w at (p .load-page .ensures)) in
+    let k = (let p : tie.At-match-keys2 = search in p .match .keys2) in
+    let o = (let s : tie.Start = search start in s .pre .1 .1) in
+    (search copy-row, search)
 
 returns-3 : tie.Need-returns-3
-unfolding readOf rowOf commands obey isFree
-returns-3 c =
-    let s = c .before .before .before .before .before .before .before .before .before .args in let free′ = not-locked (locked (plainOf (s .settings))) (rw (c .before .before .match .keys3) at (c .before .before .before .before .before .before .before .before .before .pre .1 .1)) in
-    (rw (c .before .before .match .keys3, free′) (c .up-char .ensures .0 (now (s .templates)) (now (s .index)) (now (s .notepad)) (now (s .buffer1)) (now (s .buffer2))), c .up-char .ensures .1)
+unfolding readOf rowOf commands isFree start
+returns-3 c = (search settings-row, search)
 
 same-length-9 : tie.Need-same-length-9
 same-length-9 c = search needs
@@ -184,10 +231,8 @@ same-length-10 : tie.Need-same-length-10
 same-length-10 c = search needs
 
 returns-4 : tie.Need-returns-4
-unfolding readOf rowOf commands obey isFree
-returns-4 c =
-    let s = c .before .before .before .before .before .before .before .before .before .before .before .before .before .before .before .args in let free′ = not-locked (locked (plainOf (s .settings))) (rw (c .before .before .before .before .before .before .before .before .match .keys4) at (c .before .before .before .before .before .before .before .before .before .before .before .before .before .before .before .pre .1 .1)) in
-    (rw (c .before .before .before .before .before .before .before .before .match .keys4, free′) (c .before .before .before .before .down-char .ensures .0 (now (s .templates)) (now (s .index)) (now (s .notepad))), c .before .before .before .before .down-char .ensures .1)
+unfolding readOf rowOf commands isFree start
+returns-4 c = (search buffers-row, search)
 
 same-length-11 : tie.Need-same-length-11
 same-length-11 c = search needs
@@ -196,10 +241,8 @@ same-length-12 : tie.Need-same-length-12
 same-length-12 c = search needs
 
 returns-5 : tie.Need-returns-5
-unfolding readOf rowOf commands obey isFree
-returns-5 c =
-    let s = c .before .before .before .before .before .before .before .before .before .before .before .before .before .before .before .before .args in let free′ = not-locked (locked (plainOf (s .settings))) (rw (c .before .before .before .before .before .before .before .before .before .match .keys5) at (c .before .before .before .before .before .before .before .before .before .before .before .before .before .before .before .before .pre .1 .1)) in
-    (rw (c .before .before .before .before .before .before .before .before .before .match .keys5, free′, ← c .before .before .before .before .before .before .before .before .word-at3 .ensures .0, ← c .before .before .before .before .before .before .before .word-at4 .ensures .0) (c .before .before .before .before .delete-pages .ensures .0 (now (s .notepad)) (now (s .buffer1)) (now (s .buffer2))), c .before .before .before .before .delete-pages .ensures .1)
+unfolding readOf rowOf commands isFree start
+returns-5 c = (search library-row, search)
 
 same-length-13 : tie.Need-same-length-13
 same-length-13 c = search needs
@@ -208,79 +251,59 @@ same-length-14 : tie.Need-same-length-14
 same-length-14 c = search needs
 
 returns-6 : tie.Need-returns-6
-unfolding readOf rowOf commands obey isFree
-returns-6 c =
-    let s = c .before .before .before .before .before .before .before .before .before .before .before .before .before .before .args in let free′ = not-locked (locked (plainOf (s .settings))) (rw (c .before .before .before .before .before .before .before .match .keys6) at (c .before .before .before .before .before .before .before .before .before .before .before .before .before .before .pre .1 .1)) in
-    (rw (c .before .before .before .before .before .before .before .match .keys6, free′) (c .before .before .before .before .empty-all .ensures .0 (now (s .notepad)) (now (s .buffer1)) (now (s .buffer2))), c .before .before .before .before .empty-all .ensures .1)
+unfolding readOf rowOf commands isFree start
+returns-6 c = (search library-row, search)
 
 returns-7 : tie.Need-returns-7
-unfolding readOf rowOf commands obey isFree
-returns-7 c =
-    let s = c .before .before .before .before .before .before .before .before .before .before .args in let free′ = not-locked (locked (plainOf (s .settings))) (rw (c .before .before .before .match .keys7) at (c .before .before .before .before .before .before .before .before .before .before .pre .1 .1)) in
-    (rw (c .before .before .before .match .keys7, free′) (c .set-parameter .ensures .0 (now (s .templates)) (now (s .index)) (now (s .notepad)) (now (s .buffer1)) (now (s .buffer2))), c .set-parameter .ensures .1)
+unfolding readOf rowOf commands isFree start
+returns-7 c = (search settings-row, search)
 
 returns-8 : tie.Need-returns-8
-unfolding readOf rowOf commands obey isFree
-returns-8 c =
-    let s = c .before .before .before .before .before .before .before .before .args in let free′ = not-locked (locked (plainOf (s .settings))) (rw (c .before .match .keys8) at (c .before .before .before .before .before .before .before .before .pre .1 .1)) in
-    (rw (c .before .match .keys8, free′) (c .read-parameters .ensures .0 (now (s .templates)) (now (s .index)) (now (s .notepad)) (now (s .buffer1)) (now (s .buffer2)) refl), c .read-parameters .ensures .1)
+unfolding readOf rowOf commands isFree start
+returns-8 c = (search pages-row, search)
 
 returns-9 : tie.Need-returns-9
-unfolding readOf rowOf commands obey isFree
-returns-9 c =
-    let s = c .before .before .before .before .before .before .before .before .args in let free′ = not-locked (locked (plainOf (s .settings))) (rw (c .before .match .keys9) at (c .before .before .before .before .before .before .before .before .pre .1 .1)) in
-    (rw (c .before .match .keys9, free′) (c .set-password .ensures .0 (now (s .templates)) (now (s .index)) (now (s .notepad)) (now (s .buffer1)) (now (s .buffer2))), c .set-password .ensures .1)
+unfolding readOf rowOf commands isFree start
+returns-9 c = (search settings-row, search)
 
 returns-10 : tie.Need-returns-10
-unfolding readOf rowOf commands obey
-returns-10 c =
-    let s = c .before .before .before .before .before .before .before .before .args in (rw (c .before .match .keys10) (c .verify-password .ensures .0 (now (s .templates)) (now (s .index)) (now (s .notepad)) (now (s .buffer1)) (now (s .buffer2))), c .verify-password .ensures .1)
+unfolding readOf rowOf commands isFree start
+returns-10 c = (search free-row, search)
 
 returns-11 : tie.Need-returns-11
-unfolding readOf rowOf commands obey isFree
-returns-11 c =
-    let s = c .before .before .before .before .before .before .before .before .args in let free′ = not-locked (locked (plainOf (s .settings))) (rw (c .before .match .keys11) at (c .before .before .before .before .before .before .before .before .pre .1 .1)) in
-    (rw (c .before .match .keys11, free′) (c .set-address .ensures .0 (now (s .templates)) (now (s .index)) (now (s .notepad)) (now (s .buffer1)) (now (s .buffer2))), c .set-address .ensures .1)
+unfolding readOf rowOf commands isFree start
+returns-11 c = (search settings-row, search)
 
 same-length-15 : tie.Need-same-length-15
 same-length-15 c = search needs
 
 returns-12 : tie.Need-returns-12
-unfolding readOf rowOf commands obey isFree
-returns-12 c =
-    let s = c .before .before .before .before .before .before .before .before .before .before .before .args in let free′ = not-locked (locked (plainOf (s .settings))) (rw (c .before .before .before .before .match .keys12) at (c .before .before .before .before .before .before .before .before .before .before .before .pre .1 .1)) in
-    (rw (c .before .before .before .before .match .keys12, free′) (c .before .before .write-note .ensures .0 (now (s .templates)) (now (s .index)) (now (s .buffer1)) (now (s .buffer2))), c .before .before .write-note .ensures .1)
+unfolding readOf rowOf commands isFree start
+returns-12 c = (search notepad-row, search)
 
 same-length-16 : tie.Need-same-length-16
 same-length-16 c = search needs
 
 returns-13 : tie.Need-returns-13
-unfolding readOf rowOf commands obey isFree
-returns-13 c =
-    let s = c .before .before .before .before .before .before .before .before .before .before .args in let free′ = not-locked (locked (plainOf (s .settings))) (rw (c .before .before .before .match .keys13) at (c .before .before .before .before .before .before .before .before .before .before .pre .1 .1)) in
-    (rw (c .before .before .before .match .keys13, free′) (c .read-note .ensures .0 (now (s .templates)) (now (s .index)) (now (s .buffer1)) (now (s .buffer2))), c .read-note .ensures .1)
+unfolding readOf rowOf commands isFree start
+returns-13 c = (search notepad-row, search)
 
 same-length-17 : tie.Need-same-length-17
 same-length-17 c = search needs
 
 returns-14 : tie.Need-returns-14
-unfolding readOf rowOf commands obey isFree
-returns-14 c =
-    let s = c .before .before .before .before .before .before .before .before .before .args in let free′ = not-locked (locked (plainOf (s .settings))) (rw (c .before .before .match .keys14) at (c .before .before .before .before .before .before .before .before .before .pre .1 .1)) in
-    (rw (c .before .before .match .keys14, free′) (c .count-pages .ensures .0 (now (s .templates)) (now (s .notepad)) (now (s .buffer1)) (now (s .buffer2))), c .count-pages .ensures .1)
+unfolding readOf rowOf commands isFree start
+returns-14 c = (search index-row, search)
 
 same-length-18 : tie.Need-same-length-18
 same-length-18 c = search needs
 
 returns-15 : tie.Need-returns-15
-unfolding readOf rowOf commands obey isFree
-returns-15 c =
-    let s = c .before .before .before .before .before .before .before .before .before .before .args in let free′ = not-locked (locked (plainOf (s .settings))) (rw (c .before .before .before .match .keys15) at (c .before .before .before .before .before .before .before .before .before .before .pre .1 .1)) in
-    (rw (c .before .before .before .match .keys15, free′) (c .read-index .ensures .0 (now (s .templates)) (now (s .notepad)) (now (s .buffer1)) (now (s .buffer2))), c .read-index .ensures .1)
+unfolding readOf rowOf commands isFree start
+returns-15 c = (search index-row, search)
 
 returns-16 : tie.Need-returns-16
-unfolding obey carryFree freeRule publicOf follow sent
-returns-16 c = (rw (c .plain .ensures, last-row (c .before .before .before .before .before .before .before .before .args .code) (now (c .before .before .before .before .before .before .before .before .args .content)) (c .before .match .rest .0 .0 .0 .0 .0 .0 .0 .0 .0 .0 .0 .0 .0 .0 .1) (c .before .match .rest .0 .0 .0 .0 .0 .0 .0 .0 .0 .0 .0 .0 .0 .1) (c .before .match .rest .0 .0 .0 .0 .0 .0 .0 .0 .0 .0 .0 .0 .1) (c .before .match .rest .0 .0 .0 .0 .0 .0 .0 .0 .0 .0 .0 .1) (c .before .match .rest .0 .0 .0 .0 .0 .0 .0 .0 .0 .0 .1) (c .before .match .rest .0 .0 .0 .0 .0 .0 .0 .0 .0 .1) (c .before .match .rest .0 .0 .0 .0 .0 .0 .0 .0 .1) (c .before .match .rest .0 .0 .0 .0 .0 .0 .0 .1) (c .before .match .rest .0 .0 .0 .0 .0 .0 .1) (c .before .match .rest .0 .0 .0 .0 .0 .1) (c .before .match .rest .0 .0 .0 .0 .1) (c .before .match .rest .0 .0 .0 .1) (c .before .match .rest .0 .0 .1) (c .before .match .rest .0 .1) (c .before .match .rest .1)) refl, rw (c .plain .ensures) (record { few = omega arith; size = c .before .before .before .before .before .before .before .before .pre .0 .size }))
+returns-16 c = let m = (let p : tie.At-match-rest = search in p .match .rest) in (search shaken, search ready-alone)
 
 pub row-spec : {M : Type 1} → statement M
 row-spec =
