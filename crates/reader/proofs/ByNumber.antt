@@ -1,19 +1,24 @@
--- The buffers by number: what one that is changed, wiped or marked makes of the reader.
+-- The buffers by number: what one that is changed, wiped or marked makes of the reader, and the tests before it.
 use mathlib.Core.Path.{_≡_, refl, sym, ap, _∙_}
-use mathlib.Core.Bool.{Bool, true, false, true≢false, _||_, cond}
+use mathlib.Core.Bool.{Bool, true, false, not, _||_, cond}
 use mathlib.Core.Logic.{_⊎_, inl, inr, ⊎-elim}
-use mathlib.Core.List.{List}
-use Prim.Native.Nat.{ℕ}
-use lib.Dec.{eqb}
+use mathlib.Core.List.{List, _∷_}
+use Prim.Native.Nat.{ℕ, _/_, _≤_}
+use lib.Dec.{eqb, ltb}
 use lib.ListN.{length}
-use borrow.Author.Tests.{eqb-true, ne-eqb}
+use borrow.Author.Tests.{eqb-true, ne-eqb, le-ltb}
 use Rattle.protocol.specs.declared.Settings.{Settings}
-use Rattle.protocol.specs.Numbers.{pageBytes}
-use Rattle.protocol.specs.Bytes.{zeros}
-use Rattle.protocol.specs.Reader.{Transfer, opened, Guarded, emptied, withBuffer, contents, reader}
+use Rattle.protocol.specs.Numbers.{pageBytes, badPacket, badPage}
+use Rattle.protocol.specs.Tests.{Test, verdict}
+use Rattle.protocol.specs.Bytes.{zeros, follow}
+use Rattle.protocol.specs.Reader.{Transfer, opened, Guarded, capacity, emptied, withBuffer, contents, reader}
 use Rattle.protocol.specs.Reader as readers
-use Rattle.protocol.specs.Table.{isBuffer}
+use Rattle.protocol.specs.Table.{isBuffer, Effect}
+use Rattle.protocol.specs.Step.{says, carry, carryAs}
+use Rattle.protocol.proofs.Laws.Logic.{not-true, not-false}
 use Rattle.protocol.specs.Records.{transferOf, plainOf, buffer, readerOf}
+use Rattle.reader.specs.declared.answers.Answer.{Answer}
+use Rattle.reader.specs.Answers.{codeAlone, sent, saidOf}
 use Rattle.reader.specs.Records.{withTransfer}
 use Rattle.reader.specs.Buffers.{chosenOf, Buffers, buffers, changed, withFill}
 use Rattle.reader.proofs.Laws.{chosen-long}
@@ -88,3 +93,18 @@ wiped k w j s o q t i n b c x y f g e l m =
     let all : length (chosenOf k b c) ≡ pageBytes = chosen-long (eqb k 2) c b pageBytes m l in
     let h = changed-marked k (λ (z : List ℕ). zeros (length z)) s t i n b c x y e false in
     rw (f, g) (ap (λ (z : Guarded). reader (readers.withTransfer (transferOf w j) (plainOf s)) z) (rw all at h))
+
+-- ---- the tests that a command with a buffer starts with
+
+module _ (s : Settings) (t i m b c : List ℕ) (a : Answer) (n : ℕ) (known : Bool) (k : known ≡ isBuffer n) (ts : List Test) (x y : List ℕ) (e : Effect) where
+  pub no-buffer : a ≡ codeAlone badPacket s → not known ≡ true
+      → saidOf a t i m b c ≡ carry (readerOf s t i m b c) record { tests = (isBuffer n, badPacket) ∷ ts; bytes = x; behind = y; effect = e }
+  unfolding carry carryAs verdict says follow sent
+  no-buffer f g = rw (f, ← k, not-true known g)
+
+  pub no-page : (p : ℕ) → a ≡ codeAlone badPage s → not known ≡ false → length t / pageBytes ≤ p
+      → saidOf a t i m b c
+      ≡ carry (readerOf s t i m b c)
+      record { tests = (isBuffer n, badPacket) ∷ (ltb p (capacity (readerOf s t i m b c .guarded)), badPage) ∷ ts; bytes = x; behind = y; effect = e }
+  unfolding carry carryAs verdict capacity says follow sent
+  no-page p f g h = rw (f, ← k, not-false known g, le-ltb _ _ h)

@@ -1,37 +1,33 @@
 -- A number that names no buffer; otherwise its buffer is wiped, its mark cleared, and a transfer into it opened.
 use mathlib.Core.Path.{_≡_, sym, ap, _∙_}
-use mathlib.Core.Bool.{Bool, true, false, not}
+use mathlib.Core.Bool.{Bool, false, not}
 use mathlib.Core.List.{List, []}
 use Prim.Native.Nat.{ℕ}
 use lib.Dec.{eqb}
 use lib.ListN.{length}
 use Rattle.protocol.specs.declared.Settings.{Settings}
-use Rattle.protocol.specs.Numbers.{pageBytes, done, badPacket}
+use Rattle.protocol.specs.Numbers.{pageBytes, done}
 use Rattle.protocol.specs.Tests.{verdict}
 use Rattle.protocol.specs.Bytes.{zeros, follow}
 use Rattle.protocol.specs.Reader.{opened, Reader}
 use Rattle.protocol.specs.Data.{acknowledge}
 use Rattle.protocol.specs.Table.{apply, rule, isBuffer}
 use Rattle.protocol.specs.Commands.{downChar}
-use Rattle.protocol.specs.Step.{says, carry, carryAs}
+use Rattle.protocol.specs.Step.{carry, carryAs}
 use Rattle.protocol.specs.Records.{transferOf}
-use Rattle.protocol.proofs.Laws.Logic.{not-true, not-false}
+use Rattle.protocol.proofs.Laws.Logic.{not-false}
 use Rattle.reader.specs.declared.answers.Answer.{Answer}
 use Rattle.reader.specs.Answers.{codeAlone, sent, saidOf}
 use Rattle.reader.specs.Buffers.{buffers, changed, withFill}
 use Rattle.reader.specs.Commands.{obeyed}
 use Rattle.reader.specs.Records.{withTransfer}
 use Rattle.reader.proofs.Ready.{ready-alone, size-filled, size-moved}
-use Rattle.reader.proofs.ByNumber.{opened-at, wiped}
+use Rattle.reader.proofs.ByNumber.{no-buffer, opened-at, wiped}
 use borrow.Author.Needs.{needs}
 use Rattle.reader.proofs.buffers.down_char.Statement.{statement}
 use Rattle.reader.proofs.buffers.down_char.Tie as tie
 
 module _ (s : Settings) (t i m b d : List ℕ) (n : ℕ) (a : Answer) (known : Bool) (k : known ≡ isBuffer n) where
-  no-buffer : a ≡ codeAlone badPacket s → not known ≡ true → saidOf a t i m b d ≡ obeyed s t i m b d (downChar n)
-  unfolding carry carryAs rule verdict says follow sent
-  no-buffer e f = rw (e, ← k, not-true known f)
-
   awaits : (q o : Settings) (x y : List ℕ) → a ≡ codeAlone done q → q ≡ withTransfer n 0 o → o ≡ withFill n false s
       → buffers x y ≡ changed n (λ (z : List ℕ). zeros (length z)) b d → length b ≡ pageBytes → length d ≡ pageBytes → not known ≡ false
       → saidOf a t i m x y ≡ obeyed s t i m b d (downChar n)
@@ -55,6 +51,7 @@ plain-requires : tie.Need-plain-requires
 plain-requires c κs = search needs
 
 returns : tie.Need-returns
+unfolding rule
 returns c = record { said = λ t i m. search no-buffer; ready = search ready-alone }
 
 wipe-requires : tie.Need-wipe-requires

@@ -5,7 +5,7 @@ use mathlib.Core.List.{List}
 use Prim.Native.Nat.{ℕ}
 use lib.Dec.{eqb}
 use Rattle.protocol.specs.declared.Settings.{Settings}
-use Rattle.protocol.specs.Numbers.{badPacket, nothingToSend}
+use Rattle.protocol.specs.Numbers.{nothingToSend}
 use Rattle.protocol.specs.Tests.{verdict}
 use Rattle.protocol.specs.Bytes.{zeros, follow}
 use Rattle.protocol.specs.Reader.{bufferOf}
@@ -18,26 +18,22 @@ use Rattle.reader.specs.Answers.{answerOf, codeAlone, sent, saidOf, list
 use Rattle.reader.specs.Commands.{obeyed}
 use Rattle.reader.proofs.Laws.{chosen-filled, chosen-bytes}
 use Rattle.reader.proofs.Ready.{ready-alone, ready-sending}
-use Rattle.reader.proofs.ByNumber.{not-none}
+use Rattle.reader.proofs.ByNumber.{no-buffer, not-none}
 use borrow.Author.Needs.{needs}
 use Rattle.reader.proofs.buffers.up_char.Statement.{statement}
 use Rattle.reader.proofs.buffers.up_char.Tie as tie
 
-module _ (s : Settings) (t i m b d : List ℕ) (n : ℕ) (a : Answer) (known : Bool) (k : known ≡ isBuffer n) where
-  no-buffer : a ≡ codeAlone badPacket s → not known ≡ true → saidOf a t i m b d ≡ obeyed s t i m b d (upChar n)
-  unfolding carry carryAs rule verdict says follow sent
-  no-buffer e f = rw (e, ← k, not-true known f)
+module _ (s : Settings) (t i m b d : List ℕ) (n : ℕ) (a : Answer) (known : Bool) (k : known ≡ isBuffer n) (f : not known ≡ false)
+    (full : Bool) (l : full ≡ cond (eqb n 2) (s .filled2) (s .filled1)) where
+  not-filled : a ≡ codeAlone nothingToSend s → not full ≡ true → saidOf a t i m b d ≡ obeyed s t i m b d (upChar n)
+  unfolding carry carryAs rule verdict says follow sent bufferOf
+  not-filled e g = rw (e, ← k, not-false known f, chosen-filled, ← l, not-true full g)
 
-  module _ (full : Bool) (l : full ≡ cond (eqb n 2) (s .filled2) (s .filled1)) (f : not known ≡ false) where
-    not-filled : a ≡ codeAlone nothingToSend s → not full ≡ true → saidOf a t i m b d ≡ obeyed s t i m b d (upChar n)
-    unfolding carry carryAs rule verdict says follow sent bufferOf
-    not-filled e g = rw (e, ← k, not-false known f, chosen-filled, ← l, not-true full g)
-
-    goes-up : a ≡ answerOf true 0 0 (zeros listedBytes) n s → not full ≡ false → saidOf a t i m b d ≡ obeyed s t i m b d (upChar n)
-    unfolding carry carryAs rule verdict says sent apply bufferOf
-    goes-up e g =
-        let some : eqb n 0 ≡ false = not-none n (sym k ∙ not-false known f) in
-        rw (e, some, ← k, not-false known f, chosen-filled, chosen-bytes, ← l, not-false full g)
+  goes-up : a ≡ answerOf true 0 0 (zeros listedBytes) n s → not full ≡ false → saidOf a t i m b d ≡ obeyed s t i m b d (upChar n)
+  unfolding carry carryAs rule verdict says sent apply bufferOf
+  goes-up e g =
+      let some : eqb n 0 ≡ false = not-none n (sym k ∙ not-false known f) in
+      rw (e, some, ← k, not-false known f, chosen-filled, chosen-bytes, ← l, not-false full g)
 
 is-buffer-requires : tie.Need-is-buffer-requires
 is-buffer-requires c κs = search needs
@@ -46,6 +42,7 @@ plain-requires : tie.Need-plain-requires
 plain-requires c κs = search needs
 
 returns : tie.Need-returns
+unfolding rule
 returns c = record { said = λ t i m b d. search no-buffer; ready = search ready-alone }
 
 filled-of-requires : tie.Need-filled-of-requires
