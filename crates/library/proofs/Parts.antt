@@ -1,5 +1,7 @@
 -- A part that was lent and came back, as one list laid over another; and pages laid one after the other.
 use mathlib.Core.Path.{_≡_, sym, ap, _∙_}
+use mathlib.Core.Bool.{true}
+use lib.Dec.{ltb, leb, leb→le}
 use mathlib.Core.List.{List}
 use Prim.Native.Nat.{ℕ, zero, suc, _+_, _-_, _*_, _/_, _≤_, _<_}
 use native.Mathlib.Nat.{not-suc-le-zero}
@@ -11,7 +13,8 @@ use Rattle.protocol.specs.Numbers.{pageBytes}
 use Rattle.protocol.specs.Bytes.{part, zeros, lay}
 use Rattle.protocol.proofs.Laws.Lists.{length-lay, lay-lay, lay-nothing, lay-whole}
 use Rattle.wire.specs.Laying.{layFront}
-use Rattle.library.specs.Lent.{zeroPage, zeroPages}
+use Rattle.library.specs.Lent.{isSpan, zeroPage, zeroPages}
+use Rattle.protocol.proofs.Laws.Logic.{and-r}
 
 -- a part from a to e that came back as ys, as long as it was
 pub part-laid : (a e : ℕ) (xs ys : List ℕ) → a ≤ e → length ys ≡ e - a → putMid a (e - a) xs ys ≡ lay a ys xs
@@ -65,6 +68,10 @@ module _ (z t : List ℕ) (p n : ℕ) (e : z ≡ zeroPages p n t) where
   pub zero-none : n ≤ 0 → t ≡ z
   unfolding zeroPages
   zero-none h = let none : n ≡ 0 = omega arith in sym (rw none at e)
+
+pub span-within : (p n c : ℕ) → isSpan p n c ≡ true → p + n ≤ c
+unfolding isSpan
+span-within p n c e = leb→le (p + n) c (and-r (ltb p c) (leb (p + n) c) (rw e tt))
 
 -- within the templates they are one run of zeros
 pub zeroed : (p n : ℕ) (t : List ℕ) → p + n ≤ length t / pageBytes → zeroPages p n t ≡ lay (pageBytes * p) (zeros (pageBytes * n)) t

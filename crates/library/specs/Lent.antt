@@ -1,8 +1,8 @@
 -- What the library's functions do to any lent memory: as document 01 says where it fits, and otherwise nothing.
-use mathlib.Core.Bool.{cond}
+use mathlib.Core.Bool.{Bool, _&&_, cond}
 use mathlib.Core.List.{List}
-use Prim.Native.Nat.{ℕ, zero, suc, _*_, _/_}
-use lib.Dec.{eqb, ltb}
+use Prim.Native.Nat.{ℕ, zero, suc, _+_, _*_, _/_}
+use lib.Dec.{eqb, ltb, leb}
 use lib.ListN.{length}
 use Rattle.protocol.specs.Numbers.{pageBytes, noCount}
 use Rattle.protocol.specs.Bytes.{part, zeros, lay}
@@ -11,6 +11,10 @@ use Rattle.protocol.specs.Index.{setBits}
 -- the set bits of an index of n bytes
 unfoldable pub countOf : ℕ → List ℕ → ℕ
 countOf n x = cond (eqb (length x) n) (setBits x) noCount
+
+-- n pages from p on are there, of c
+unfoldable pub isSpan : ℕ → ℕ → ℕ → Bool
+isSpan p n c = ltb p c && leb (p + n) c
 
 -- the templates t with page p as b
 unfoldable pub writePage : ℕ → List ℕ → List ℕ → List ℕ

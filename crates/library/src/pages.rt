@@ -1,20 +1,19 @@
 // Pages of the templates: page p is the 512 bytes that start at 512 × p, lent as a part. What does not fit changes nothing.
 ghost use mathlib.Core.Path.{_≡_};
-ghost use lib.ListN.{length};
-ghost use Rattle.protocol.specs.Bytes.{zeros};
-ghost use Rattle.library.specs.Lent.{writePage, readPage, zeroPage, zeroPages};
+ghost use Rattle.library.specs.Lent.{isSpan, writePage, readPage, zeroPage, zeroPages};
 use protocol::numbers;
 use wire::bytes;
 
-// Zeroes a slice.
-pub fn zero(s: &mut [u8])
-    ensures { λ _. ⌜ now (s .exit) ≡ zeros (length (now (s .entry))) ⌝ }
+// Whether n pages from a page on are there, of so many. The sum of two 16-bit numbers is taken in full.
+pub fn is_span(page: u16, n: u16, pages: usize) -> bool
+    ensures { λ r. ⌜ r ≡ isSpan page n pages ⌝ }
 {
-    let mut i = 0;
-    while i < s.len() {
-        s[i] = 0;
-        i += 1;
+    let from = page as usize;
+    let count = n as usize;
+    if pages <= from {
+        return false;
     }
+    from + count <= pages
 }
 
 // Copies 512 bytes to a page.
@@ -50,7 +49,7 @@ pub fn zero_page(templates: &mut [u8], page: usize)
     if page < templates.len() / numbers::PAGE {
         let a = numbers::PAGE * page;
         let e = a + numbers::PAGE;
-        zero(&mut templates[a..e]);
+        bytes::zero(&mut templates[a..e]);
     }
 }
 

@@ -22,13 +22,13 @@ use Rattle.protocol.proofs.Laws.Logic.{T→true}
 use Rattle.protocol.proofs.Laws.Lists.{follow-append, lay-lay, lay-whole}
 use Rattle.protocol.proofs.Laws.Finder.{length-packet, accepts-of}
 use Rattle.protocol.proofs.Laws.Sizes.{Size, sizes, length-packets, length-data}
-use Rattle.reader.specs.Answers.{answerBytes, mostContent, dataRoom}
 use Rattle.library.proofs.Parts.{part-laid}
+use Rattle.reader.specs.Answers.{listedBytes, contentBytes, uploadBytes}
 
 -- ---- a packet that the builder does not refuse
 
--- an identifier of a packet, and content of its length
-pub accepted : (i : ℕ) (c : List ℕ) → isIdentifier i ≡ true → 1 ≤ length c → length c ≤ mostContent → T (accepts i (lengthOf c))
+-- an identifier of a packet, and content that is not too long
+pub accepted : (i : ℕ) (c : List ℕ) → isIdentifier i ≡ true → 1 ≤ length c → length c ≤ contentBytes → T (accepts i (lengthOf c))
 accepted i c e l h = accepts-of i (lengthOf c) (rw e tt) (omega arith) (omega arith)
 
 pub build-laid : (a : List ℕ) (i : ℕ) (c room : List ℕ) → T (accepts i (lengthOf c)) → length c + frameBytes ≤ length room
@@ -112,7 +112,7 @@ spoken-two a p y y1 y2 n r e h f g k =
     let q = follow-append a p in
     (k ∙ omega (arith, ap length q, length-append a p), g ∙ ap (lay n p) f ∙ lay-lay 0 n a p y (omega arith) h ∙ ap (λ (x : List ℕ). lay 0 x y) (sym q))
 
-pub few-all : (t : Bool) (n : ℕ) → n ≤ cond t answerBytes 0 → n ≤ answerBytes
+pub few-all : (t : Bool) (n : ℕ) → n ≤ cond t listedBytes 0 → n ≤ listedBytes
 few-all true n h = h
 few-all false n h = omega arith
 
@@ -120,12 +120,12 @@ few-all false n h = omega arith
 
 pub record CodeSize (z : ℕ) : Type 0 where
   pub all : pageBytes / z * z ≡ pageBytes
-  pub room : pageBytes / z * (z + frameBytes) ≤ dataRoom
+  pub room : pageBytes / z * (z + frameBytes) ≤ uploadBytes
 
 pub code-size : (code : ℕ) → code ≤ highestSize → CodeSize (sizeOf code)
 code-size code h =
     let z : Size (sizeOf code) = sizes code h in
     record { all = ap (λ (k : ℕ). k * sizeOf code) (z .count) ∙ z .whole; room = rw (z .count) (omega (arith, z .room)) }
 
-pub sent-length : (a : List ℕ) (code : ℕ) (s : List ℕ) → length a ≡ 4 → code ≤ highestSize → length s ≡ pageBytes → length (dataPackets a (sizeOf code) s) ≤ dataRoom
+pub sent-length : (a : List ℕ) (code : ℕ) (s : List ℕ) → length a ≡ 4 → code ≤ highestSize → length s ≡ pageBytes → length (dataPackets a (sizeOf code) s) ≤ uploadBytes
 sent-length a code s h l m = omega (arith, length-data a (sizeOf code) s (sizes code l) h m)

@@ -7,13 +7,10 @@ use native.Mathlib.Omega.{arith}
 use lib.Dec.{eqb, ltb}
 use lib.ListN.{length}
 use borrow.Author.Tests.{eqb-true, ltb-true}
-use Rattle.protocol.specs.declared.Settings.{Settings}
 use Rattle.protocol.specs.Numbers.{pageBytes, transferFailed}
 use Rattle.protocol.specs.Reader.{Transfer, Plain, Reader, sizeOf}
 use Rattle.protocol.specs.Step.{silence, says, ended, fits, takeAs, takeIn}
-use Rattle.protocol.specs.Data.{dataPackets}
 use Rattle.protocol.specs.Records.{transferOf}
-use Rattle.reader.specs.Answers.{sent}
 use Rattle.rules.proofs.Transfers.{transfer-at}
 
 -- ---- none
@@ -63,10 +60,3 @@ part-facts p k l s c e =
     let b : length c ≡ z = eqb-true (length c) z (both-right s (eqb (length c) z) a) in
     let d : k + z ≤ pageBytes = fits-room l (k + z) (both-right (s && eqb (length c) z) (cond l (eqb (k + z) pageBytes) (ltb (k + z) pageBytes)) e) in
     (b, rw b d)
-
--- an answer that sends, and not buffer 1
-pub sent-two : (k : ℕ) (s : Settings) (b c : List ℕ) → (k ≡ 0 → ⊥) → (k ≡ 1 → ⊥) → sent k s b c ≡ dataPackets (s .address) (sizeOf (s .size)) c
-unfolding sent
-sent-two zero s b c n m = absurd (n refl)
-sent-two (suc zero) s b c n m = absurd (m refl)
-sent-two (suc (suc k)) s b c n m = refl

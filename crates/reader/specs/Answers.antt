@@ -1,44 +1,46 @@
 -- What an answer means: the reply and the reader of the definitions.
 use mathlib.Core.Bool.{Bool, true, false, cond}
-use mathlib.Core.List.{List, []}
-use Prim.Native.Nat.{ℕ, zero, suc, _≤_}
-use lib.Dec.{eqb}
-use lib.ListN.{take}
+use mathlib.Core.List.{List, [], _∷_}
+use mathlib.Core.Path.{_≡_}
+use Prim.Native.Nat.{ℕ, _*_, _/_, _≤_}
+use lib.Dec.{eqb, ltb}
+use lib.ListN.{length, take}
 use Rattle.protocol.specs.declared.Settings.{Settings}
 use Rattle.protocol.specs.Numbers.{highestSize}
-use Rattle.protocol.specs.Bytes.{zeros, follow}
+use Rattle.protocol.specs.Bytes.{part, zeros, follow}
 use Rattle.protocol.specs.Reader.{sizeOf}
 use Rattle.protocol.specs.Data.{acknowledge, dataPackets}
-use Rattle.protocol.specs.Step.{Said}
+use Rattle.protocol.specs.Table.{gives}
+use Rattle.protocol.specs.Step.{Said, carry}
 use Rattle.protocol.specs.Records.{readerOf}
 use Rattle.reader.specs.declared.answers.Answer.{Answer}
+use Rattle.reader.specs.Buffers.{chosenOf}
 
--- the most bytes that an acknowledge has behind its code
-abbrev pub answerBytes : ℕ
-answerBytes = 32
+-- the most bytes behind a code
+abbrev pub listedBytes : ℕ
+listedBytes = 32
 
--- the longest content of a packet, and the longest data packets of a buffer: sixteen of 32 bytes
-abbrev pub mostContent : ℕ
-mostContent = 254
+-- the most bytes in a packet's content
+abbrev pub contentBytes : ℕ
+contentBytes = 254
 
-abbrev pub dataRoom : ℕ
-dataRoom = 688
+-- a buffer in data packets takes this much of the reply room at most
+abbrev pub uploadBytes : ℕ
+uploadBytes = 688
 
 abbrev pub answerOf : Bool → ℕ → ℕ → List ℕ → ℕ → Settings → Answer
 answerOf speaks code count bytes upload s = record { speaks = speaks; code = code; count = count; bytes = bytes; upload = upload; settings = s }
 
 -- a code alone; nothing at all
 abbrev pub codeAlone : ℕ → Settings → Answer
-codeAlone code s = answerOf true code 0 (zeros answerBytes) 0 s
+codeAlone code s = answerOf true code 0 (zeros listedBytes) 0 s
 
 abbrev pub nothingSaid : Settings → Answer
-nothingSaid s = answerOf false 0 0 (zeros answerBytes) 0 s
+nothingSaid s = answerOf false 0 0 (zeros listedBytes) 0 s
 
--- the data packets of the buffer that is sent: none, buffer 1, buffer 2
+-- the data packets of the buffer of a number; 0 is none
 unfoldable pub sent : ℕ → Settings → List ℕ → List ℕ → List ℕ
-sent zero s b c = []
-sent (suc zero) s b c = dataPackets (s .address) (sizeOf (s .size)) b
-sent (suc (suc k)) s b c = dataPackets (s .address) (sizeOf (s .size)) c
+sent n s b c = cond (eqb n 0) [] (dataPackets (s .address) (sizeOf (s .size)) (chosenOf n b c))
 
 -- the bytes that an answer says, with both buffers as they are
 abbrev pub spokenOf : Answer → List ℕ → List ℕ → List ℕ
@@ -50,5 +52,11 @@ saidOf a t i n b c = record { reply = spokenOf a b c; after = readerOf (a .setti
 
 -- an answer that fits the reply room: bytes or a buffer, and not both
 pub record Ready (a : Answer) : Type 0 where
-  pub few : a .count ≤ cond (eqb (a .upload) 0) answerBytes 0
+  pub few : a .count ≤ cond (eqb (a .upload) 0) listedBytes 0
   pub size : a .settings .size ≤ highestSize
+
+-- an answer that gives 32 bytes of a memory x by their page, or the code of a page that is not there
+pub record PageGiven (a : Answer) (s : Settings) (x : List ℕ) (p k : ℕ) : Type 0 where
+  pub said : (t i n b c : List ℕ)
+      → saidOf a t i n b c ≡ carry (readerOf s t i n b c) (gives ((ltb p (length x / listedBytes), k) ∷ []) (part (listedBytes * p) listedBytes x))
+  pub ready : Ready a

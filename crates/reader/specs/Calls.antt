@@ -1,9 +1,11 @@
 -- What a call's functions need and return.
 use mathlib.Core.Bool.{Bool, _&&_}
 use mathlib.Core.List.{List}
+use mathlib.Core.Path.{_≡_}
 use Prim.Native.Nat.{ℕ, _+_, _/_, _≤_}
 use lib.ListN.{length}
-use Rattle.protocol.specs.Numbers.{pageBytes, replyRoom, headBytes, shortest}
+use Rattle.protocol.specs.Numbers.{pageBytes, replyRoom, headBytes, shortest, highestSize}
+use Rattle.protocol.specs.Reader.{sizeOf}
 use Rattle.protocol.specs.Step.{Said}
 use Rattle.protocol.specs.Call.{core, libraryFits, buffersFit, Ended, carried}
 use Rattle.protocol.specs.declared.Settings.{Settings}
@@ -29,6 +31,16 @@ pub record HearNeeds (s : Settings) (t i n b c x : List ℕ) (at len : ℕ) (y :
   pub legal : Legal s
   pub whole : Lies x at len
   pub room : replyRoom ≤ length y
+
+-- a data packet that fits an open transfer
+pub record Placing (s : Settings) (b c x : List ℕ) : Type 0 where
+  pub buffer1 : length b ≡ pageBytes
+  pub buffer2 : length c ≡ pageBytes
+  pub size : s .size ≤ highestSize
+  pub opened : s .transfer ≡ 0 → ⊥
+  pub which : s .transfer ≤ 2
+  pub room : s .got + length x ≤ pageBytes
+  pub long : length x ≡ sizeOf (s .size)
 
 abbrev pub called : ℕ → ℕ → ℕ → Settings → Called
 called refusal used length s = record { settings = s; refusal = refusal; used = used; length = length }

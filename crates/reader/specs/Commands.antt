@@ -1,4 +1,4 @@
--- What the commands need, and the table as the code reads it.
+-- What the commands need, and what they do: each carried out by its row of the table.
 use mathlib.Core.List.{List}
 use mathlib.Core.Path.{_≡_}
 use Prim.Native.Nat.{ℕ, _*_, _/_, _≤_}
@@ -12,6 +12,8 @@ use Rattle.protocol.specs.Table.{rule, freeRule, publicOf}
 use Rattle.protocol.specs.Step.{Said, carry, carryFree}
 use Rattle.protocol.specs.Records.{plainOf, readerOf}
 use Rattle.rules.specs.Commands.{Admitted}
+use Rattle.reader.specs.declared.answers.Answer.{Answer}
+use Rattle.reader.specs.Answers.{saidOf, Ready}
 
 -- the facts that refusals 1 to 3 leave, as the commands use them
 pub record Fit (s : Settings) (t i n b c : List ℕ) : Type 0 where
@@ -40,3 +42,45 @@ obeyed s t i n b c k = carry (readerOf s t i n b c) (rule (readerOf s t i n b c)
 
 abbrev pub freed : Settings → List ℕ → List ℕ → List ℕ → List ℕ → List ℕ → Free → Said
 freed s t i n b c k = carryFree (readerOf s t i n b c) (freeRule (publicOf (readerOf s t i n b c)) k)
+
+-- ---- a command carried out: what it says is its row's, for every reader that has the memory it touches, and fits the reply room
+
+-- it touches the settings alone
+pub record Obeyed (a : Answer) (s : Settings) (k : Barred) : Type 0 where
+  pub said : (t i n b c : List ℕ) → saidOf a t i n b c ≡ obeyed s t i n b c k
+  pub ready : Ready a
+
+-- and sees the number of pages
+pub record ObeyedPages (a : Answer) (s : Settings) (k : Barred) (pages : ℕ) : Type 0 where
+  pub said : (t i n b c : List ℕ) → length t / pageBytes ≡ pages → saidOf a t i n b c ≡ obeyed s t i n b c k
+  pub ready : Ready a
+
+-- the index, which it reads
+pub record ObeyedIndex (a : Answer) (s : Settings) (k : Barred) (i : List ℕ) : Type 0 where
+  pub said : (t n b c : List ℕ) → saidOf a t i n b c ≡ obeyed s t i n b c k
+  pub ready : Ready a
+
+-- the notepad, before and after
+pub record ObeyedNotepad (a : Answer) (s : Settings) (k : Barred) (n n′ : List ℕ) : Type 0 where
+  pub said : (t i b c : List ℕ) → saidOf a t i n′ b c ≡ obeyed s t i n b c k
+  pub ready : Ready a
+
+-- both buffers, before and after
+pub record ObeyedBuffers (a : Answer) (s : Settings) (k : Barred) (b c b′ c′ : List ℕ) : Type 0 where
+  pub said : (t i n : List ℕ) → saidOf a t i n b′ c′ ≡ obeyed s t i n b c k
+  pub ready : Ready a
+
+-- templates and index, before and after
+pub record ObeyedLibrary (a : Answer) (s : Settings) (k : Barred) (t i t′ i′ : List ℕ) : Type 0 where
+  pub said : (n b c : List ℕ) → saidOf a t′ i′ n b c ≡ obeyed s t i n b c k
+  pub ready : Ready a
+
+-- templates, index and both buffers, before and after
+pub record ObeyedCopy (a : Answer) (s : Settings) (k : Barred) (t i b c t′ i′ b′ c′ : List ℕ) : Type 0 where
+  pub said : (n : List ℕ) → saidOf a t′ i′ n b′ c′ ≡ obeyed s t i n b c k
+  pub ready : Ready a
+
+-- a command that the lock lets pass
+pub record Freed (a : Answer) (s : Settings) (k : Free) : Type 0 where
+  pub said : (t i n b c : List ℕ) → saidOf a t i n b c ≡ freed s t i n b c k
+  pub ready : Ready a

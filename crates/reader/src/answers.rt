@@ -1,10 +1,15 @@
 // What a command answers, before it is written into the reply room.
 ghost use mathlib.Core.Path.{_≡_};
 ghost use mathlib.Core.Bool.{true, false};
+ghost use Prim.Native.Nat.{_≤_};
+ghost use lib.Dec.{eqb};
+ghost use Rattle.protocol.specs.Numbers.{highestSize};
 ghost use Rattle.protocol.specs.Bytes.{zeros};
-ghost use Rattle.reader.specs.Answers.{answerOf, codeAlone, nothingSaid, answerBytes};
+ghost use Rattle.reader.specs.Answers.{answerOf, codeAlone, nothingSaid, listedBytes, PageGiven};
 use protocol::Settings;
 use protocol::codes;
+use protocol::numbers;
+use wire::bytes;
 
 // Does it speak, the code, the bytes behind the code, the buffer that is sent behind the acknowledge (0: none), and the settings after it.
 pub struct Answer {
@@ -60,7 +65,7 @@ pub(crate) fn listed(bytes: [u8; 32], count: usize, settings: Settings) -> Answe
 
 // 00h, and a buffer behind the acknowledge.
 pub(crate) fn sending(upload: u8, settings: Settings) -> Answer
-    ensures { λ r. ⌜ r ≡ answerOf true 0 0 (zeros answerBytes) upload settings ⌝ }
+    ensures { λ r. ⌜ r ≡ answerOf true 0 0 (zeros listedBytes) upload settings ⌝ }
 {
     Answer {
         speaks: true,
@@ -70,4 +75,20 @@ pub(crate) fn sending(upload: u8, settings: Settings) -> Answer
         upload,
         settings,
     }
+}
+
+// 00h and 32 bytes of a memory, by their page; a page that is not there has a code.
+pub(crate) fn page_of(settings: Settings, memory: &[u8], page: u8, missing: u8) -> Answer
+    requires { ⌜ (settings .size ≤ highestSize) × (eqb missing 0 ≡ false) ⌝ }
+    ensures { λ r. ⌜ PageGiven r settings (now (memory .entry)) page missing ⌝ }
+{
+    let p = bytes::wide(page);
+    if memory.len() / numbers::NOTE <= p {
+        return plain(missing, settings);
+    }
+    let a = numbers::NOTE * p;
+    let e = a + numbers::NOTE;
+    let mut bytes = [0u8; 32];
+    bytes::put(&mut bytes, &memory[a..e]);
+    listed(bytes, 32, settings)
 }

@@ -22,7 +22,6 @@ use crate::reply;
 use crate::table;
 use crate::transfer;
 use library::index;
-use library::pages;
 use protocol::Called;
 use protocol::Found;
 use protocol::Settings;
@@ -243,8 +242,8 @@ pub fn line_switch(settings: Settings, buffer1: &mut [u8], buffer2: &mut [u8]) -
     if buffer2.len() != numbers::PAGE {
         return switched_of(refusals::BAD_LENGTH, settings);
     }
-    pages::zero(buffer1);
-    pages::zero(buffer2);
+    wire::bytes::zero(buffer1);
+    wire::bytes::zero(buffer2);
     let s = settings::filled(settings::marked(settings, false), false, false);
     switched_of(refusals::ACCEPTED, settings::moved(s, 0, 0))
 }

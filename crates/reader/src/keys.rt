@@ -1,12 +1,10 @@
 // The commands over password and address: SetPwd, VfyPwd, SetAdder.
 ghost use mathlib.Core.Path.{_≡_};
-ghost use mathlib.Core.List.{List};
-ghost use Prim.Native.Nat.{ℕ, _≤_};
+ghost use Prim.Native.Nat.{_+_, _≤_};
 ghost use lib.ListN.{length, drop};
-ghost use Rattle.protocol.specs.Numbers.{highestSize};
+ghost use Rattle.protocol.specs.Numbers.{fourBytes, highestSize};
 ghost use Rattle.protocol.specs.Commands.{verifyPassword, setPassword, setAddress};
-ghost use Rattle.reader.specs.Answers.{saidOf, Ready};
-ghost use Rattle.reader.specs.Commands.{obeyed, freed};
+ghost use Rattle.reader.specs.Commands.{Obeyed, Freed};
 use crate::answers;
 use crate::answers::Answer;
 use crate::bytes;
@@ -16,8 +14,8 @@ use rules::settings;
 
 // SetPwd.
 pub(crate) fn set_password(settings: Settings, content: &[u8]) -> Answer
-    requires { ⌜ (length (now content) ≡ 5) × (settings .size ≤ highestSize) ⌝ }
-    ensures { λ r. ⌜ ((t i m b c : List ℕ) → saidOf r t i m b c ≡ obeyed settings t i m b c (setPassword (drop 1 (now (content .entry))))) × Ready r ⌝ }
+    requires { ⌜ (length (now content) ≡ 1 + fourBytes) × (settings .size ≤ highestSize) ⌝ }
+    ensures { λ r. ⌜ Obeyed r settings (setPassword (drop 1 (now (content .entry)))) ⌝ }
 {
     let p = bytes::four_at(content, 1);
     answers::plain(codes::DONE, settings::with_password(settings, p))
@@ -25,8 +23,8 @@ pub(crate) fn set_password(settings: Settings, content: &[u8]) -> Answer
 
 // VfyPwd. All four bytes are compared.
 pub(crate) fn verify_password(settings: Settings, content: &[u8]) -> Answer
-    requires { ⌜ (length (now content) ≡ 5) × (settings .size ≤ highestSize) ⌝ }
-    ensures { λ r. ⌜ ((t i m b c : List ℕ) → saidOf r t i m b c ≡ freed settings t i m b c (verifyPassword (drop 1 (now (content .entry))))) × Ready r ⌝ }
+    requires { ⌜ (length (now content) ≡ 1 + fourBytes) × (settings .size ≤ highestSize) ⌝ }
+    ensures { λ r. ⌜ Freed r settings (verifyPassword (drop 1 (now (content .entry)))) ⌝ }
 {
     let p = bytes::four_at(content, 1);
     let q = settings.password;
@@ -39,8 +37,8 @@ pub(crate) fn verify_password(settings: Settings, content: &[u8]) -> Answer
 
 // SetAdder. The reply carries the new address, since it is written with the settings after the command.
 pub(crate) fn set_address(settings: Settings, content: &[u8]) -> Answer
-    requires { ⌜ (length (now content) ≡ 5) × (settings .size ≤ highestSize) ⌝ }
-    ensures { λ r. ⌜ ((t i m b c : List ℕ) → saidOf r t i m b c ≡ obeyed settings t i m b c (setAddress (drop 1 (now (content .entry))))) × Ready r ⌝ }
+    requires { ⌜ (length (now content) ≡ 1 + fourBytes) × (settings .size ≤ highestSize) ⌝ }
+    ensures { λ r. ⌜ Obeyed r settings (setAddress (drop 1 (now (content .entry)))) ⌝ }
 {
     let a = bytes::four_at(content, 1);
     answers::plain(codes::DONE, settings::with_address(settings, a))

@@ -1,13 +1,11 @@
 // The notepad: WriteNotepad and ReadNotepad. Its pages are read off its length.
 ghost use mathlib.Core.Path.{_≡_};
-ghost use mathlib.Core.List.{List};
-ghost use Prim.Native.Nat.{ℕ, _≤_};
+ghost use Prim.Native.Nat.{_+_, _≤_};
 ghost use lib.ListN.{length, drop};
-ghost use Rattle.protocol.specs.Numbers.{highestSize};
+ghost use Rattle.protocol.specs.Numbers.{noteBytes, highestSize};
 ghost use Rattle.protocol.specs.Bytes.{byteAt};
 ghost use Rattle.protocol.specs.Commands.{writeNotepad, readNotepad};
-ghost use Rattle.reader.specs.Answers.{saidOf, Ready};
-ghost use Rattle.reader.specs.Commands.{obeyed};
+ghost use Rattle.reader.specs.Commands.{ObeyedNotepad};
 use crate::answers;
 use crate::answers::Answer;
 use protocol::Settings;
@@ -17,8 +15,8 @@ use wire::bytes;
 
 // WriteNotepad (page, 32 bytes).
 pub(crate) fn write_note(settings: Settings, notepad: &mut [u8], content: &[u8]) -> Answer
-    requires { ⌜ (length (now content) ≡ 34) × (settings .size ≤ highestSize) ⌝ }
-    ensures { λ r. ⌜ ((t i b c : List ℕ) → saidOf r t i (now (notepad .exit)) b c ≡ obeyed settings t i (now (notepad .entry)) b c (writeNotepad (byteAt (now (content .entry)) 1) (drop 2 (now (content .entry))))) × Ready r ⌝ }
+    requires { ⌜ (length (now content) ≡ 2 + noteBytes) × (settings .size ≤ highestSize) ⌝ }
+    ensures { λ r. ⌜ ObeyedNotepad r settings (writeNotepad (byteAt (now (content .entry)) 1) (drop 2 (now (content .entry)))) (now (notepad .entry)) (now (notepad .exit)) ⌝ }
 {
     let p = bytes::wide(content[1]);
     if notepad.len() / numbers::NOTE <= p {
@@ -35,15 +33,7 @@ pub(crate) fn write_note(settings: Settings, notepad: &mut [u8], content: &[u8])
 // ReadNotepad (page).
 pub(crate) fn read_note(settings: Settings, notepad: &[u8], page: u8) -> Answer
     requires { ⌜ settings .size ≤ highestSize ⌝ }
-    ensures { λ r. ⌜ ((t i b c : List ℕ) → saidOf r t i (now (notepad .entry)) b c ≡ obeyed settings t i (now (notepad .entry)) b c (readNotepad page)) × Ready r ⌝ }
+    ensures { λ r. ⌜ ObeyedNotepad r settings (readNotepad page) (now (notepad .entry)) (now (notepad .entry)) ⌝ }
 {
-    let p = bytes::wide(page);
-    if notepad.len() / numbers::NOTE <= p {
-        return answers::plain(codes::BAD_NOTE_PAGE, settings);
-    }
-    let a = numbers::NOTE * p;
-    let e = a + numbers::NOTE;
-    let mut bytes = [0u8; 32];
-    bytes::put(&mut bytes, &notepad[a..e]);
-    answers::listed(bytes, 32, settings)
+    answers::page_of(settings, notepad, page, codes::BAD_NOTE_PAGE)
 }

@@ -1,14 +1,13 @@
 // The system parameters: SetSysPara and ReadSysPara.
 ghost use mathlib.Core.Path.{_≡_};
 ghost use mathlib.Core.Bool.{cond};
-ghost use mathlib.Core.List.{List, [], _∷_};
-ghost use Prim.Native.Nat.{ℕ, _/_, _≤_, _<_};
-ghost use lib.ListN.{length, take};
-ghost use Rattle.protocol.specs.Numbers.{pageBytes, highestSize};
+ghost use mathlib.Core.List.{[], _∷_};
+ghost use Prim.Native.Nat.{_≤_};
+ghost use lib.ListN.{take};
+ghost use Rattle.protocol.specs.Numbers.{verifiedStatus, highestSize};
 ghost use Rattle.protocol.specs.Bytes.{two, joined};
 ghost use Rattle.protocol.specs.Commands.{setSysPara, readSysPara};
-ghost use Rattle.reader.specs.Answers.{saidOf, Ready};
-ghost use Rattle.reader.specs.Commands.{obeyed};
+ghost use Rattle.reader.specs.Commands.{Obeyed, ObeyedPages};
 use crate::answers;
 use crate::answers::Answer;
 use protocol::Settings;
@@ -20,7 +19,7 @@ use wire::bytes;
 // SetSysPara (number, value).
 pub(crate) fn set_parameter(settings: Settings, k: u8, v: u8) -> Answer
     requires { ⌜ settings .size ≤ highestSize ⌝ }
-    ensures { λ r. ⌜ ((t i m b c : List ℕ) → saidOf r t i m b c ≡ obeyed settings t i m b c (setSysPara k v)) × Ready r ⌝ }
+    ensures { λ r. ⌜ Obeyed r settings (setSysPara k v) ⌝ }
 {
     if k < numbers::BAUD_PARAMETER {
         return answers::plain(codes::BAD_PARAMETER, settings);
@@ -62,7 +61,7 @@ pub(crate) fn set_parameter(settings: Settings, k: u8, v: u8) -> Answer
 }
 
 fn status(verified: bool) -> usize
-    ensures { λ r. ⌜ (r ≡ cond verified 4 0) × (r ≤ 4) ⌝ }
+    ensures { λ r. ⌜ (r ≡ cond verified verifiedStatus 0) × (r ≤ verifiedStatus) ⌝ }
 {
     if verified { 4 } else { 0 }
 }
@@ -118,7 +117,7 @@ fn parameter_bytes(
 // ReadSysPara.
 pub(crate) fn read_parameters(settings: Settings, pages: usize) -> Answer
     requires { ⌜ settings .size ≤ highestSize ⌝ }
-    ensures { λ r. ⌜ ((t i m b c : List ℕ) → length t / pageBytes ≡ pages → saidOf r t i m b c ≡ obeyed settings t i m b c readSysPara) × Ready r ⌝ }
+    ensures { λ r. ⌜ ObeyedPages r settings readSysPara pages ⌝ }
 {
     let s = status(settings.verified);
     let k = settings.sensor as usize;

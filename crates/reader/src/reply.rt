@@ -5,13 +5,14 @@ ghost use mathlib.Core.List.{_∷_};
 ghost use Prim.Native.Nat.{_+_, _-_, _*_, _/_, _≤_, _<_};
 ghost use lib.Dec.{eqb};
 ghost use lib.ListN.{length, take};
-ghost use Rattle.protocol.specs.Numbers.{pageBytes, replyRoom, frameBytes, highestSize, lastPacket, dataPacket};
+ghost use Rattle.protocol.specs.Numbers.{pageBytes, frameBytes, replyRoom, dataPacket, lastPacket, highestSize};
 ghost use Rattle.protocol.specs.Bytes.{lay, joined};
 ghost use Rattle.protocol.specs.Packet.{packet, isIdentifier};
 ghost use Rattle.protocol.specs.Reader.{sizeOf};
 ghost use Rattle.protocol.specs.Data.{acknowledge, packets, dataPackets};
-ghost use Rattle.reader.specs.Answers.{spokenOf, Ready, mostContent, dataRoom, answerBytes};
+ghost use Rattle.reader.specs.Answers.{spokenOf, Ready, listedBytes, contentBytes, uploadBytes};
 use crate::answers::Answer;
+use crate::buffers;
 use protocol::Settings;
 use protocol::numbers;
 use rules::settings;
@@ -19,7 +20,7 @@ use wire::builder;
 
 // A code with 32 bytes behind it.
 fn content_of(code: u8, bytes: [u8; 32]) -> [u8; 33]
-    ensures { λ r. ⌜ (r ≡ code ∷ bytes) × (length r ≡ 33) ⌝ }
+    ensures { λ r. ⌜ (r ≡ code ∷ bytes) × (length r ≡ 1 + listedBytes) ⌝ }
 {
     let mut content = [0u8; 33];
     content[0] = code;
@@ -29,8 +30,8 @@ fn content_of(code: u8, bytes: [u8; 32]) -> [u8; 33]
 
 // Writes an acknowledge at the front of the reply room. Most have a code alone.
 fn put_acknowledge(a: Answer, reply: &mut [u8]) -> usize
-    requires { ⌜ (a .count ≤ answerBytes) × (replyRoom ≤ length (now reply)) ⌝ }
-    ensures { λ r. ⌜ (r ≡ a .count + 12) × (now (reply .exit) ≡ lay 0 (acknowledge (a .settings .address) (a .code) (take (a .count) (a .bytes))) (now (reply .entry))) ⌝ }
+    requires { ⌜ (a .count ≤ listedBytes) × (replyRoom ≤ length (now reply)) ⌝ }
+    ensures { λ r. ⌜ (r ≡ a .count + 1 + frameBytes) × (now (reply .exit) ≡ lay 0 (acknowledge (a .settings .address) (a .code) (take (a .count) (a .bytes))) (now (reply .entry))) ⌝ }
 {
     let n = a.count;
     let s = a.settings;
@@ -70,7 +71,7 @@ fn put_packet(
     address: [u8; 4],
     content: &[u8],
 ) -> usize
-    requires { ⌜ (at + length (now content) + frameBytes ≤ length (now reply)) × ((1 ≤ length (now content)) × ((length (now content) ≤ mostContent) × (isIdentifier identifier ≡ true))) ⌝ }
+    requires { ⌜ (at + length (now content) + frameBytes ≤ length (now reply)) × ((1 ≤ length (now content)) × ((length (now content) ≤ contentBytes) × (isIdentifier identifier ≡ true))) ⌝ }
     ensures { λ r. ⌜ (r ≡ at + length (now (content .entry)) + frameBytes) × (now (reply .exit) ≡ lay at (packet address identifier (now (content .entry))) (now (reply .entry))) ⌝ }
 {
     let e = at + content.len() + numbers::FRAME;
@@ -87,7 +88,7 @@ fn put_data(
     count: usize,
     src: &[u8],
 ) -> usize
-    requires { ⌜ (1 ≤ size) × ((size ≤ mostContent) × ((length (now src) ≡ count * size) × (at + count * (size + frameBytes) ≤ length (now reply)))) ⌝ }
+    requires { ⌜ (1 ≤ size) × ((size ≤ contentBytes) × ((length (now src) ≡ count * size) × (at + count * (size + frameBytes) ≤ length (now reply)))) ⌝ }
     ensures { λ r. ⌜ (r ≡ at + count * (size + frameBytes)) × (now (reply .exit) ≡ lay at (joined (packets address count size (now (src .entry)))) (now (reply .entry))) ⌝ }
 {
     let mut left = count;
@@ -105,7 +106,7 @@ fn put_data(
 
 // Writes the data packets of a buffer behind the acknowledge.
 fn send(settings: Settings, at: usize, src: &[u8], reply: &mut [u8]) -> usize
-    requires { ⌜ (settings .size ≤ highestSize) × ((length (now src) ≡ pageBytes) × (at + dataRoom ≤ length (now reply))) ⌝ }
+    requires { ⌜ (settings .size ≤ highestSize) × ((length (now src) ≡ pageBytes) × (at + uploadBytes ≤ length (now reply))) ⌝ }
     ensures { λ r. ⌜ (r ≡ at + length (dataPackets (settings .address) (sizeOf (settings .size)) (now (src .entry)))) × (now (reply .exit) ≡ lay at (dataPackets (settings .address) (sizeOf (settings .size)) (now (src .entry))) (now (reply .entry))) ⌝ }
 {
     let z = settings::size_of(settings.size);
@@ -127,10 +128,8 @@ pub(crate) fn speak<'a>(a: Answer, b: &'a [u8], c: &'a [u8], reply: &mut [u8]) -
             return n;
         }
         let s = a.settings;
-        if up == 1 {
-            return send(s, n, b, reply);
-        }
-        return send(s, n, c, reply);
+        let src = buffers::chosen(up, b, c);
+        return send(s, n, src, reply);
     }
     0
 }

@@ -1,20 +1,17 @@
 // The commands over the library: Store, LoadChar, DeletChar, Empty, TempleteNum, ReadIndexTable. Each takes only the memory it touches, and
 // its contract is the table's row of every reader that has that memory.
 ghost use mathlib.Core.Path.{_≡_};
-ghost use mathlib.Core.Bool.{cond};
-ghost use mathlib.Core.List.{List};
-ghost use Prim.Native.Nat.{ℕ, _*_, _/_, _%_, _≤_, _<_};
-ghost use lib.Dec.{eqb};
+ghost use Prim.Native.Nat.{_*_, _/_, _≤_, _<_};
 ghost use lib.ListN.{length};
-ghost use Rattle.protocol.specs.Numbers.{pageBytes, highestSize};
+ghost use Rattle.protocol.specs.Numbers.{pageBytes, indexBytes, highestSize};
 ghost use Rattle.protocol.specs.Bytes.{lay};
 ghost use Rattle.protocol.specs.Index.{setBit};
-ghost use Rattle.protocol.specs.Table.{isBuffer};
 ghost use Rattle.protocol.specs.Commands.{store, loadChar, deletChar, empty, templeteNum, readIndexTable};
-ghost use Rattle.reader.specs.Answers.{saidOf, Ready};
-ghost use Rattle.reader.specs.Commands.{obeyed};
+ghost use Rattle.reader.specs.Buffers.{chosenOf};
+ghost use Rattle.reader.specs.Commands.{ObeyedCopy, ObeyedLibrary, ObeyedIndex};
 use crate::answers;
 use crate::answers::Answer;
+use crate::buffers;
 use library::index;
 use library::pages;
 use protocol::Settings;
@@ -22,22 +19,6 @@ use protocol::codes;
 use protocol::numbers;
 use rules::settings;
 use wire::bytes;
-
-pub(crate) fn is_buffer(n: u8) -> bool
-    ensures { λ r. ⌜ r ≡ isBuffer n ⌝ }
-{
-    match n {
-        1 => true,
-        2 => true,
-        _ => false,
-    }
-}
-
-fn chosen<'a>(n: u8, b: &'a [u8], c: &'a [u8]) -> &'a [u8]
-    ensures { λ r. ⌜ now r ≡ cond (eqb n 2) (now (c .entry)) (now (b .entry)) ⌝ }
-{
-    if n == 2 { c } else { b }
-}
 
 // Copies a buffer to a page, and sets the page's bit.
 fn store_now<'a>(
@@ -49,9 +30,9 @@ fn store_now<'a>(
     page: usize,
 )
     requires { ⌜ (length (now b) ≡ pageBytes) × ((length (now c) ≡ pageBytes) × (page < length (now templates) / pageBytes)) ⌝ }
-    ensures { λ _. ⌜ (now (templates .exit) ≡ lay (pageBytes * page) (cond (eqb n 2) (now (c .entry)) (now (b .entry))) (now (templates .entry))) × (now (index .exit) ≡ setBit (now (index .entry)) page) ⌝ }
+    ensures { λ _. ⌜ (now (templates .exit) ≡ lay (pageBytes * page) (chosenOf n (now (b .entry)) (now (c .entry))) (now (templates .entry))) × (now (index .exit) ≡ setBit (now (index .entry)) page) ⌝ }
 {
-    let src = chosen(n, b, c);
+    let src = buffers::chosen(n, b, c);
     pages::write_page(templates, page, src);
     index::set_bit(index, page);
 }
@@ -67,9 +48,9 @@ pub(crate) fn store_page<'a>(
     page: usize,
 ) -> Answer
     requires { ⌜ (length (now b) ≡ pageBytes) × ((length (now c) ≡ pageBytes) × (settings .size ≤ highestSize)) ⌝ }
-    ensures { λ r. ⌜ ((m : List ℕ) → saidOf r (now (templates .exit)) (now (index .exit)) m (now (b .entry)) (now (c .entry)) ≡ obeyed settings (now (templates .entry)) (now (index .entry)) m (now (b .entry)) (now (c .entry)) (store n page)) × Ready r ⌝ }
+    ensures { λ r. ⌜ ObeyedCopy r settings (store n page) (now (templates .entry)) (now (index .entry)) (now (b .entry)) (now (c .entry)) (now (templates .exit)) (now (index .exit)) (now (b .entry)) (now (c .entry)) ⌝ }
 {
-    let known = is_buffer(n);
+    let known = buffers::is_buffer(n);
     if !known {
         return answers::plain(codes::BAD_PACKET, settings);
     }
@@ -95,9 +76,9 @@ pub(crate) fn load_page(
     page: usize,
 ) -> Answer
     requires { ⌜ (length (now buffer1) ≡ pageBytes) × ((length (now buffer2) ≡ pageBytes) × (settings .size ≤ highestSize)) ⌝ }
-    ensures { λ r. ⌜ ((m : List ℕ) → saidOf r (now (templates .entry)) (now (index .entry)) m (now (buffer1 .exit)) (now (buffer2 .exit)) ≡ obeyed settings (now (templates .entry)) (now (index .entry)) m (now (buffer1 .entry)) (now (buffer2 .entry)) (loadChar n page)) × Ready r ⌝ }
+    ensures { λ r. ⌜ ObeyedCopy r settings (loadChar n page) (now (templates .entry)) (now (index .entry)) (now (buffer1 .entry)) (now (buffer2 .entry)) (now (templates .entry)) (now (index .entry)) (now (buffer1 .exit)) (now (buffer2 .exit)) ⌝ }
 {
-    let known = is_buffer(n);
+    let known = buffers::is_buffer(n);
     if !known {
         return answers::plain(codes::BAD_PACKET, settings);
     }
@@ -108,21 +89,11 @@ pub(crate) fn load_page(
     if !there {
         return answers::plain(codes::NOTHING_THERE, settings);
     }
-    if n == 2 {
-        pages::read_page(buffer2, templates, page);
-        return answers::plain(
-            codes::DONE,
-            settings::filled(settings, settings.filled1, true),
-        );
-    }
-    pages::read_page(buffer1, templates, page);
-    answers::plain(
-        codes::DONE,
-        settings::filled(settings, true, settings.filled2),
-    )
+    buffers::load(n, buffer1, buffer2, templates, page);
+    answers::plain(codes::DONE, buffers::mark(settings, n, true))
 }
 
-// DeletChar (page, n). The sum of two 16-bit numbers is taken in full.
+// DeletChar (page, n).
 pub(crate) fn delete_pages(
     settings: Settings,
     templates: &mut [u8],
@@ -131,13 +102,10 @@ pub(crate) fn delete_pages(
     n: usize,
 ) -> Answer
     requires { ⌜ (settings .size ≤ highestSize) × ((page < 65536) × (n < 65536)) ⌝ }
-    ensures { λ r. ⌜ ((m b c : List ℕ) → saidOf r (now (templates .exit)) (now (index .exit)) m b c ≡ obeyed settings (now (templates .entry)) (now (index .entry)) m b c (deletChar page n)) × Ready r ⌝ }
+    ensures { λ r. ⌜ ObeyedLibrary r settings (deletChar page n) (now (templates .entry)) (now (index .entry)) (now (templates .exit)) (now (index .exit)) ⌝ }
 {
-    let pages = templates.len() / numbers::PAGE;
-    if pages <= page {
-        return answers::plain(codes::BAD_RANGE, settings);
-    }
-    if pages < page + n {
+    let there = pages::is_span(page as u16, n as u16, templates.len() / numbers::PAGE);
+    if !there {
         return answers::plain(codes::BAD_RANGE, settings);
     }
     pages::zero_pages(templates, page as u16, n as u16);
@@ -148,19 +116,19 @@ pub(crate) fn delete_pages(
 // Empty.
 pub(crate) fn empty_all(settings: Settings, templates: &mut [u8], index: &mut [u8]) -> Answer
     requires { ⌜ settings .size ≤ highestSize ⌝ }
-    ensures { λ r. ⌜ ((m b c : List ℕ) → saidOf r (now (templates .exit)) (now (index .exit)) m b c ≡ obeyed settings (now (templates .entry)) (now (index .entry)) m b c empty) × Ready r ⌝ }
+    ensures { λ r. ⌜ ObeyedLibrary r settings empty (now (templates .entry)) (now (index .entry)) (now (templates .exit)) (now (index .exit)) ⌝ }
 {
-    pages::zero(templates);
-    pages::zero(index);
+    bytes::zero(templates);
+    bytes::zero(index);
     answers::plain(codes::DONE, settings)
 }
 
 // TempleteNum.
 pub(crate) fn count_pages(settings: Settings, index: &[u8]) -> Answer
-    requires { ⌜ (length (now index) ≡ 32) × (settings .size ≤ highestSize) ⌝ }
-    ensures { λ r. ⌜ ((t m b c : List ℕ) → saidOf r t (now (index .entry)) m b c ≡ obeyed settings t (now (index .entry)) m b c templeteNum) × Ready r ⌝ }
+    requires { ⌜ (length (now index) ≡ indexBytes) × (settings .size ≤ highestSize) ⌝ }
+    ensures { λ r. ⌜ ObeyedIndex r settings templeteNum (now (index .entry)) ⌝ }
 {
-    let n = index::count(index, 32);
+    let n = index::count(index, numbers::INDEX as u8);
     let mut bytes = [0u8; 32];
     bytes[0] = (n / 256) as u8;
     bytes[1] = (n % 256) as u8;
@@ -170,15 +138,7 @@ pub(crate) fn count_pages(settings: Settings, index: &[u8]) -> Answer
 // ReadIndexTable (page).
 pub(crate) fn read_index(settings: Settings, index: &[u8], page: u8) -> Answer
     requires { ⌜ settings .size ≤ highestSize ⌝ }
-    ensures { λ r. ⌜ ((t m b c : List ℕ) → saidOf r t (now (index .entry)) m b c ≡ obeyed settings t (now (index .entry)) m b c (readIndexTable page)) × Ready r ⌝ }
+    ensures { λ r. ⌜ ObeyedIndex r settings (readIndexTable page) (now (index .entry)) ⌝ }
 {
-    let p = bytes::wide(page);
-    if index.len() / numbers::INDEX_PAGE <= p {
-        return answers::plain(codes::BAD_PAGE, settings);
-    }
-    let a = numbers::INDEX_PAGE * p;
-    let e = a + numbers::INDEX_PAGE;
-    let mut bytes = [0u8; 32];
-    bytes::put(&mut bytes, &index[a..e]);
-    answers::listed(bytes, 32, settings)
+    answers::page_of(settings, index, page, codes::BAD_PAGE)
 }

@@ -1,8 +1,8 @@
-// Bytes: widened, summed, compared, and copied.
+// Bytes: widened, summed, compared, copied, and zeroed.
 ghost use mathlib.Core.Path.{_≡_};
 ghost use Prim.Native.Nat.{_+_, _%_, _≤_, _<_};
 ghost use lib.ListN.{length};
-ghost use Rattle.protocol.specs.Bytes.{total, same};
+ghost use Rattle.protocol.specs.Bytes.{zeros, total, same};
 ghost use Rattle.wire.specs.Laying.{layFront, Laid};
 
 // A byte as a number.
@@ -53,5 +53,16 @@ pub fn put(dst: &mut [u8], src: &[u8])
 {
     if src.len() <= dst.len() {
         lay_at(dst, 0, src);
+    }
+}
+
+// Zeroes a slice.
+pub fn zero(s: &mut [u8])
+    ensures { λ _. ⌜ now (s .exit) ≡ zeros (length (now (s .entry))) ⌝ }
+{
+    let mut i = 0;
+    while i < s.len() {
+        s[i] = 0;
+        i += 1;
     }
 }

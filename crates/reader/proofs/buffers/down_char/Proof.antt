@@ -1,26 +1,48 @@
--- Each return is the row's value, by the tests that led there.
+-- A number that names no buffer; otherwise its buffer is wiped, its mark cleared, and a transfer into it opened.
+use mathlib.Core.Path.{_≡_, sym, ap, _∙_}
+use mathlib.Core.Bool.{Bool, false, not}
+use mathlib.Core.List.{List, []}
+use Prim.Native.Nat.{ℕ}
+use lib.Dec.{eqb}
 use lib.ListN.{length}
-use denote.Ref.{now}
-use borrow.Author.Tests.{ne-eqb}
-use native.Mathlib.Omega.{arith}
-use Prim.Native.Nat.{zero, _-_}
-use mathlib.Core.Path.{_≡_}
-use borrow.Author.Needs.{needs}
+use Rattle.protocol.specs.declared.Settings.{Settings}
+use Rattle.protocol.specs.Numbers.{pageBytes, done}
 use Rattle.protocol.specs.Tests.{verdict}
-use Rattle.protocol.specs.Bytes.{follow}
-use Rattle.protocol.specs.Reader.{capacity, emptied, withTransfer, withBuffer}
-use Rattle.protocol.specs.Table.{apply, rule}
-use Rattle.protocol.specs.Step.{says, carry, carryAs}
+use Rattle.protocol.specs.Bytes.{zeros, follow}
+use Rattle.protocol.specs.Reader.{opened, Reader}
+use Rattle.protocol.specs.Data.{acknowledge}
+use Rattle.protocol.specs.Table.{apply, rule, isBuffer}
+use Rattle.protocol.specs.Commands.{downChar}
+use Rattle.protocol.specs.Step.{carry, carryAs}
 use Rattle.protocol.specs.Records.{transferOf}
-use Rattle.reader.specs.Answers.{sent}
-use Rattle.protocol.proofs.Laws.Logic.{not-true, not-false}
+use Rattle.protocol.proofs.Laws.Logic.{not-false}
+use Rattle.reader.specs.declared.answers.Answer.{Answer}
+use Rattle.reader.specs.Answers.{codeAlone, sent, saidOf}
+use Rattle.reader.specs.Buffers.{buffers, changed, withFill}
+use Rattle.reader.specs.Commands.{obeyed}
+use Rattle.rules.specs.Settings.{withTransfer}
+use Rattle.reader.proofs.Ready.{ready-alone, size-filled, size-moved}
+use Rattle.reader.proofs.ByNumber.{no-buffer, opened-at, wiped}
+use borrow.Author.Needs.{needs}
 use Rattle.reader.proofs.buffers.down_char.Statement.{statement}
 use Rattle.reader.proofs.buffers.down_char.Tie as tie
-use Rattle.reader.proofs.buffers.down_char.Reads as reads
-use Rattle.reader.proofs.buffers.down_char.Lts as lts
-use Rattle.library.proofs.pages.zero.Reads as zero-reads
-use Rattle.reader.proofs.answers.plain.Reads as plain-reads
-use Rattle.reader.proofs.stored.is_buffer.Reads as is-buffer-reads
+
+module _ (s : Settings) (t i m b d : List ℕ) (n : ℕ) (a : Answer) (known : Bool) (k : known ≡ isBuffer n) where
+  awaits : (q o : Settings) (x y : List ℕ) → a ≡ codeAlone done q → q ≡ withTransfer n 0 o → o ≡ withFill n false s
+      → buffers x y ≡ changed n (λ (z : List ℕ). zeros (length z)) b d → length b ≡ pageBytes → length d ≡ pageBytes → not known ≡ false
+      → saidOf a t i m x y ≡ obeyed s t i m b d (downChar n)
+  unfolding carry carryAs rule verdict follow sent apply
+  awaits q o x y e f g r l w h =
+      let v : transferOf n 0 ≡ opened (eqb n 2) 0 = opened-at n 0 (sym k ∙ not-false known h) in
+      let u = rw v at (wiped n n 0 s o q t i m b d x y f g r l w) in
+      rw (e, ← k, not-false known h) (ap (λ (z : Reader). record { reply = acknowledge (z .plain .address) done []; after = z }) u)
+
+-- the start and the test, from where the number is known to name a buffer
+unfoldable start : tie.Else1 → tie.Start
+start c = search
+
+unfoldable asked : tie.Else1 → tie.After-is-buffer
+asked c = search
 
 is-buffer-requires : tie.Need-is-buffer-requires
 is-buffer-requires c κs = search needs
@@ -29,14 +51,14 @@ plain-requires : tie.Need-plain-requires
 plain-requires c κs = search needs
 
 returns : tie.Need-returns
-unfolding carry carryAs rule verdict capacity says follow sent
-returns c = (λ t i m. rw (c .plain .ensures, ← c .before .before .is-buffer .ensures, not-true (c .before .before .is-buffer .result) (c .before .if1 .taken)), rw (c .plain .ensures) (record { few = omega arith; size = c .before .before .before .before .before .pre .1 .1 }))
+unfolding rule
+returns c = record { said = λ t i m. search no-buffer; ready = search ready-alone }
 
-zero-requires : tie.Need-zero-requires
-zero-requires c κs = search needs
+wipe-requires : tie.Need-wipe-requires
+wipe-requires c κs = search needs
 
-filled-requires : tie.Need-filled-requires
-filled-requires c κs = search needs
+mark-requires : tie.Need-mark-requires
+mark-requires c κs = search needs
 
 moved-requires : tie.Need-moved-requires
 moved-requires c κs = search needs
@@ -47,32 +69,15 @@ plain-requires-2 c κs = search needs
 same-length : tie.Need-same-length
 same-length c = search needs
 
-returns-2 : tie.Need-returns-2
-unfolding carry carryAs rule verdict capacity says follow sent apply withBuffer emptied withTransfer transferOf
-returns-2 c =
-    let e : length (now (c .before .before .before .before .before .before .before .before .before .before .before .before .args .buffer2)) ≡ 512 = c .before .before .before .before .before .before .before .before .before .before .before .before .pre .1 .0 in
-    (λ t i m. rw (c .plain2 .ensures, c .before .moved .ensures, c .before .before .filled .ensures, c .before .before .before .before .before .zero .ensures, e, ← c .before .before .before .before .before .before .before .before .before .is-buffer .ensures, not-false (c .before .before .before .before .before .before .before .before .before .is-buffer .result) (c .before .before .before .before .before .before .before .before .if1 .left), c .before .before .before .before .before .before .before .if2 .taken), rw (c .plain2 .ensures, c .before .moved .ensures, c .before .before .filled .ensures) (record { few = omega arith; size = c .before .before .before .before .before .before .before .before .before .before .before .before .pre .1 .1 }))
-
-zero-requires-2 : tie.Need-zero-requires-2
-zero-requires-2 c κs = search needs
-
-filled-requires-2 : tie.Need-filled-requires-2
-filled-requires-2 c κs = search needs
-
-moved-requires-2 : tie.Need-moved-requires-2
-moved-requires-2 c κs = search needs
-
-plain-requires-3 : tie.Need-plain-requires-3
-plain-requires-3 c κs = search needs
-
 same-length-2 : tie.Need-same-length-2
 same-length-2 c = search needs
 
-returns-3 : tie.Need-returns-3
-unfolding carry carryAs rule verdict capacity says follow sent apply withBuffer emptied withTransfer transferOf
-returns-3 c =
-    let e : length (now (c .before .before .before .before .before .before .before .before .before .before .before .before .args .buffer1)) ≡ 512 = c .before .before .before .before .before .before .before .before .before .before .before .before .pre .0 in
-    (λ t i m. rw (c .plain3 .ensures, c .before .moved2 .ensures, c .before .before .filled2 .ensures, c .before .before .before .before .before .zero2 .ensures, e, ← c .before .before .before .before .before .before .before .before .before .is-buffer .ensures, not-false (c .before .before .before .before .before .before .before .before .before .is-buffer .result) (c .before .before .before .before .before .before .before .before .if1 .left), ne-eqb _ _ (c .before .before .before .before .before .before .before .if2 .left)), rw (c .plain3 .ensures, c .before .moved2 .ensures, c .before .before .filled2 .ensures) (record { few = omega arith; size = c .before .before .before .before .before .before .before .before .before .before .before .before .pre .1 .1 }))
+returns-2 : tie.Need-returns-2
+unfolding start asked
+returns-2 c =
+    let p = (let s : tie.Start = search start in s .pre) in
+    let k = (let a : tie.After-is-buffer = search asked in a .is-buffer .ensures) in
+    record { said = λ t i m. search awaits; ready = search (ready-alone, size-moved, size-filled) }
 
 pub down-char-spec : {M : Type 1} → statement M
 down-char-spec =
@@ -81,15 +86,10 @@ down-char-spec =
     is-buffer-requires
     plain-requires
     returns
-    zero-requires
-    filled-requires
+    wipe-requires
+    mark-requires
     moved-requires
     plain-requires-2
     same-length
-    returns-2
-    zero-requires-2
-    filled-requires-2
-    moved-requires-2
-    plain-requires-3
     same-length-2
-    returns-3)
+    returns-2)

@@ -1,23 +1,39 @@
--- Each return is the row's value, by the tests that led there.
-use borrow.Author.Tests.{ne-eqb}
-use native.Mathlib.Omega.{arith}
-use Prim.Native.Nat.{_-_}
-use borrow.Author.Needs.{needs}
+-- A number that names no buffer, a buffer that is not filled, and otherwise 00h with the buffer behind it.
+use mathlib.Core.Path.{_≡_, sym, _∙_}
+use mathlib.Core.Bool.{Bool, true, false, not, cond}
+use mathlib.Core.List.{List}
+use Prim.Native.Nat.{ℕ}
+use lib.Dec.{eqb}
+use Rattle.protocol.specs.declared.Settings.{Settings}
+use Rattle.protocol.specs.Numbers.{nothingToSend}
 use Rattle.protocol.specs.Tests.{verdict}
-use Rattle.protocol.specs.Bytes.{follow}
-use Rattle.protocol.specs.Reader.{capacity, bufferOf}
-use Rattle.protocol.specs.Table.{apply, rule}
+use Rattle.protocol.specs.Bytes.{zeros, follow}
+use Rattle.protocol.specs.Reader.{bufferOf}
+use Rattle.protocol.specs.Table.{apply, rule, isBuffer}
+use Rattle.protocol.specs.Commands.{upChar}
 use Rattle.protocol.specs.Step.{says, carry, carryAs}
-use Rattle.reader.specs.Answers.{sent}
-use Rattle.reader.proofs.Laws.{chosen-filled}
 use Rattle.protocol.proofs.Laws.Logic.{not-true, not-false}
+use Rattle.reader.specs.declared.answers.Answer.{Answer}
+use Rattle.reader.specs.Answers.{answerOf, codeAlone, sent, saidOf, listedBytes}
+use Rattle.reader.specs.Commands.{obeyed}
+use Rattle.reader.proofs.Laws.{chosen-filled, chosen-bytes}
+use Rattle.reader.proofs.Ready.{ready-alone, ready-sending}
+use Rattle.reader.proofs.ByNumber.{no-buffer, not-none}
+use borrow.Author.Needs.{needs}
 use Rattle.reader.proofs.buffers.up_char.Statement.{statement}
 use Rattle.reader.proofs.buffers.up_char.Tie as tie
-use Rattle.reader.proofs.buffers.up_char.Reads as reads
-use Rattle.reader.proofs.buffers.up_char.Lts as lts
-use Rattle.reader.proofs.answers.plain.Reads as plain-reads
-use Rattle.reader.proofs.answers.sending.Reads as sending-reads
-use Rattle.reader.proofs.stored.is_buffer.Reads as is-buffer-reads
+
+module _ (s : Settings) (t i m b d : List ℕ) (n : ℕ) (a : Answer) (known : Bool) (k : known ≡ isBuffer n) (f : not known ≡ false)
+    (full : Bool) (l : full ≡ cond (eqb n 2) (s .filled2) (s .filled1)) where
+  not-filled : a ≡ codeAlone nothingToSend s → not full ≡ true → saidOf a t i m b d ≡ obeyed s t i m b d (upChar n)
+  unfolding carry carryAs rule verdict says follow sent bufferOf
+  not-filled e g = rw (e, ← k, not-false known f, chosen-filled, ← l, not-true full g)
+
+  goes-up : a ≡ answerOf true 0 0 (zeros listedBytes) n s → not full ≡ false → saidOf a t i m b d ≡ obeyed s t i m b d (upChar n)
+  unfolding carry carryAs rule verdict says sent apply bufferOf
+  goes-up e g =
+      let some : eqb n 0 ≡ false = not-none n (sym k ∙ not-false known f) in
+      rw (e, some, ← k, not-false known f, chosen-filled, chosen-bytes, ← l, not-false full g)
 
 is-buffer-requires : tie.Need-is-buffer-requires
 is-buffer-requires c κs = search needs
@@ -26,8 +42,8 @@ plain-requires : tie.Need-plain-requires
 plain-requires c κs = search needs
 
 returns : tie.Need-returns
-unfolding carry carryAs rule verdict capacity says follow sent
-returns c = (λ t i m b d. rw (c .plain .ensures, ← c .before .before .is-buffer .ensures, not-true (c .before .before .is-buffer .result) (c .before .if1 .taken)), rw (c .plain .ensures) (record { few = omega arith; size = omega arith }))
+unfolding rule
+returns c = record { said = λ t i m b d. search no-buffer; ready = search ready-alone }
 
 filled-of-requires : tie.Need-filled-of-requires
 filled-of-requires c κs = search needs
@@ -36,22 +52,13 @@ plain-requires-2 : tie.Need-plain-requires-2
 plain-requires-2 c κs = search needs
 
 returns-2 : tie.Need-returns-2
-unfolding carry carryAs rule verdict capacity says follow sent bufferOf
-returns-2 c = (λ t i m b d. rw (c .plain2 .ensures, ← c .before .before .before .before .is-buffer .ensures, not-false (c .before .before .before .before .is-buffer .result) (c .before .before .before .if1 .left), chosen-filled, ← c .before .before .filled-of .ensures, not-true (c .before .before .filled-of .result) (c .before .if2 .taken)), rw (c .plain2 .ensures) (record { few = omega arith; size = omega arith }))
+returns-2 c = record { said = λ t i m b d. search not-filled; ready = search ready-alone }
 
 sending-requires : tie.Need-sending-requires
 sending-requires c κs = search needs
 
 returns-3 : tie.Need-returns-3
-unfolding carry carryAs rule verdict capacity says follow sent apply bufferOf
-returns-3 c = (λ t i m b d. rw (c .sending .ensures, ← c .before .before .before .before .before .is-buffer .ensures, not-false (c .before .before .before .before .before .is-buffer .result) (c .before .before .before .before .if1 .left), chosen-filled, ← c .before .before .before .filled-of .ensures, not-false (c .before .before .before .filled-of .result) (c .before .before .if2 .left), c .before .if3 .taken), rw (c .sending .ensures) (record { few = omega arith; size = omega arith }))
-
-sending-requires-2 : tie.Need-sending-requires-2
-sending-requires-2 c κs = search needs
-
-returns-4 : tie.Need-returns-4
-unfolding carry carryAs rule verdict capacity says follow sent apply bufferOf
-returns-4 c = (λ t i m b d. rw (c .sending2 .ensures, ← c .before .before .before .before .before .is-buffer .ensures, not-false (c .before .before .before .before .before .is-buffer .result) (c .before .before .before .before .if1 .left), chosen-filled, ← c .before .before .before .filled-of .ensures, not-false (c .before .before .before .filled-of .result) (c .before .before .if2 .left), ne-eqb _ _ (c .before .if3 .left)), rw (c .sending2 .ensures) (record { few = omega arith; size = omega arith }))
+returns-3 c = record { said = λ t i m b d. search goes-up; ready = search ready-sending }
 
 pub up-char-spec : {M : Type 1} → statement M
 up-char-spec =
@@ -64,6 +71,4 @@ up-char-spec =
     plain-requires-2
     returns-2
     sending-requires
-    returns-3
-    sending-requires-2
-    returns-4)
+    returns-3)

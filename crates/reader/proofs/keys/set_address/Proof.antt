@@ -1,21 +1,30 @@
--- The four bytes behind the code.
-use denote.Ref.{now}
-use native.Mathlib.Omega.{arith}
-use Prim.Native.Nat.{_-_}
-use borrow.Author.Needs.{needs}
+-- The address is the four bytes behind the code.
+use mathlib.Core.Path.{_≡_, _∙_}
+use mathlib.Core.List.{List}
+use Prim.Native.Nat.{ℕ, _+_}
+use lib.ListN.{length, drop}
+use Rattle.protocol.specs.declared.Settings.{Settings}
+use Rattle.protocol.specs.Numbers.{fourBytes, done}
 use Rattle.protocol.specs.Tests.{verdict}
-use Rattle.protocol.specs.Bytes.{follow}
-use Rattle.protocol.specs.Reader.{capacity, withAddress}
+use Rattle.protocol.specs.Bytes.{part, follow}
+use Rattle.protocol.specs.Reader as readers
 use Rattle.protocol.specs.Table.{apply, rule}
-use Rattle.protocol.specs.Step.{says, carry, carryAs}
-use Rattle.reader.specs.Answers.{sent}
+use Rattle.protocol.specs.Commands.{setAddress}
+use Rattle.protocol.specs.Step.{carry, carryAs}
+use Rattle.reader.specs.declared.answers.Answer.{Answer}
+use Rattle.reader.specs.Answers.{codeAlone, sent, saidOf}
+use Rattle.reader.specs.Commands.{obeyed}
+use Rattle.rules.specs.Settings.{withAddress}
 use Rattle.reader.proofs.Laws.{take-rest}
+use Rattle.reader.proofs.Ready.{ready-alone, size-address}
+use borrow.Author.Needs.{needs}
 use Rattle.reader.proofs.keys.set_address.Statement.{statement}
 use Rattle.reader.proofs.keys.set_address.Tie as tie
-use Rattle.reader.proofs.keys.set_address.Reads as reads
-use Rattle.reader.proofs.keys.set_address.Lts as lts
-use Rattle.reader.proofs.answers.plain.Reads as plain-reads
-use Rattle.reader.proofs.bytes.four_at.Reads as four-at-reads
+
+address-set : (s q : Settings) (t i m b d x w : List ℕ) (a : Answer) → a ≡ codeAlone done q → q ≡ withAddress w s → w ≡ part 1 fourBytes x → length x ≡ 1 + fourBytes
+    → saidOf a t i m b d ≡ obeyed s t i m b d (setAddress (drop 1 x))
+unfolding carry carryAs rule verdict follow sent apply readers.withAddress
+address-set s q t i m b d x w a e o f h = rw (e, o, f ∙ take-rest 1 fourBytes x h)
 
 four-at-requires : tie.Need-four-at-requires
 four-at-requires c κs = search needs
@@ -27,11 +36,13 @@ plain-requires : tie.Need-plain-requires
 plain-requires c κs = search needs
 
 returns : tie.Need-returns
-unfolding carry carryAs rule verdict capacity says follow sent apply withAddress
-returns c =
-    let w = take-rest 1 4 (now (c .before .before .before .before .args .content)) (omega arith) in
-    (λ t i m b d. rw (c .plain .ensures, c .before .with-address .ensures, c .before .before .four-at .ensures .0, w), rw (c .plain .ensures, c .before .with-address .ensures) (record { few = omega arith; size = c .before .before .before .before .pre .1 }))
+returns c = record { said = λ t i m b d. search address-set; ready = search (ready-alone, size-address) }
 
 pub set-address-spec : {M : Type 1} → statement M
 set-address-spec =
-    tie.close (tie.spec four-at-requires with-address-requires plain-requires returns)
+    tie.close
+    (tie.spec
+    four-at-requires
+    with-address-requires
+    plain-requires
+    returns)

@@ -1,22 +1,37 @@
--- Each return is the row's value, by the tests that led there.
-use denote.Ref.{now}
-use native.Mathlib.Omega.{arith}
-use Prim.Native.Nat.{_-_}
-use mathlib.Core.Path.{sym, _∙_}
-use borrow.Author.Needs.{needs}
-use Rattle.protocol.specs.Bytes.{follow}
-use Rattle.protocol.specs.Reader.{withMark}
+-- The verified mark says whether the four bytes behind the code are the password.
+use mathlib.Core.Path.{_≡_, sym, _∙_}
+use mathlib.Core.Bool.{Bool, true, false}
+use mathlib.Core.List.{List}
+use Prim.Native.Nat.{ℕ, _+_}
+use lib.ListN.{length, drop}
+use Rattle.protocol.specs.declared.Settings.{Settings}
+use Rattle.protocol.specs.Numbers.{fourBytes, done, wrongPassword}
+use Rattle.protocol.specs.Bytes.{part, follow, same}
+use Rattle.protocol.specs.Reader as readers
 use Rattle.protocol.specs.Table.{freeRule, publicOf}
+use Rattle.protocol.specs.Commands.{verifyPassword}
 use Rattle.protocol.specs.Step.{carryFree}
-use Rattle.reader.specs.Answers.{sent}
+use Rattle.reader.specs.declared.answers.Answer.{Answer}
+use Rattle.reader.specs.Answers.{codeAlone, sent, saidOf}
+use Rattle.reader.specs.Commands.{freed}
+use Rattle.rules.specs.Settings.{withMark}
 use Rattle.reader.proofs.Laws.{take-rest}
+use Rattle.reader.proofs.Ready.{ready-alone, size-mark}
+use borrow.Author.Needs.{needs}
 use Rattle.reader.proofs.keys.verify_password.Statement.{statement}
 use Rattle.reader.proofs.keys.verify_password.Tie as tie
-use Rattle.reader.proofs.keys.verify_password.Reads as reads
-use Rattle.reader.proofs.keys.verify_password.Lts as lts
-use Rattle.reader.proofs.answers.plain.Reads as plain-reads
-use Rattle.reader.proofs.bytes.four_at.Reads as four-at-reads
-use Rattle.wire.proofs.bytes.is_same.Reads as is-same-reads
+
+module _ (s q : Settings) (t i m b d x w : List ℕ) (a : Answer) (f : w ≡ part 1 fourBytes x) (h : length x ≡ 1 + fourBytes) (equal : Bool) (e : equal ≡ same w (s .password)) where
+  known : same (drop 1 x) (s .password) ≡ equal
+  known = rw (← take-rest 1 fourBytes x h, ← f) (sym e)
+
+  verified : a ≡ codeAlone done q → q ≡ withMark true s → equal ≡ true → saidOf a t i m b d ≡ freed s t i m b d (verifyPassword (drop 1 x))
+  unfolding carryFree freeRule publicOf readers.withMark follow sent
+  verified g o z = rw (g, o, known ∙ z)
+
+  refused : a ≡ codeAlone wrongPassword q → q ≡ withMark false s → equal ≡ false → saidOf a t i m b d ≡ freed s t i m b d (verifyPassword (drop 1 x))
+  unfolding carryFree freeRule publicOf readers.withMark follow sent
+  refused g o z = rw (g, o, known ∙ z)
 
 four-at-requires : tie.Need-four-at-requires
 four-at-requires c κs = search needs
@@ -31,11 +46,7 @@ plain-requires : tie.Need-plain-requires
 plain-requires c κs = search needs
 
 returns : tie.Need-returns
-unfolding carryFree freeRule publicOf withMark follow sent
-returns c =
-    let w = take-rest 1 4 (now (c .before .before .before .before .before .before .before .args .content)) (omega arith) in
-    let e = sym (c .before .before .before .is-same .ensures) ∙ c .before .before .if1 .taken in
-    (λ t i m b d. rw (c .plain .ensures, c .before .marked .ensures, ← w, ← c .before .before .before .before .before .four-at .ensures .0, e), rw (c .plain .ensures, c .before .marked .ensures) (record { few = omega arith; size = c .before .before .before .before .before .before .before .pre .1 }))
+returns c = record { said = λ t i m b d. search verified; ready = search (ready-alone, size-mark) }
 
 marked-requires-2 : tie.Need-marked-requires-2
 marked-requires-2 c κs = search needs
@@ -44,11 +55,7 @@ plain-requires-2 : tie.Need-plain-requires-2
 plain-requires-2 c κs = search needs
 
 returns-2 : tie.Need-returns-2
-unfolding carryFree freeRule publicOf withMark follow sent
-returns-2 c =
-    let w = take-rest 1 4 (now (c .before .before .before .before .before .before .before .args .content)) (omega arith) in
-    let e = sym (c .before .before .before .is-same .ensures) ∙ c .before .before .if1 .left in
-    (λ t i m b d. rw (c .plain2 .ensures, c .before .marked2 .ensures, ← w, ← c .before .before .before .before .before .four-at .ensures .0, e), rw (c .plain2 .ensures, c .before .marked2 .ensures) (record { few = omega arith; size = c .before .before .before .before .before .before .before .pre .1 }))
+returns-2 c = record { said = λ t i m b d. search refused; ready = search (ready-alone, size-mark) }
 
 pub verify-password-spec : {M : Type 1} → statement M
 verify-password-spec =

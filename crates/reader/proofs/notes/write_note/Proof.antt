@@ -1,21 +1,46 @@
--- Each return is the row's value, by the tests that led there.
-use lib.ListN.{length, take, drop, length-take, length-drop}
-use denote.Ref.{now}
-use borrow.Author.Tests.{lt-ltb, le-ltb}
-use native.Mathlib.Omega.{arith}
-use Prim.Native.Nat.{_+_, _-_, _*_, _≤_}
+-- A page that is not there is 1Ch; otherwise its part of the notepad comes back with the 32 bytes behind the page number.
 use mathlib.Core.Path.{_≡_, ap, _∙_}
-use borrow.Author.Needs.{needs}
+use mathlib.Core.List.{List}
+use Prim.Native.Nat.{ℕ, _+_, _-_, _*_, _/_, _<_, _≤_}
+use native.Mathlib.Omega.{arith}
+use lib.ListN.{length, take, drop, replicate, length-take, length-drop}
+use borrow.Author.Tests.{lt-ltb, le-ltb}
+use borrow.Rule.Slice.PartMut.{putMid}
+use Rattle.protocol.specs.declared.Settings.{Settings}
+use Rattle.protocol.specs.Numbers.{noteBytes, done, badNotePage}
 use Rattle.protocol.specs.Tests.{verdict}
-use Rattle.protocol.specs.Bytes.{follow}
-use Rattle.protocol.specs.Reader.{capacity, withNotepad}
+use Rattle.protocol.specs.Bytes.{byteAt, follow}
+use Rattle.protocol.specs.Reader.{withNotepad}
 use Rattle.protocol.specs.Table.{apply, rule}
+use Rattle.protocol.specs.Commands.{writeNotepad}
 use Rattle.protocol.specs.Step.{says, carry, carryAs}
-use Rattle.reader.specs.Answers.{sent}
-use Rattle.reader.proofs.Laws.{take-rest}
+use Rattle.wire.specs.Laying.{layFront}
 use Rattle.library.proofs.Parts.{put-whole, part-put}
+use Rattle.reader.specs.declared.answers.Answer.{Answer}
+use Rattle.reader.specs.Answers.{codeAlone, sent, saidOf}
+use Rattle.reader.specs.Commands.{obeyed}
+use Rattle.reader.proofs.Laws.{take-rest}
+use Rattle.reader.proofs.Ready.{ready-alone}
+use borrow.Author.Needs.{needs}
 use Rattle.reader.proofs.notes.write_note.Statement.{statement}
 use Rattle.reader.proofs.notes.write_note.Tie as tie
+
+module _ (s : Settings) (t i n b d x : List ℕ) (a : Answer) (w : ℕ) (e : w ≡ byteAt x 1) where
+  no-note : a ≡ codeAlone badNotePage s → length n / noteBytes ≤ w → saidOf a t i n b d ≡ obeyed s t i n b d (writeNotepad (byteAt x 1) (drop 2 x))
+  unfolding carry carryAs rule verdict says follow sent
+  no-note f h = rw (f, ← e, le-ltb _ _ h)
+
+  noted : (y z : List ℕ) → a ≡ codeAlone done s → w < length n / noteBytes → length x ≡ 2 + noteBytes → y ≡ layFront (take (34 - 2) (drop 2 x)) (replicate noteBytes 0)
+      → z ≡ layFront y (take (noteBytes * w + noteBytes - noteBytes * w) (drop (noteBytes * w) n))
+      → saidOf a t i (putMid (noteBytes * w) (noteBytes * w + noteBytes - noteBytes * w) n z) b d ≡ obeyed s t i n b d (writeNotepad (byteAt x 1) (drop 2 x))
+  unfolding carry carryAs rule verdict follow sent apply withNotepad
+  noted y z f h l g k =
+      let v : take noteBytes (drop 2 x) ≡ drop 2 x = take-rest 2 noteBytes x l in
+      let u : length (take noteBytes (drop 2 x)) ≡ noteBytes = simp (length-take, length-drop) (omega arith) in
+      let o : y ≡ take noteBytes (drop 2 x) = put-whole (take noteBytes (drop 2 x)) (replicate noteBytes 0) y u g in
+      let p : noteBytes * w + noteBytes ≤ length n = omega arith in
+      let r = part-put (noteBytes * w) noteBytes n y z (ap length o ∙ u) p k in
+      rw (f, r, o, v, ← e, lt-ltb _ _ h)
 
 shared-slice-read-wide : tie.Need-shared-slice-read-wide
 shared-slice-read-wide c = search needs
@@ -27,8 +52,7 @@ plain-requires : tie.Need-plain-requires
 plain-requires c κs = search needs
 
 returns : tie.Need-returns
-unfolding carry carryAs rule verdict capacity says follow sent
-returns c = (λ t i b d. rw (c .plain .ensures, ← c .before .before .wide .ensures .0, le-ltb _ _ (c .before .if1 .taken)), rw (c .plain .ensures) (record { few = omega arith; size = c .before .before .before .before .before .before .pre .1 }))
+returns c = record { said = λ t i b d. search no-note; ready = search ready-alone }
 
 mul-a : tie.Need-mul-a
 mul-a c = search needs
@@ -73,16 +97,7 @@ same-length : tie.Need-same-length
 same-length c = search needs
 
 returns-2 : tie.Need-returns-2
-unfolding carry carryAs rule verdict capacity says follow sent apply withNotepad
-returns-2 c =
-    let a = c .before .before .before .before .before .before .before .before .before .before .before .before .before .before .before .args in
-    let p = c .before .before .before .before .before .before .before .before .before .before .before .wide .result in
-    let w : take (34 - 2) (drop 2 (now (a .content))) ≡ drop 2 (now (a .content)) = take-rest 2 32 (now (a .content)) (c .before .before .before .before .before .before .before .before .before .before .before .before .before .before .before .pre .0) in
-    let l : length (take (34 - 2) (drop 2 (now (a .content)))) ≡ 32 = simp (length-take, length-drop) (omega (arith, c .before .before .before .before .before .before .before .before .before .before .before .before .before .before .before .pre .0)) in
-    let n = put-whole (take (34 - 2) (drop 2 (now (a .content)))) _ _ l (c .before .before .before .before .before .before .before .put .ensures) in
-    let h : 32 * p + 32 ≤ length (now (a .notepad)) = omega (arith, c .before .before .before .before .before .before .before .before .before .before .if1 .left) in
-    let e = part-put (32 * p) 32 (now (a .notepad)) (c .before .before .before .before .before .before .before .put .last .0) _ (ap length n ∙ l) h (c .before .before .before .put2 .ensures) in
-    (λ t i b d. rw (c .plain2 .ensures, e, n, w, ← c .before .before .before .before .before .before .before .before .before .before .before .wide .ensures .0, lt-ltb _ _ (c .before .before .before .before .before .before .before .before .before .before .if1 .left)), rw (c .plain2 .ensures) (record { few = omega arith; size = c .before .before .before .before .before .before .before .before .before .before .before .before .before .before .before .pre .1 }))
+returns-2 c = record { said = λ t i b d. search noted; ready = search ready-alone }
 
 pub write-note-spec : {M : Type 1} → statement M
 write-note-spec =

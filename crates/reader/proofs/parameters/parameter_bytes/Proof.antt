@@ -1,13 +1,8 @@
--- The sixteen bytes in document order.
-use lib.ListN.{length}
-use Prim.Native.Nat.{_-_}
-use mathlib.Core.Path.{_≡_}
-use borrow.Author.Needs.{needs}
+-- The sixteen bytes are those of the definition, in its order.
 use Rattle.reader.proofs.Laws.{parameter-list}
+use borrow.Author.Needs.{needs}
 use Rattle.reader.proofs.parameters.parameter_bytes.Statement.{statement}
 use Rattle.reader.proofs.parameters.parameter_bytes.Tie as tie
-use Rattle.reader.proofs.parameters.parameter_bytes.Reads as reads
-use Rattle.reader.proofs.parameters.parameter_bytes.Lts as lts
 
 cast-t11 : tie.Need-cast-t11
 cast-t11 c = search needs
@@ -58,9 +53,7 @@ cast-t50 : tie.Need-cast-t50
 cast-t50 c = search needs
 
 returns : tie.Need-returns
-returns c =
-    let h : length (c .args .t5) ≡ 4 = search needs in
-    parameter-list (c .args .status) (c .args .sensor) (c .args .pages) (c .args .level) (c .args .t5) (c .args .size) (c .args .baud) h
+returns c = search (parameter-list, needs)
 
 pub parameter-bytes-spec : {M : Type 1} → statement M
 parameter-bytes-spec =

@@ -1,21 +1,30 @@
--- The sixteen bytes, each number widened.
-use native.Mathlib.Omega.{arith}
-use Prim.Native.Nat.{_-_}
-use borrow.Author.Needs.{needs}
+-- The sixteen bytes are made of the settings, each number widened, and of the number of pages.
+use mathlib.Core.Path.{_≡_}
+use mathlib.Core.Bool.{true, cond}
+use mathlib.Core.List.{List, [], _∷_}
+use Prim.Native.Nat.{ℕ, _/_}
+use lib.ListN.{length, take}
+use Rattle.protocol.specs.declared.Settings.{Settings}
+use Rattle.protocol.specs.Numbers.{pageBytes, verifiedStatus}
 use Rattle.protocol.specs.Tests.{verdict}
-use Rattle.protocol.specs.Bytes.{follow}
+use Rattle.protocol.specs.Bytes.{two, follow, joined}
 use Rattle.protocol.specs.Reader.{capacity}
-use Rattle.protocol.specs.Table.{apply, statusOf, rule}
-use Rattle.protocol.specs.Step.{says, carry, carryAs}
-use Rattle.reader.specs.Answers.{sent}
+use Rattle.protocol.specs.Table.{apply, rule, statusOf}
+use Rattle.protocol.specs.Commands.{readSysPara}
+use Rattle.protocol.specs.Step.{carry, carryAs}
+use Rattle.reader.specs.declared.answers.Answer.{Answer}
+use Rattle.reader.specs.Answers.{answerOf, sent, saidOf}
+use Rattle.reader.specs.Commands.{obeyed}
+use Rattle.reader.proofs.Ready.{ready-listed}
+use borrow.Author.Needs.{needs}
 use Rattle.reader.proofs.parameters.read_parameters.Statement.{statement}
 use Rattle.reader.proofs.parameters.read_parameters.Tie as tie
-use Rattle.reader.proofs.parameters.read_parameters.Reads as reads
-use Rattle.reader.proofs.parameters.read_parameters.Lts as lts
-use Rattle.reader.proofs.answers.listed.Reads as listed-reads
-use Rattle.reader.proofs.parameters.parameter_bytes.Reads as parameter-bytes-reads
-use Rattle.reader.proofs.parameters.status.Reads as status-reads
-use Rattle.wire.proofs.bytes.wide.Reads as wide-reads
+
+parameters-read : (s : Settings) (t i m b d y : List ℕ) (a : Answer) (v l z f pages : ℕ) → a ≡ answerOf true 0 16 y 0 s
+    → take 16 y ≡ joined (two v ∷ two (s .sensor) ∷ two pages ∷ two l ∷ s .address ∷ two z ∷ two f ∷ []) → v ≡ cond (s .verified) verifiedStatus 0 → l ≡ s .level → z ≡ s .size
+    → f ≡ s .baud → length t / pageBytes ≡ pages → saidOf a t i m b d ≡ obeyed s t i m b d readSysPara
+unfolding carry carryAs rule verdict capacity follow sent apply statusOf
+parameters-read s t i m b d y a v l z f pages e g h j k o p = rw (e, g, h, j, k, o, p)
 
 status-requires : tie.Need-status-requires
 status-requires c κs = search needs
@@ -39,9 +48,7 @@ listed-requires : tie.Need-listed-requires
 listed-requires c κs = search needs
 
 returns : tie.Need-returns
-unfolding carry carryAs rule verdict capacity says follow sent apply statusOf
-returns c =
-    (λ t i m b d e. rw (c .listed .ensures, c .before .parameter-bytes .ensures, c .before .before .before .before .before .before .before .status .ensures .0, c .before .before .before .before .before .wide .ensures .0, c .before .before .before .before .wide2 .ensures .0, c .before .before .before .wide3 .ensures .0, e), rw (c .listed .ensures) (record { few = omega arith; size = omega arith }))
+returns c = record { said = λ t i m b d e. search parameters-read; ready = search ready-listed }
 
 pub read-parameters-spec : {M : Type 1} → statement M
 read-parameters-spec =

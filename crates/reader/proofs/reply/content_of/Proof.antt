@@ -1,16 +1,24 @@
--- The code laid before 32 bytes.
-use lib.ListN.{length, set, replicate}
-use native.Mathlib.Omega.{arith}
-use Prim.Native.Nat.{_-_}
+-- The code stands before the 32 bytes.
 use mathlib.Core.Path.{_≡_, ap, _∙_}
-use borrow.Author.Needs.{needs}
-use Rattle.reader.proofs.Replies.{content-laid}
+use mathlib.Core.List.{List, _∷_}
+use Prim.Native.Nat.{ℕ, _+_, _-_}
+use native.Mathlib.Omega.{arith}
+use lib.ListN.{length, take, drop, set, replicate}
+use borrow.Rule.Slice.PartMut.{putMid}
+use Rattle.wire.specs.Laying.{layFront}
 use Rattle.library.proofs.Parts.{part-put}
+use Rattle.reader.specs.Answers.{listedBytes}
+use Rattle.reader.proofs.Replies.{content-laid}
+use borrow.Author.Needs.{needs}
 use Rattle.reader.proofs.reply.content_of.Statement.{statement}
 use Rattle.reader.proofs.reply.content_of.Tie as tie
-use Rattle.reader.proofs.reply.content_of.Reads as reads
-use Rattle.reader.proofs.reply.content_of.Lts as lts
-use Rattle.wire.proofs.bytes.put.Reads as put-reads
+
+module _ (code : ℕ) (bytes y : List ℕ) (e : length bytes ≡ listedBytes) (f : y ≡ layFront bytes (take (33 - 1) (drop 1 (set (replicate 33 0) 0 code)))) where
+  content : putMid 1 (33 - 1) (set (replicate 33 0) 0 code) y ≡ code ∷ bytes
+  content = part-put 1 listedBytes (set (replicate 33 0) 0 code) bytes y e (omega arith) f ∙ content-laid code bytes e
+
+  content-long : length (putMid 1 (33 - 1) (set (replicate 33 0) 0 code) y) ≡ 1 + listedBytes
+  content-long = ap length content ∙ omega (arith, e)
 
 array-write-content : tie.Need-array-write-content
 array-write-content c = search needs
@@ -31,10 +39,7 @@ put-requires : tie.Need-put-requires
 put-requires c κs = search needs
 
 returns : tie.Need-returns
-returns c =
-    let e : length (c .before .before .before .before .args .t2) ≡ 32 = search needs in
-    let l = part-put 1 32 (set (replicate 33 0) 0 (c .before .before .before .before .args .code)) (c .before .before .before .before .args .t2) _ e (omega arith) (c .before .put .ensures) ∙ content-laid (c .before .before .before .before .args .code) (c .before .before .before .before .args .t2) e in
-    (l, ap length l ∙ omega arith)
+returns c = (search (content, needs), search (content-long, needs))
 
 pub content-of-spec : {M : Type 1} → statement M
 content-of-spec =

@@ -1,16 +1,25 @@
--- The part that is lent and comes back is the packet.
-use lib.ListN.{length}
-use denote.Ref.{now}
-use native.Mathlib.Omega.{arith}
-use Prim.Native.Nat.{_-_}
+-- The part that is lent is as long as the packet, and comes back as the packet.
 use mathlib.Core.Path.{_≡_}
-use borrow.Author.Needs.{needs}
+use mathlib.Core.Bool.{true}
+use mathlib.Core.List.{List}
+use Prim.Native.Nat.{ℕ, _+_, _-_, _≤_}
+use native.Mathlib.Omega.{arith}
+use lib.ListN.{length, take, drop}
+use borrow.Rule.Slice.PartMut.{putMid}
+use Rattle.protocol.specs.declared.Built.{Built}
+use Rattle.protocol.specs.Numbers.{fourBytes, frameBytes}
+use Rattle.protocol.specs.Bytes.{lay}
+use Rattle.protocol.specs.Packet.{packet, isIdentifier, buildOf}
+use Rattle.protocol.specs.Records.{madeOf}
+use Rattle.reader.specs.Answers.{contentBytes}
 use Rattle.reader.proofs.Replies.{accepted, part-packet}
+use borrow.Author.Needs.{needs}
 use Rattle.reader.proofs.reply.put_packet.Statement.{statement}
 use Rattle.reader.proofs.reply.put_packet.Tie as tie
-use Rattle.reader.proofs.reply.put_packet.Reads as reads
-use Rattle.reader.proofs.reply.put_packet.Lts as lts
-use Rattle.wire.proofs.builder.build.Reads as build-reads
+
+laid : (a c xs ys : List ℕ) (i at : ℕ) (m : Built) → length a ≡ fourBytes → isIdentifier i ≡ true → 1 ≤ length c → length c ≤ contentBytes → at + length c + frameBytes ≤ length xs
+    → madeOf m ys ≡ buildOf a i c (take (at + length c + frameBytes - at) (drop at xs)) → putMid at (at + length c + frameBytes - at) xs ys ≡ lay at (packet a i c) xs
+laid a c xs ys i at m four k l h r e = part-packet a i c xs ys m at four (accepted i c k l h) r e
 
 add-e : tie.Need-add-e
 add-e c = search needs
@@ -34,10 +43,7 @@ same-length : tie.Need-same-length
 same-length c = search needs
 
 returns : tie.Need-returns
-returns c =
-    let a = c .before .before .before .before .before .before .args in
-    let h : length (a .address) ≡ 4 = search needs in
-    (omega arith, part-packet (a .address) (a .identifier) (now (a .content)) (now (a .reply)) _ (c .before .before .build .result) (a .at) h (accepted (a .identifier) (now (a .content)) (c .before .before .before .before .before .before .pre .1 .1 .1) (c .before .before .before .before .before .before .pre .1 .0) (c .before .before .before .before .before .before .pre .1 .1 .0)) (c .before .before .before .before .before .before .pre .0) (c .before .before .build .ensures))
+returns c = (omega arith, search (laid, needs))
 
 pub put-packet-spec : {M : Type 1} → statement M
 put-packet-spec =

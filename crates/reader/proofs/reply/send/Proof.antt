@@ -5,14 +5,14 @@ use Prim.Native.Nat.{ℕ, _+_, _*_, _/_, _≤_}
 use native.Mathlib.Omega.{arith}
 use lib.ListN.{length}
 use borrow.Author.Needs.{needs}
-use Rattle.protocol.specs.Numbers.{pageBytes, highestSize, frameBytes}
+use Rattle.protocol.specs.Numbers.{pageBytes, fourBytes, highestSize, frameBytes}
 use Rattle.protocol.specs.Bytes.{lay, joined}
 use Rattle.protocol.specs.Reader.{sizeOf}
 use Rattle.protocol.specs.Data.{packets, dataPackets}
 use Rattle.protocol.proofs.Laws.Sizes.{length-packets}
 use Rattle.rules.specs.Settings.{SizeOf}
 use Rattle.rules.proofs.Sizes.{size-legal}
-use Rattle.reader.specs.Answers.{dataRoom}
+use Rattle.reader.specs.Answers.{uploadBytes}
 use Rattle.reader.proofs.Replies.{code-size}
 use Rattle.reader.proofs.reply.send.Statement.{statement}
 use Rattle.reader.proofs.reply.send.Tie as tie
@@ -21,10 +21,10 @@ module _ (code z : ℕ) (e : SizeOf code z) (l : code ≤ highestSize) (x : List
   all : length x ≡ pageBytes / z * z
   all = rw (size-legal code z e l) (h ∙ sym (code-size code l .all))
 
-  fits : (at n : ℕ) → at + dataRoom ≤ n → at + pageBytes / z * (z + frameBytes) ≤ n
+  fits : (at n : ℕ) → at + uploadBytes ≤ n → at + pageBytes / z * (z + frameBytes) ≤ n
   fits at n f = rw (size-legal code z e l) (omega (arith, code-size code l .room))
 
-  module _ (a : List ℕ) (f : length a ≡ 4) (at : ℕ) where
+  module _ (a : List ℕ) (f : length a ≡ fourBytes) (at : ℕ) where
     long : (r : ℕ) → r ≡ at + pageBytes / z * (z + frameBytes) → r ≡ at + length (dataPackets a (sizeOf code) x)
     unfolding dataPackets
     long r k = rw (← size-legal code z e l, length-packets a (pageBytes / z) z x f all) k
@@ -33,7 +33,7 @@ module _ (code z : ℕ) (e : SizeOf code z) (l : code ≤ highestSize) (x : List
   unfolding dataPackets
   laid a at y y′ k = rw (← size-legal code z e l) k
 
-address : (s : tie.Start) → length (s .args .settings .address) ≡ 4
+address : (s : tie.Start) → length (s .args .settings .address) ≡ fourBytes
 address s = search (needs, s .good)
 
 size-of-requires : tie.Need-size-of-requires

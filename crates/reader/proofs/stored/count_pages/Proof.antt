@@ -1,22 +1,33 @@
--- The count as two bytes.
-use denote.Ref.{now}
-use native.Mathlib.Omega.{arith}
-use Prim.Native.Nat.{_-_}
-use mathlib.Core.Path.{refl, _∙_}
-use borrow.Author.Needs.{needs}
+-- The count fits 16 bits, and goes out as two bytes.
+use mathlib.Core.Path.{_≡_, refl, _∙_}
+use mathlib.Core.Bool.{true}
+use mathlib.Core.List.{List}
+use Prim.Native.Nat.{ℕ, _/_, _%_, _<_}
+use lib.ListN.{length, set, replicate}
+use Rattle.protocol.specs.declared.Settings.{Settings}
+use Rattle.protocol.specs.Numbers.{indexBytes}
 use Rattle.protocol.specs.Tests.{verdict}
 use Rattle.protocol.specs.Bytes.{two, follow}
-use Rattle.protocol.specs.Reader.{capacity}
 use Rattle.protocol.specs.Table.{apply, rule}
-use Rattle.protocol.specs.Step.{says, carry, carryAs}
-use Rattle.reader.specs.Answers.{sent}
+use Rattle.protocol.specs.Commands.{templeteNum}
+use Rattle.protocol.specs.Step.{carry, carryAs}
+use Rattle.library.specs.Lent.{countOf}
+use Rattle.reader.specs.declared.answers.Answer.{Answer}
+use Rattle.reader.specs.Answers.{answerOf, sent, saidOf, listedBytes}
+use Rattle.reader.specs.Commands.{obeyed}
 use Rattle.reader.proofs.Laws.{counts, high-byte}
+use Rattle.reader.proofs.Ready.{ready-listed}
+use borrow.Author.Needs.{needs}
 use Rattle.reader.proofs.stored.count_pages.Statement.{statement}
 use Rattle.reader.proofs.stored.count_pages.Tie as tie
-use Rattle.reader.proofs.stored.count_pages.Reads as reads
-use Rattle.reader.proofs.stored.count_pages.Lts as lts
-use Rattle.library.proofs.index.count.Reads as count-reads
-use Rattle.reader.proofs.answers.listed.Reads as listed-reads
+
+counted : (s : Settings) (t i m b d : List ℕ) (a : Answer) (n : ℕ) → a ≡ answerOf true 0 2 (set (set (replicate listedBytes 0) 0 (n / 256)) 1 (n % 256)) 0 s
+    → n ≡ countOf indexBytes i → length i ≡ indexBytes → n < 65536 → saidOf a t i m b d ≡ obeyed s t i m b d templeteNum
+unfolding carry carryAs rule verdict follow sent two apply
+counted s t i m b d a n e f l h = rw (e, high-byte n h, f ∙ counts indexBytes i l) refl
+
+cast-count : tie.Need-cast-count
+cast-count c = search needs
 
 count-requires : tie.Need-count-requires
 count-requires c κs = search needs
@@ -37,16 +48,13 @@ listed-requires : tie.Need-listed-requires
 listed-requires c κs = search needs
 
 returns : tie.Need-returns
-unfolding carry carryAs rule verdict capacity says follow sent two apply
-returns c =
-    let e = c .before .count .ensures ∙ counts 32 (now (c .before .before .before .args .index)) (c .before .before .before .pre .0) in
-    let h = high-byte (c .before .count .result) (search needs) in
-    (λ t m b d. rw (c .listed .ensures, h, e) refl, rw (c .listed .ensures) (record { few = omega arith; size = c .before .before .before .pre .1 }))
+returns c = record { said = λ t m b d. search (counted, needs); ready = search ready-listed }
 
 pub count-pages-spec : {M : Type 1} → statement M
 count-pages-spec =
     tie.close
     (tie.spec
+    cast-count
     count-requires
     cast-bytes
     array-write-bytes

@@ -2,25 +2,25 @@
 use mathlib.Core.Path.{_≡_, refl, _∙_}
 use mathlib.Core.Bool.{true, false, not, _||_}
 use mathlib.Core.List.{List}
-use Prim.Native.Nat.{ℕ, _+_, _<_}
+use Prim.Native.Nat.{ℕ, _+_, _/_, _<_}
 use native.Mathlib.Omega.{arith}
 use lib.Dec.{eqb, leb}
 use lib.ListN.{length}
-use denote.Ref.{now}
 use borrow.Author.Tests.{leb-true, eqb-true}
 use borrow.Author.Needs.{needs}
 use Rattle.protocol.specs.declared.Settings.{Settings}
-use Rattle.protocol.specs.Numbers.{done}
+use Rattle.protocol.specs.Numbers.{pageBytes, done}
 use Rattle.protocol.specs.Bytes.{follow}
-use Rattle.protocol.specs.Reader.{Reader, locked}
+use Rattle.protocol.specs.Reader.{locked}
 use Rattle.protocol.specs.Commands.{Free, Barred, free, barred, commands, rowOf}
-use Rattle.protocol.specs.Table.{rule, freeRule, publicOf}
+use Rattle.protocol.specs.Table.{freeRule, publicOf}
+use Rattle.protocol.specs.Step.{carryFree, obey}
 use Rattle.protocol.specs.Call.{core}
-use Rattle.protocol.specs.Step.{Said, carry, carryFree, obey}
-use Rattle.protocol.specs.Records.{readerOf}
+use Rattle.protocol.specs.Records.{plainOf, readerOf}
 use Rattle.protocol.proofs.Laws.Logic.{not-true}
 use Rattle.reader.specs.declared.answers.Answer.{Answer}
 use Rattle.reader.specs.Answers.{sent, saidOf, codeAlone}
+use Rattle.reader.specs.Commands.{obeyed, Obeyed, ObeyedPages, ObeyedIndex, ObeyedNotepad, ObeyedBuffers, ObeyedLibrary, ObeyedCopy, Freed}
 use Rattle.rules.specs.Commands.{lenOf, readOf, isFree}
 use Rattle.rules.proofs.Gates.{last-row}
 use Rattle.reader.proofs.Ready.{ready-alone}
@@ -35,18 +35,39 @@ module _ (k j n : ℕ) (x : List ℕ) (l : lenOf (rowOf commands k) ≡ length x
   exact : eqb (n + 2) (lenOf (rowOf commands j)) ≡ true → length x ≡ n
   exact h = let m = eqb-true (n + 2) (lenOf (rowOf commands j)) h in let o = rw e at l in omega arith
 
--- each arm: what its command says is what its code's row says
-module _ (r : Reader) (k j : ℕ) (x : List ℕ) (said : Said) (e : k ≡ j) where
-  barred-row : (b : Barred) → said ≡ carry r (rule r b) → (isFree k || not (locked (r .plain))) ≡ true → isFree j ≡ false → barred b ≡ readOf (rowOf commands j) x
-      → said ≡ obey r (readOf (rowOf commands k) x)
+-- each arm: what its command says is what its code's row says, for every memory that it does not touch
+module _ (s : Settings) (t i n b c x : List ℕ) (k j : ℕ) (e : k ≡ j) where
+  free-row : (a : Answer) (f : Free) → Freed a s f → free f ≡ readOf (rowOf commands j) x
+      → saidOf a t i n b c ≡ obey (readerOf s t i n b c) (readOf (rowOf commands k) x)
   unfolding obey
-  barred-row b s o f q =
-      let n : locked (r .plain) ≡ false = not-true (locked (r .plain)) (rw (e, f) at o) in
-      s ∙ rw (e, ← q, n)
+  free-row a f h q = h .said t i n b c ∙ rw (e, ← q)
 
-  free-row : (b : Free) → said ≡ carryFree r (freeRule (publicOf r) b) → free b ≡ readOf (rowOf commands j) x → said ≡ obey r (readOf (rowOf commands k) x)
-  unfolding obey
-  free-row b s q = s ∙ rw (e, ← q)
+  module _ (o : (isFree k || not (locked (plainOf s))) ≡ true) (z : isFree j ≡ false) (d : Barred) (q : barred d ≡ readOf (rowOf commands j) x) where
+    row : obeyed s t i n b c d ≡ obey (readerOf s t i n b c) (readOf (rowOf commands k) x)
+    unfolding obey
+    row = let l : locked (plainOf s) ≡ false = not-true (locked (plainOf s)) (rw (e, z) at o) in rw (e, ← q, l)
+
+    module _ (a : Answer) where
+      settings-row : Obeyed a s d → saidOf a t i n b c ≡ obey (readerOf s t i n b c) (readOf (rowOf commands k) x)
+      settings-row h = h .said t i n b c ∙ row
+
+      pages-row : ObeyedPages a s d (length t / pageBytes) → saidOf a t i n b c ≡ obey (readerOf s t i n b c) (readOf (rowOf commands k) x)
+      pages-row h = h .said t i n b c refl ∙ row
+
+      index-row : ObeyedIndex a s d i → saidOf a t i n b c ≡ obey (readerOf s t i n b c) (readOf (rowOf commands k) x)
+      index-row h = h .said t n b c ∙ row
+
+      notepad-row : (n′ : List ℕ) → ObeyedNotepad a s d n n′ → saidOf a t i n′ b c ≡ obey (readerOf s t i n b c) (readOf (rowOf commands k) x)
+      notepad-row n′ h = h .said t i b c ∙ row
+
+      buffers-row : (b′ c′ : List ℕ) → ObeyedBuffers a s d b c b′ c′ → saidOf a t i n b′ c′ ≡ obey (readerOf s t i n b c) (readOf (rowOf commands k) x)
+      buffers-row b′ c′ h = h .said t i n ∙ row
+
+      library-row : (t′ i′ : List ℕ) → ObeyedLibrary a s d t i t′ i′ → saidOf a t′ i′ n b c ≡ obey (readerOf s t i n b c) (readOf (rowOf commands k) x)
+      library-row t′ i′ h = h .said n b c ∙ row
+
+      copy-row : (t′ i′ b′ c′ : List ℕ) → ObeyedCopy a s d t i b c t′ i′ b′ c′ → saidOf a t′ i′ n b′ c′ ≡ obey (readerOf s t i n b c) (readOf (rowOf commands k) x)
+      copy-row t′ i′ b′ c′ h = h .said n ∙ row
 
 -- none of them: the last
 shaken : (s : Settings) (t i m b d x : List ℕ) (k : ℕ) (a : Answer) → a ≡ codeAlone done s
@@ -176,12 +197,11 @@ same-length-4 c = search needs
 returns : tie.Need-returns
 unfolding readOf rowOf commands isFree start
 returns c =
-    let e = (let s : tie.Start = search start in let p : tie.After-store-page = search in p .store-page .ensures .0 (now (s .args .notepad))) in
     let w = (let p : tie.After-word-at = search in p .word-at .ensures .0) in
-    let f = rw w at e in
+    let f = (let p : tie.After-store-page = search in rw w at (p .store-page .ensures)) in
     let k = (let p : tie.At-match-keys1 = search in p .match .keys1) in
     let o = (let s : tie.Start = search start in s .pre .admits .open′) in
-    (search barred-row, search)
+    (search copy-row, search)
 
 same-length-5 : tie.Need-same-length-5
 same-length-5 c = search needs
@@ -198,18 +218,15 @@ same-length-8 c = search needs
 returns-2 : tie.Need-returns-2
 unfolding readOf rowOf commands isFree start
 returns-2 c =
-    let e = (let s : tie.Start = search start in let p : tie.After-load-page = search in p .load-page .ensures .0 (now (s .args .notepad))) in
     let w = (let p : tie.After-word-at2 = search in p .word-at2 .ensures .0) in
-    let f = rw w at e in
+    let f = (let p : tie.After-load-page = search in rw w at (p .load-page .ensures)) in
     let k = (let p : tie.At-match-keys2 = search in p .match .keys2) in
     let o = (let s : tie.Start = search start in s .pre .admits .open′) in
-    (search barred-row, search)
+    (search copy-row, search)
 
 returns-3 : tie.Need-returns-3
 unfolding readOf rowOf commands isFree start
-returns-3 c =
-    let e = (let s : tie.Start = search start in let p : tie.After-up-char = search in p .up-char .ensures .0 (now (s .args .templates)) (now (s .args .index)) (now (s .args .notepad)) (now (s .args .buffer1)) (now (s .args .buffer2))) in
-    (search barred-row, search)
+returns-3 c = (search settings-row, search)
 
 same-length-9 : tie.Need-same-length-9
 same-length-9 c = search needs
@@ -219,9 +236,7 @@ same-length-10 c = search needs
 
 returns-4 : tie.Need-returns-4
 unfolding readOf rowOf commands isFree start
-returns-4 c =
-    let e = (let s : tie.Start = search start in let p : tie.After-down-char = search in p .down-char .ensures .0 (now (s .args .templates)) (now (s .args .index)) (now (s .args .notepad))) in
-    (search barred-row, search)
+returns-4 c = (search buffers-row, search)
 
 same-length-11 : tie.Need-same-length-11
 same-length-11 c = search needs
@@ -231,9 +246,7 @@ same-length-12 c = search needs
 
 returns-5 : tie.Need-returns-5
 unfolding readOf rowOf commands isFree start
-returns-5 c =
-    let e = (let s : tie.Start = search start in let p : tie.After-delete-pages = search in p .delete-pages .ensures .0 (now (s .args .notepad)) (now (s .args .buffer1)) (now (s .args .buffer2))) in
-    (search barred-row, search)
+returns-5 c = (search library-row, search)
 
 same-length-13 : tie.Need-same-length-13
 same-length-13 c = search needs
@@ -243,75 +256,55 @@ same-length-14 c = search needs
 
 returns-6 : tie.Need-returns-6
 unfolding readOf rowOf commands isFree start
-returns-6 c =
-    let e = (let s : tie.Start = search start in let p : tie.After-empty-all = search in p .empty-all .ensures .0 (now (s .args .notepad)) (now (s .args .buffer1)) (now (s .args .buffer2))) in
-    (search barred-row, search)
+returns-6 c = (search library-row, search)
 
 returns-7 : tie.Need-returns-7
 unfolding readOf rowOf commands isFree start
-returns-7 c =
-    let e = (let s : tie.Start = search start in let p : tie.After-set-parameter = search in p .set-parameter .ensures .0 (now (s .args .templates)) (now (s .args .index)) (now (s .args .notepad)) (now (s .args .buffer1)) (now (s .args .buffer2))) in
-    (search barred-row, search)
+returns-7 c = (search settings-row, search)
 
 returns-8 : tie.Need-returns-8
 unfolding readOf rowOf commands isFree start
-returns-8 c =
-    let e = (let s : tie.Start = search start in let p : tie.After-read-parameters = search in p .read-parameters .ensures .0 (now (s .args .templates)) (now (s .args .index)) (now (s .args .notepad)) (now (s .args .buffer1)) (now (s .args .buffer2)) refl) in
-    (search barred-row, search)
+returns-8 c = (search pages-row, search)
 
 returns-9 : tie.Need-returns-9
 unfolding readOf rowOf commands isFree start
-returns-9 c =
-    let e = (let s : tie.Start = search start in let p : tie.After-set-password = search in p .set-password .ensures .0 (now (s .args .templates)) (now (s .args .index)) (now (s .args .notepad)) (now (s .args .buffer1)) (now (s .args .buffer2))) in
-    (search barred-row, search)
+returns-9 c = (search settings-row, search)
 
 returns-10 : tie.Need-returns-10
 unfolding readOf rowOf commands isFree start
-returns-10 c =
-    let e = (let s : tie.Start = search start in let p : tie.After-verify-password = search in p .verify-password .ensures .0 (now (s .args .templates)) (now (s .args .index)) (now (s .args .notepad)) (now (s .args .buffer1)) (now (s .args .buffer2))) in
-    (search free-row, search)
+returns-10 c = (search free-row, search)
 
 returns-11 : tie.Need-returns-11
 unfolding readOf rowOf commands isFree start
-returns-11 c =
-    let e = (let s : tie.Start = search start in let p : tie.After-set-address = search in p .set-address .ensures .0 (now (s .args .templates)) (now (s .args .index)) (now (s .args .notepad)) (now (s .args .buffer1)) (now (s .args .buffer2))) in
-    (search barred-row, search)
+returns-11 c = (search settings-row, search)
 
 same-length-15 : tie.Need-same-length-15
 same-length-15 c = search needs
 
 returns-12 : tie.Need-returns-12
 unfolding readOf rowOf commands isFree start
-returns-12 c =
-    let e = (let s : tie.Start = search start in let p : tie.After-write-note = search in p .write-note .ensures .0 (now (s .args .templates)) (now (s .args .index)) (now (s .args .buffer1)) (now (s .args .buffer2))) in
-    (search barred-row, search)
+returns-12 c = (search notepad-row, search)
 
 same-length-16 : tie.Need-same-length-16
 same-length-16 c = search needs
 
 returns-13 : tie.Need-returns-13
 unfolding readOf rowOf commands isFree start
-returns-13 c =
-    let e = (let s : tie.Start = search start in let p : tie.After-read-note = search in p .read-note .ensures .0 (now (s .args .templates)) (now (s .args .index)) (now (s .args .buffer1)) (now (s .args .buffer2))) in
-    (search barred-row, search)
+returns-13 c = (search notepad-row, search)
 
 same-length-17 : tie.Need-same-length-17
 same-length-17 c = search needs
 
 returns-14 : tie.Need-returns-14
 unfolding readOf rowOf commands isFree start
-returns-14 c =
-    let e = (let s : tie.Start = search start in let p : tie.After-count-pages = search in p .count-pages .ensures .0 (now (s .args .templates)) (now (s .args .notepad)) (now (s .args .buffer1)) (now (s .args .buffer2))) in
-    (search barred-row, search)
+returns-14 c = (search index-row, search)
 
 same-length-18 : tie.Need-same-length-18
 same-length-18 c = search needs
 
 returns-15 : tie.Need-returns-15
 unfolding readOf rowOf commands isFree start
-returns-15 c =
-    let e = (let s : tie.Start = search start in let p : tie.After-read-index = search in p .read-index .ensures .0 (now (s .args .templates)) (now (s .args .notepad)) (now (s .args .buffer1)) (now (s .args .buffer2))) in
-    (search barred-row, search)
+returns-15 c = (search index-row, search)
 
 returns-16 : tie.Need-returns-16
 returns-16 c = let m = (let p : tie.At-match-rest = search in p .match .rest) in (search shaken, search ready-alone)

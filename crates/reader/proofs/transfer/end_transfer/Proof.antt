@@ -1,25 +1,48 @@
--- Each return is the definition's value, by the tests that led there.
+-- No open transfer leaves all as it is; an open one leaves its buffer wiped, its mark clear, and no transfer.
+use mathlib.Core.Path.{_≡_, refl, sym, ap, _∙_}
+use mathlib.Core.Bool.{false}
+use mathlib.Core.List.{List}
+use Prim.Native.Nat.{ℕ, _≤_}
 use lib.ListN.{length}
-use denote.Ref.{now}
-use native.Mathlib.Omega.{arith}
-use Prim.Native.Nat.{zero, _-_}
-use mathlib.Core.Path.{_≡_, refl, sym}
-use borrow.Author.Needs.{needs}
-use Rattle.protocol.specs.Reader.{emptied, withTransfer, withBuffer}
+use Rattle.protocol.specs.declared.Settings.{Settings}
+use Rattle.protocol.specs.Numbers.{pageBytes}
+use Rattle.protocol.specs.Bytes.{zeros}
 use Rattle.protocol.specs.Step.{ended}
-use Rattle.protocol.specs.Records.{transferOf}
+use Rattle.protocol.specs.Records.{transferOf, readerOf}
+use Rattle.reader.specs.Buffers.{buffers, changed, withFill}
+use Rattle.rules.specs.Settings.{withTransfer}
+use Rattle.reader.proofs.ByNumber.{wiped}
+use Rattle.rules.proofs.Transfers.{transfer-at}
 use Rattle.reader.proofs.Transfers.{ended-none}
+use borrow.Author.Needs.{needs}
 use Rattle.reader.proofs.transfer.end_transfer.Statement.{statement}
 use Rattle.reader.proofs.transfer.end_transfer.Tie as tie
-use Rattle.reader.proofs.transfer.end_transfer.Reads as reads
-use Rattle.reader.proofs.transfer.end_transfer.Lts as lts
-use Rattle.library.proofs.pages.zero.Reads as zero-reads
 
-zero-requires : tie.Need-zero-requires
-zero-requires c κs = search needs
+none-open : (s : Settings) (t i m b d : List ℕ) → s .transfer ≡ 0 → readerOf s t i m b d ≡ ended (readerOf s t i m b d) (transferOf (s .transfer) (s .got))
+none-open s t i m b d z = sym (ended-none _ _ _ z)
 
-filled-requires : tie.Need-filled-requires
-filled-requires c κs = search needs
+module _ (s o q : Settings) (f : q ≡ withTransfer 0 0 o) (g : o ≡ withFill (s .transfer) false s) where
+  given-up : (t i m b d x y : List ℕ) → buffers x y ≡ changed (s .transfer) (λ (z : List ℕ). zeros (length z)) b d → length b ≡ pageBytes → length d ≡ pageBytes
+      → (s .transfer ≡ 0 → ⊥) → s .transfer ≤ 2 → readerOf q t i m x y ≡ ended (readerOf s t i m b d) (transferOf (s .transfer) (s .got))
+  unfolding ended transferOf
+  given-up t i m b d x y r l w n h =
+      wiped (s .transfer) 0 0 s o q t i m b d x y f g r l w ∙ sym (ap (ended (readerOf s t i m b d)) (transfer-at (s .transfer) (s .got) n h))
+
+  size-stays : q .size ≡ s .size
+  size-stays = rw (f, g) refl
+
+-- the start, from where a transfer is known to be open
+unfoldable start : tie.Else1 → tie.Start
+start c = search
+
+returns : tie.Need-returns
+returns c = (λ t i m. search none-open, refl)
+
+wipe-requires : tie.Need-wipe-requires
+wipe-requires c κs = search needs
+
+mark-requires : tie.Need-mark-requires
+mark-requires c κs = search needs
 
 moved-requires : tie.Need-moved-requires
 moved-requires c κs = search needs
@@ -27,47 +50,21 @@ moved-requires c κs = search needs
 same-length : tie.Need-same-length
 same-length c = search needs
 
-returns : tie.Need-returns
-unfolding ended emptied withTransfer withBuffer transferOf
-returns c =
-    let e : length (now (c .before .before .before .before .before .before .before .before .before .before .args .buffer1)) ≡ 512 = c .before .before .before .before .before .before .before .before .before .before .pre .0 in
-    (λ t i m. rw (c .moved .ensures, c .before .filled .ensures, c .before .before .before .before .zero .ensures, e, c .before .before .before .before .before .before .if1 .taken) refl, rw (c .moved .ensures, c .before .filled .ensures) refl)
-
-zero-requires-2 : tie.Need-zero-requires-2
-zero-requires-2 c κs = search needs
-
-filled-requires-2 : tie.Need-filled-requires-2
-filled-requires-2 c κs = search needs
-
-moved-requires-2 : tie.Need-moved-requires-2
-moved-requires-2 c κs = search needs
-
 same-length-2 : tie.Need-same-length-2
 same-length-2 c = search needs
 
 returns-2 : tie.Need-returns-2
-unfolding ended emptied withTransfer withBuffer transferOf
-returns-2 c =
-    let e : length (now (c .before .before .before .before .before .before .before .before .before .before .before .before .args .buffer2)) ≡ 512 = c .before .before .before .before .before .before .before .before .before .before .before .before .pre .1 .0 in
-    (λ t i m. rw (c .moved2 .ensures, c .before .filled2 .ensures, c .before .before .before .before .zero2 .ensures, e, c .before .before .before .before .before .before .if2 .taken) refl, rw (c .moved2 .ensures, c .before .filled2 .ensures) refl)
-
-returns-3 : tie.Need-returns-3
-returns-3 c =
-    let z : c .before .before .before .before .before .before .args .settings .transfer ≡ 0 = omega (arith, c .before .before .before .before .before .before .pre .1 .1) in
-    (λ t i m. sym (ended-none _ _ _ z), refl)
+unfolding start
+returns-2 c = let p = (let s : tie.Start = search start in s .pre) in (λ t i m. search given-up, search size-stays)
 
 pub end-transfer-spec : {M : Type 1} → statement M
 end-transfer-spec =
     tie.close
     (tie.spec
-    zero-requires
-    filled-requires
+    returns
+    wipe-requires
+    mark-requires
     moved-requires
     same-length
-    returns
-    zero-requires-2
-    filled-requires-2
-    moved-requires-2
     same-length-2
-    returns-2
-    returns-3)
+    returns-2)

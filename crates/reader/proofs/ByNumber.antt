@@ -1,0 +1,110 @@
+-- The buffers by number: what one that is changed, wiped or marked makes of the reader, and the tests before it.
+use mathlib.Core.Path.{_≡_, refl, ap}
+use mathlib.Core.Bool.{Bool, true, false, not, _||_, cond}
+use mathlib.Core.Logic.{_⊎_, inl, inr, ⊎-elim}
+use mathlib.Core.List.{List, _∷_}
+use Prim.Native.Nat.{ℕ, _/_, _≤_}
+use lib.Dec.{eqb, ltb}
+use lib.ListN.{length}
+use borrow.Author.Tests.{eqb-true, ne-eqb, le-ltb}
+use Rattle.protocol.specs.declared.Settings.{Settings}
+use Rattle.protocol.specs.Numbers.{pageBytes, badPacket, badPage}
+use Rattle.protocol.specs.Tests.{Test, verdict}
+use Rattle.protocol.specs.Bytes.{zeros, follow}
+use Rattle.protocol.specs.Reader.{opened, Guarded, capacity, emptied, withBuffer, contents, reader}
+use Rattle.protocol.specs.Reader as readers
+use Rattle.protocol.specs.Table.{isBuffer, Effect}
+use Rattle.protocol.specs.Step.{says, carry, carryAs}
+use Rattle.protocol.proofs.Laws.Logic.{not-true, not-false}
+use Rattle.protocol.specs.Records.{transferOf, plainOf, buffer, readerOf}
+use Rattle.reader.specs.declared.answers.Answer.{Answer}
+use Rattle.reader.specs.Answers.{codeAlone, sent, saidOf}
+use Rattle.rules.specs.Settings.{withTransfer}
+use Rattle.reader.specs.Buffers.{chosenOf, Buffers, buffers, changed, withFill}
+use Rattle.reader.proofs.Laws.{chosen-long}
+
+-- ---- a number that names a buffer
+
+either : (a b : Bool) → (a || b) ≡ true → (a ≡ true) ⊎ (b ≡ true)
+either true b e = inl refl
+either false b e = inr e
+
+one-or-two : (n : ℕ) → isBuffer n ≡ true → (n ≡ 1) ⊎ (n ≡ 2)
+unfolding isBuffer
+one-or-two n e = ⊎-elim (λ h. inl (eqb-true n 1 h)) (λ h. inr (eqb-true n 2 h)) (either (eqb n 1) (eqb n 2) e)
+
+pub not-none : (n : ℕ) → isBuffer n ≡ true → eqb n 0 ≡ false
+not-none n e = ⊎-elim (λ h. rw h refl) (λ h. rw h refl) (one-or-two n e)
+
+pub opened-at : (n k : ℕ) → isBuffer n ≡ true → transferOf n k ≡ opened (eqb n 2) k
+unfolding transferOf
+opened-at n k e = ⊎-elim (λ h. rw h refl) (λ h. rw h refl) (one-or-two n e)
+
+-- ---- one of them changed
+
+module _ (n : ℕ) (f : List ℕ → List ℕ) (b c x : List ℕ) where
+  pub second-changed : n ≡ 2 → x ≡ f c → buffers b x ≡ changed n f b c
+  unfolding changed
+  second-changed e g = rw (e, g) refl
+
+  pub first-changed : (n ≡ 2 → ⊥) → x ≡ f b → buffers x c ≡ changed n f b c
+  unfolding changed
+  first-changed e g = rw (ne-eqb _ _ e, g) refl
+
+module _ (f : List ℕ → List ℕ) (t i n b c : List ℕ) (u v : Bool) where
+  marked-at : (on w : Bool)
+      → contents t i n (buffer (cond w b (f b)) (cond w u on)) (buffer (cond w (f c) c) (cond w on v))
+      ≡ withBuffer w (buffer (f (cond w c b)) on) (contents t i n (buffer b u) (buffer c v))
+  unfolding withBuffer
+  marked-at on true = refl
+  marked-at on false = refl
+
+  kept-at : (w : Bool)
+      → contents t i n (buffer (cond w b (f b)) u) (buffer (cond w (f c) c) v)
+      ≡ withBuffer w (buffer (f (cond w c b)) (cond w v u)) (contents t i n (buffer b u) (buffer c v))
+  unfolding withBuffer
+  kept-at true = refl
+  kept-at false = refl
+
+module _ (k : ℕ) (f : List ℕ → List ℕ) (s : Settings) (t i n b c x y : List ℕ) (e : buffers x y ≡ changed k f b c) where
+  first-is : x ≡ cond (eqb k 2) b (f b)
+  unfolding changed
+  first-is = ap (λ (p : Buffers). p .first) e
+
+  second-is : y ≡ cond (eqb k 2) (f c) c
+  unfolding changed
+  second-is = ap (λ (p : Buffers). p .second) e
+
+  -- and its mark set or cleared
+  pub changed-marked : (on : Bool)
+      → readerOf (withFill k on s) t i n x y .guarded ≡ withBuffer (eqb k 2) (buffer (f (chosenOf k b c)) on) (readerOf s t i n b c .guarded)
+  changed-marked on = rw (first-is, second-is) (marked-at f t i n b c (s .filled1) (s .filled2) on (eqb k 2))
+
+  -- and its mark as it was
+  pub changed-kept : readerOf s t i n x y .guarded ≡ withBuffer (eqb k 2) (buffer (f (chosenOf k b c)) (cond (eqb k 2) (s .filled2) (s .filled1))) (readerOf s t i n b c .guarded)
+  changed-kept = rw (first-is, second-is) (kept-at f t i n b c (s .filled1) (s .filled2) (eqb k 2))
+
+-- one of them wiped, and the transfer moved
+pub wiped : (k w j : ℕ) (s o q : Settings) (t i n b c x y : List ℕ) → q ≡ withTransfer w j o → o ≡ withFill k false s
+    → buffers x y ≡ changed k (λ (z : List ℕ). zeros (length z)) b c → length b ≡ pageBytes → length c ≡ pageBytes
+    → readerOf q t i n x y ≡ reader (readers.withTransfer (transferOf w j) (plainOf s)) (withBuffer (eqb k 2) emptied (readerOf s t i n b c .guarded))
+unfolding readers.withTransfer emptied
+wiped k w j s o q t i n b c x y f g e l m =
+    let all : length (chosenOf k b c) ≡ pageBytes = chosen-long (eqb k 2) c b pageBytes m l in
+    let h = changed-marked k (λ (z : List ℕ). zeros (length z)) s t i n b c x y e false in
+    rw (f, g) (ap (λ (z : Guarded). reader (readers.withTransfer (transferOf w j) (plainOf s)) z) (rw all at h))
+
+-- ---- the tests that a command with a buffer starts with
+
+module _ (s : Settings) (t i m b c : List ℕ) (a : Answer) (n : ℕ) (known : Bool) (k : known ≡ isBuffer n) (ts : List Test) (x y : List ℕ) (e : Effect) where
+  pub no-buffer : a ≡ codeAlone badPacket s → not known ≡ true
+      → saidOf a t i m b c ≡ carry (readerOf s t i m b c) record { tests = (isBuffer n, badPacket) ∷ ts; bytes = x; behind = y; effect = e }
+  unfolding carry carryAs verdict says follow sent
+  no-buffer f g = rw (f, ← k, not-true known g)
+
+  pub no-page : (p : ℕ) → a ≡ codeAlone badPage s → not known ≡ false → length t / pageBytes ≤ p
+      → saidOf a t i m b c
+      ≡ carry (readerOf s t i m b c)
+      record { tests = (isBuffer n, badPacket) ∷ (ltb p (capacity (readerOf s t i m b c .guarded)), badPage) ∷ ts; bytes = x; behind = y; effect = e }
+  unfolding carry carryAs verdict capacity says follow sent
+  no-page p f g h = rw (f, ← k, not-false known g, le-ltb _ _ h)
