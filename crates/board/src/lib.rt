@@ -10,12 +10,10 @@ ghost use Rattle.board.specs.Stored.{storedReaderOf, storedFreshOf, stor
 use crate::stored::StoredSettings;
 use library::index;
 use place::Answered;
+use protocol::numbers;
 use wire::builder;
 use wire::bytes;
 use wire::finder;
-
-// The length of the reader's index.
-const INDEX_BYTES: u8 = 32;
 
 // The sum of all bytes of a run modulo 65536.
 #[no_mangle]
@@ -58,7 +56,7 @@ pub extern "C" fn bystrodol_build(
 pub extern "C" fn bystrodol_count(index: &[u8]) -> u16
     ensures { λ r. ⌜ r ≡ countService (now (index .entry)) ⌝ }
 {
-    index::count(index, INDEX_BYTES)
+    index::count(index, numbers::INDEX as u8)
 }
 
 // A call of the reader on lent settings.

@@ -25,7 +25,7 @@ same-length c = search needs
 
 returns : tie.Need-returns
 unfolding buildService four
-returns c = let e = c .before .before .build .ensures in (rw (← e), rw (← e))
+returns c = let e = (let p : tie.After-build = search in p .build .ensures) in (rw (← e), rw (← e))
 
 pub bystrodol-build-spec : {M : Type 1} → statement M
 bystrodol-build-spec =
