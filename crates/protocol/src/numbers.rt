@@ -9,12 +9,10 @@ pub const PAGE: usize = 512;
 // The most pages that a library has.
 pub const MOST_PAGES: usize = 256;
 
-// The bytes of an index, and of the part of it that one ReadIndexTable gives.
+// The bytes of an index.
 pub const INDEX: usize = 32;
 
-pub const INDEX_PAGE: usize = 32;
-
-// The bytes of a notepad, and of one of its pages.
+// The bytes of a notepad, and of one of its pages; ReadIndexTable too gives as many.
 pub const NOTEPAD: usize = 512;
 
 pub const NOTE: usize = 32;
