@@ -1,11 +1,24 @@
 -- Every length that is asked for is at most that of the memory here.
-use mathlib.Core.Path.{sym}
+use mathlib.Core.Path.{_≡_, sym}
+use mathlib.Core.List.{List}
+use Prim.Native.Nat.{ℕ, _≤_}
 use native.Mathlib.Omega.{arith}
+use lib.ListN.{length, take}
 use lib.Seq.{length-take-le}
-use denote.Ref.{now}
 use borrow.Author.Needs.{needs}
 use Rattle.probe.proofs.answer.Statement.{statement}
 use Rattle.probe.proofs.answer.Tie as tie
+
+-- from behind the exchange back to the tests of the lengths, and to the head that was read
+unfoldable tested : tie.After-exchange → tie.Else10
+tested c = search
+
+unfoldable headed : tie.Else10 → tie.After-read-full
+headed c = search
+
+-- the front of a memory is as long as was asked for
+front : (n : ℕ) (s : List ℕ) → n ≤ length s → n ≡ length (take n s)
+front n s h = sym (length-take-le n s h)
 
 read-full-requires : tie.Need-read-full-requires
 read-full-requires c κs = search needs
@@ -155,49 +168,50 @@ slice-relend-prefix-exchange : tie.Need-slice-relend-prefix-exchange
 slice-relend-prefix-exchange c = search needs
 
 slice-aggregate-exchange : tie.Need-slice-aggregate-exchange
-slice-aggregate-exchange c = sym (length-take-le (c .before .before .before .before .before .before .before .before .before .before .before .before .before .before .before .before .before .before .before .before .before .before .length-at .result) (now (c .before .before .before .before .before .before .before .before .before .before .before .before .before .before .before .before .before .before .before .before .before .before .before .before .before .before .before .before .before .before .before .before .before .before .before .before .before .before .before .before .args .templates)) (omega (arith, c .before .before .before .before .before .before .before .before .before .if4 .left)))
+slice-aggregate-exchange c = search (front, arith)
 
 slice-relend-prefix-exchange-2 : tie.Need-slice-relend-prefix-exchange-2
 slice-relend-prefix-exchange-2 c = search needs
 
 slice-aggregate-exchange-2 : tie.Need-slice-aggregate-exchange-2
-slice-aggregate-exchange-2 c = sym (length-take-le (c .before .before .before .before .before .before .before .before .before .before .before .before .before .before .before .before .before .before .before .before .before .length-at2 .result) (now (c .before .before .before .before .before .before .before .before .before .before .before .before .before .before .before .before .before .before .before .before .before .before .before .before .before .before .before .before .before .before .before .before .before .before .before .before .before .before .before .before .before .args .index)) (omega (arith, c .before .before .before .before .before .before .before .before .before .if5 .left)))
+slice-aggregate-exchange-2 c = search (front, arith)
 
 slice-relend-prefix-exchange-3 : tie.Need-slice-relend-prefix-exchange-3
 slice-relend-prefix-exchange-3 c = search needs
 
 slice-aggregate-exchange-3 : tie.Need-slice-aggregate-exchange-3
-slice-aggregate-exchange-3 c = sym (length-take-le (c .before .before .before .before .before .before .before .before .before .before .before .before .before .before .before .before .before .before .before .before .length-at3 .result) (now (c .before .before .before .before .before .before .before .before .before .before .before .before .before .before .before .before .before .before .before .before .before .before .before .before .before .before .before .before .before .before .before .before .before .before .before .before .before .before .before .before .before .before .args .notepad)) (omega (arith, c .before .before .before .before .before .before .before .before .before .if6 .left)))
+slice-aggregate-exchange-3 c = search (front, arith)
 
 slice-relend-prefix-exchange-4 : tie.Need-slice-relend-prefix-exchange-4
 slice-relend-prefix-exchange-4 c = search needs
 
 slice-aggregate-exchange-4 : tie.Need-slice-aggregate-exchange-4
-slice-aggregate-exchange-4 c = sym (length-take-le (c .before .before .before .before .before .before .before .before .before .before .before .before .before .before .before .before .before .before .before .length-at4 .result) (now (c .before .before .before .before .before .before .before .before .before .before .before .before .before .before .before .before .before .before .before .before .before .before .before .before .before .before .before .before .before .before .before .before .before .before .before .before .before .before .before .before .before .before .before .args .buffer1)) (omega (arith, c .before .before .before .before .before .before .before .before .before .if7 .left)))
+slice-aggregate-exchange-4 c = search (front, arith)
 
 slice-relend-prefix-exchange-5 : tie.Need-slice-relend-prefix-exchange-5
 slice-relend-prefix-exchange-5 c = search needs
 
 slice-aggregate-exchange-5 : tie.Need-slice-aggregate-exchange-5
-slice-aggregate-exchange-5 c = sym (length-take-le (c .before .before .before .before .before .before .before .before .before .before .before .before .before .before .before .before .before .before .length-at5 .result) (now (c .before .before .before .before .before .before .before .before .before .before .before .before .before .before .before .before .before .before .before .before .before .before .before .before .before .before .before .before .before .before .before .before .before .before .before .before .before .before .before .before .before .before .before .before .args .buffer2)) (omega (arith, c .before .before .before .before .before .before .before .before .before .if8 .left)))
+slice-aggregate-exchange-5 c = search (front, arith)
 
 slice-relend-prefix-exchange-6 : tie.Need-slice-relend-prefix-exchange-6
 slice-relend-prefix-exchange-6 c = search needs
 
 slice-aggregate-exchange-6 : tie.Need-slice-aggregate-exchange-6
-slice-aggregate-exchange-6 c = sym (length-take-le (c .before .before .before .before .before .before .before .before .before .before .before .before .before .before .before .before .before .length-at6 .result) (now (c .before .before .before .before .before .before .before .before .before .before .before .before .before .before .before .before .before .before .before .before .before .before .before .before .before .before .before .before .before .before .before .before .before .before .before .before .before .before .before .before .before .before .before .before .before .args .run)) (omega (arith, c .before .before .before .before .before .before .before .before .before .if9 .left)))
+slice-aggregate-exchange-6 c = search (front, arith)
 
 slice-relend-prefix-exchange-7 : tie.Need-slice-relend-prefix-exchange-7
 slice-relend-prefix-exchange-7 c = search needs
 
 slice-aggregate-exchange-7 : tie.Need-slice-aggregate-exchange-7
-slice-aggregate-exchange-7 c = sym (length-take-le (c .before .before .before .before .before .before .before .before .before .before .before .before .before .before .before .before .length-at7 .result) (now (c .before .before .before .before .before .before .before .before .before .before .before .before .before .before .before .before .before .before .before .before .before .before .before .before .before .before .before .before .before .before .before .before .before .before .before .before .before .before .before .before .before .before .before .before .before .before .args .reply)) (omega (arith, c .before .before .before .before .before .before .before .before .before .if10 .left)))
+slice-aggregate-exchange-7 c = search (front, arith)
 
 exchange-requires : tie.Need-exchange-requires
 exchange-requires c κs = search needs
 
 same-length-11 : tie.Need-same-length-11
-same-length-11 c = c .before .before .before .before .before .before .before .before .before .before .before .before .before .before .before .before .before .before .before .before .before .before .before .before .before .before .before .before .before .before .before .before .before .before .before .before .before .before .before .before .before .before .before .before .before .before .before .before .before .before .before .read-full .kept .1 .0
+unfolding tested headed
+same-length-11 c = let r = headed (tested (search)) .read-full in omega arith
 
 same-length-12 : tie.Need-same-length-12
 same-length-12 c = search needs

@@ -1,8 +1,15 @@
 -- Every memory keeps its length, at its reading and at the call.
-use mathlib.Core.Path.{_∙_}
+use native.Mathlib.Omega.{arith}
 use borrow.Author.Needs.{needs}
 use Rattle.probe.proofs.exchange.Statement.{statement}
 use Rattle.probe.proofs.exchange.Tie as tie
+
+-- from behind the frame out back to the call, and to the frame in
+unfoldable called : tie.After-send-all → tie.After-once
+called c = search
+
+unfoldable filled : tie.After-once → tie.After-fill-all
+filled c = search
 
 fill-all-requires : tie.Need-fill-all-requires
 fill-all-requires c κs = search needs
@@ -50,25 +57,32 @@ send-all-requires : tie.Need-send-all-requires
 send-all-requires c κs = search needs
 
 same-length-8 : tie.Need-same-length-8
-same-length-8 c = c .before .before .before .before .before .before .before .before .before .before .before .before .before .before .before .before .before .before .before .before .before .once .kept .1 .1 .0 ∙ c .before .before .before .before .before .before .before .before .before .before .before .before .before .before .before .before .before .before .before .before .before .before .before .before .before .before .before .before .before .before .before .before .before .before .before .before .before .before .before .before .before .before .before .before .fill-all .kept .0
+unfolding called filled
+same-length-8 c = let o = called (search) .once in let f = filled (called (search)) .fill-all in omega arith
 
 same-length-9 : tie.Need-same-length-9
-same-length-9 c = c .before .before .before .before .before .before .before .before .before .before .before .before .before .before .before .before .before .before .before .before .before .once .kept .1 .1 .1 .0 ∙ c .before .before .before .before .before .before .before .before .before .before .before .before .before .before .before .before .before .before .before .before .before .before .before .before .before .before .before .before .before .before .before .before .before .before .before .before .before .before .before .before .before .before .before .before .fill-all .kept .1 .0
+unfolding called filled
+same-length-9 c = let o = called (search) .once in let f = filled (called (search)) .fill-all in omega arith
 
 same-length-10 : tie.Need-same-length-10
-same-length-10 c = c .before .before .before .before .before .before .before .before .before .before .before .before .before .before .before .before .before .before .before .before .before .once .kept .1 .1 .1 .1 .0 ∙ c .before .before .before .before .before .before .before .before .before .before .before .before .before .before .before .before .before .before .before .before .before .before .before .before .before .before .before .before .before .before .before .before .before .before .before .before .before .before .before .before .before .before .before .before .fill-all .kept .1 .1 .0
+unfolding called filled
+same-length-10 c = let o = called (search) .once in let f = filled (called (search)) .fill-all in omega arith
 
 same-length-11 : tie.Need-same-length-11
-same-length-11 c = c .before .before .before .before .before .before .before .before .before .before .before .before .before .before .before .before .before .before .before .before .before .once .kept .1 .1 .1 .1 .1 .0 ∙ c .before .before .before .before .before .before .before .before .before .before .before .before .before .before .before .before .before .before .before .before .before .before .before .before .before .before .before .before .before .before .before .before .before .before .before .before .before .before .before .before .before .before .before .before .fill-all .kept .1 .1 .1 .0
+unfolding called filled
+same-length-11 c = let o = called (search) .once in let f = filled (called (search)) .fill-all in omega arith
 
 same-length-12 : tie.Need-same-length-12
-same-length-12 c = c .before .before .before .before .before .before .before .before .before .before .before .before .before .before .before .before .before .before .before .before .before .once .kept .1 .1 .1 .1 .1 .1 .0 ∙ c .before .before .before .before .before .before .before .before .before .before .before .before .before .before .before .before .before .before .before .before .before .before .before .before .before .before .before .before .before .before .before .before .before .before .before .before .before .before .before .before .before .before .before .before .fill-all .kept .1 .1 .1 .1 .0
+unfolding called filled
+same-length-12 c = let o = called (search) .once in let f = filled (called (search)) .fill-all in omega arith
 
 same-length-13 : tie.Need-same-length-13
-same-length-13 c = c .before .before .before .before .before .before .before .before .before .before .before .before .before .before .before .before .before .before .before .before .before .before .before .before .before .before .before .before .before .before .before .before .before .before .before .before .before .before .before .before .before .before .before .before .fill-all .kept .1 .1 .1 .1 .1 .0
+unfolding called filled
+same-length-13 c = let o = called (search) .once in let f = filled (called (search)) .fill-all in omega arith
 
 same-length-14 : tie.Need-same-length-14
-same-length-14 c = c .before .before .before .before .before .before .before .before .before .before .before .before .before .before .before .before .before .before .before .before .before .once .kept .1 .1 .1 .1 .1 .1 .1 .1 .0 ∙ c .before .before .before .before .before .before .before .before .before .before .before .before .before .before .before .before .before .before .before .before .before .before .before .before .before .before .before .before .before .before .before .before .before .before .before .before .before .before .before .before .before .before .before .before .fill-all .kept .1 .1 .1 .1 .1 .1 .0
+unfolding called filled
+same-length-14 c = let o = called (search) .once in let f = filled (called (search)) .fill-all in omega arith
 
 returns-2 : tie.Need-returns-2
 returns-2 c = search needs
