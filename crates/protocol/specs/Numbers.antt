@@ -124,10 +124,6 @@ shortest = 3
 unfoldable pub longest : ℕ
 longest = 256
 
--- the code's numbers of places and lengths wrap at 2^64
-abbrev pub wrapsAt : ℕ
-wrapsAt = 18446744073709551616
-
 -- ---- acknowledge codes
 
 abbrev pub done : ℕ
@@ -189,3 +185,8 @@ badContent = 4
 -- the index count's answer to an index of another length
 abbrev pub noCount : ℕ
 noCount = 0xffff
+
+-- ---- not document 01's: where the code's numbers of places and lengths wrap
+
+abbrev pub wrapsAt : ℕ
+wrapsAt = 18446744073709551616
