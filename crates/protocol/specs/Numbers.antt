@@ -1,5 +1,5 @@
--- Numbers of document 01, by name.
-use Prim.Native.Nat.{ℕ}
+-- Numbers of document 01 and of its change requests, by name.
+use Prim.Native.Nat.{ℕ, _+_}
 
 -- ---- lent memory
 
@@ -123,6 +123,10 @@ shortest = 3
 
 unfoldable pub longest : ℕ
 longest = 256
+
+-- what a receiver holds at most: the longest packet (request [1])
+unfoldable pub holds : ℕ
+holds = headBytes + longest
 
 -- ---- acknowledge codes
 

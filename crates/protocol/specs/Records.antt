@@ -6,9 +6,12 @@ use Rattle.protocol.specs.declared.Settings.{Settings}
 use Rattle.protocol.specs.declared.Called.{Called}
 use Rattle.protocol.specs.declared.Switched.{Switched}
 use Rattle.protocol.specs.declared.Built.{Built}
+use Rattle.protocol.specs.declared.Received.{Received}
+use Rattle.protocol.specs.declared.Emptied.{Emptied}
 use Rattle.protocol.specs.Packet.{Made}
 use Rattle.protocol.specs.Reader.{Transfer, closed, opened, unfit, Plain, Buffer, Reader, settings, fresh, contents, reader}
 use Rattle.protocol.specs.Call.{Lent, Ended}
+use Rattle.protocol.specs.Receiver.{line, Handed}
 
 -- the transfer of the settings' two numbers: the buffer's, and the bytes got so far; none is 0 and 0
 unfoldable pub transferOf : ℕ → ℕ → Transfer
@@ -45,6 +48,22 @@ endedOf c t i n b d room =
 abbrev pub switchedOf : Switched → List ℕ → List ℕ → List ℕ → List ℕ → List ℕ → Ended
 switchedOf s t i n b d =
     record { told = record { refusal = s .refusal; used = 0; length = 0; room = [] }; after = readerOf (s .settings) t i n b d }
+
+-- what a receiver's call returned, and the lent memory and the reply room after it
+abbrev pub receivedOf : Received → List ℕ → List ℕ → List ℕ → List ℕ → List ℕ → List ℕ → Handed
+receivedOf c t i n b d room =
+    record {
+      told = record { refusal = c .refusal; used = c .taken; length = c .length; room = room };
+      after = line (readerOf (c .settings) t i n b d) (c .receiver);
+    }
+
+-- what a receiver's line switch returned, and the lent memory after it
+abbrev pub emptiedOf : Emptied → List ℕ → List ℕ → List ℕ → List ℕ → List ℕ → Handed
+emptiedOf s t i n b d =
+    record {
+      told = record { refusal = s .refusal; used = 0; length = 0; room = [] };
+      after = line (readerOf (s .settings) t i n b d) (s .receiver);
+    }
 
 -- fresh settings have their filled marks clear too
 abbrev pub freshOf : List ℕ → List ℕ → List ℕ → List ℕ → List ℕ → Reader

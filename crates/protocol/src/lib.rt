@@ -53,3 +53,27 @@ pub struct Built {
     pub refusal: u8,
     pub length: usize,
 }
+
+// The bytes that are held between calls: the first `count` cells.
+#[repr(C)]
+pub struct Receiver {
+    pub held: [u8; numbers::HOLDS],
+    pub count: u16,
+}
+
+// What a receiver's call returns: the receiver and the settings after it, the refusal or 0, the bytes taken of the piece, and the reply's
+// length.
+pub struct Received {
+    pub receiver: Receiver,
+    pub settings: Settings,
+    pub refusal: u8,
+    pub taken: usize,
+    pub length: usize,
+}
+
+// What a receiver's line switch returns: the receiver and the settings after it, and the refusal or 0.
+pub struct Emptied {
+    pub receiver: Receiver,
+    pub settings: Settings,
+    pub refusal: u8,
+}

@@ -69,6 +69,9 @@ pub const SHORTEST: usize = 3;
 
 pub const LONGEST: usize = 256;
 
+// What a receiver holds at most: the longest packet (request [1]).
+pub const HOLDS: usize = HEAD + LONGEST;
+
 // Identifiers.
 pub const COMMAND_PACKET: u8 = 1;
 

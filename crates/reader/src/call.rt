@@ -142,7 +142,7 @@ pub(crate) fn hear_packet(
 }
 
 // Whether the lent lengths are right, the reply room's apart (refusal 1).
-fn is_fit(t: usize, i: usize, n: usize, b: usize, c: usize) -> bool
+pub fn is_fit(t: usize, i: usize, n: usize, b: usize, c: usize) -> bool
     ensures { λ r. ⌜ r ≡ lengthsFit t i n b c ⌝ }
 {
     let pages = t / numbers::PAGE;

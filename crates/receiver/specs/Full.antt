@@ -1,0 +1,10 @@
+-- The refusal of a held count above what a receiver holds: 3, behind 1 and 2.
+use mathlib.Core.Bool.{cond}
+use Prim.Native.Nat.{ℕ}
+use lib.Dec.{leb}
+use Rattle.protocol.specs.Numbers.{replyRoom, badLength, badRoom, badSetting}
+use Rattle.reader.specs.Calls.{lengthsFit}
+
+-- by the lent lengths, and that of the reply room
+unfoldable pub fullRefusal : ℕ → ℕ → ℕ → ℕ → ℕ → ℕ → ℕ
+fullRefusal t i n b c room = cond (lengthsFit t i n b c) (cond (leb replyRoom room) badSetting badRoom) badLength
