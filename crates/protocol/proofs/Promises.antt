@@ -24,6 +24,9 @@ pub mod StaysLegal
 pub mod ReplyFits
 pub mod ValidCount
 pub mod Lock
+pub mod Receiver
+pub mod Cuts
+pub mod ComesToRest
 pub mod Met
 pub mod Examples
 pub mod Services
