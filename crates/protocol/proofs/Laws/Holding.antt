@@ -153,6 +153,14 @@ refusal-legal σ r lent t = simp (T→true (fitLengths σ (r .guarded)) (search 
 
 -- ---- a receiver's line switch: refused with nothing changed, or the reader's, and nothing held
 
+pub switch-tells : (r : Reader) → switchOf r .told .refusal ≡ switchRefusal (r .guarded)
+unfolding switchOf switchAs refused
+switch-tells r = go (switchRefusal (r .guarded))
+  where
+    go : (n : ℕ) → switchAs r n .told .refusal ≡ n
+    go zero = refl
+    go (suc n) = refl
+
 pub switch-kinds : (x : Line) (P : Handed → Type 0) → ((k : ℕ) → switchRefusal (x .reader .guarded) ≡ suc k → P (declined (suc k) x []))
     → (switchRefusal (x .reader .guarded) ≡ 0 → P record { told = switchOf (x .reader) .told; after = line (switchOf (x .reader) .after) (holding []) }) → P (lineSwitchOf x)
 unfolding lineSwitchOf lineSwitchAs switchOf switchAs refused

@@ -1,0 +1,85 @@
+-- A receiver's pieces are document 01's calls on its held bytes: so what is promised of any sequence of calls is promised of pieces.
+use mathlib.Core.Path.{_≡_, refl, sym, ap, _∙_}
+use mathlib.Core.List.{List, [], _∷_}
+use Prim.Native.Nat.{ℕ, zero, suc, _*_, _≤_}
+use native.Mathlib.Omega.{arith}
+use lib.Dec.{leb, le→leb}
+use lib.ListN.{length, length-drop}
+use Rattle.protocol.specs.Numbers.{holds, longest}
+use Rattle.protocol.specs.Bytes.{zeros}
+use Rattle.protocol.specs.Index.{setBits}
+use Rattle.protocol.specs.Reader.{Reader}
+use Rattle.protocol.specs.Step.{stepOf}
+use Rattle.protocol.specs.Call.{Shape, Lent, Ended, refused, carried, callOf, switchOf}
+use Rattle.protocol.specs.Dialogue.{Event, received, switch, on, finally}
+use Rattle.protocol.specs.Receiver.{holding, Line, Handed, runOf, handed, receiveOf, lineSwitchOf}
+use Rattle.protocol.specs.Caller.{onLine, finallyOn, runs}
+use Rattle.protocol.proofs.Laws.Logic.{T→true}
+use Rattle.protocol.proofs.Laws.Answers.{switch-stays}
+use Rattle.protocol.proofs.Laws.Holding.{few-held, handedBy, receive-kinds, receive-call, switch-tells, switch-kinds}
+use Rattle.protocol.proofs.Promises.StaysLegal.{Legal}
+use Rattle.protocol.proofs.Promises.ReplyFits.{reply-fits}
+use Rattle.protocol.proofs.Promises.ValidCount.{livePages, valid-count}
+
+-- ---- one call
+
+-- a receiver's call o has the refusal, the reply, its room and the reader after it of document 01's call e on all held bytes, refused or not
+pub record AsCall (e : Ended) (o : Handed) : Type 0 where
+  pub refusal : o .told .refusal ≡ e .told .refusal
+  pub length : o .told .length ≡ e .told .length
+  pub room : o .told .room ≡ e .told .room
+  pub reader : o .after .reader ≡ e .after
+
+as-handed : (x : Line) (piece : List ℕ) (e : Ended) (k : ℕ) → e .told .refusal ≡ k → AsCall e (handedBy x piece e k)
+unfolding handed
+as-handed x piece e zero z = record { refusal = sym z; length = refl; room = refl; reader = refl }
+as-handed x piece e (suc k) z = record { refusal = refl; length = refl; room = refl; reader = refl }
+
+module _ (σ : Shape) (x : Line) (few : x .receiver .count ≤ 265) (piece : List ℕ) (lent : Lent) where
+  pub as-call : AsCall (callOf σ (x .reader) (runOf (x .receiver) piece) lent) (receiveOf σ x piece lent)
+  unfolding holds longest
+  as-call =
+      let e : Ended = callOf σ (x .reader) (runOf (x .receiver) piece) lent in
+      rw (receive-call σ x piece lent (T→true (leb (x .receiver .count) 265) (le→leb (x .receiver .count) 265 few))) (as-handed x piece e (e .told .refusal) refl)
+
+  -- and no more is held than the cells have
+  pub stays-few : receiveOf σ x piece lent .after .receiver .count ≤ 265
+  unfolding handed carried holding holds longest
+  stays-few =
+      receive-kinds σ x piece lent (λ (o : Handed). o .after .receiver .count ≤ 265) (λ k. few)
+      (λ t u l.
+      let run : List ℕ = runOf (x .receiver) piece in
+      omega (arith, length-drop (stepOf (x .reader) run .used) run, few-held (x .receiver) piece l))
+
+module _ (x : Line) where
+  switch-few : x .receiver .count ≤ 265 → lineSwitchOf x .after .receiver .count ≤ 265
+  unfolding holding
+  switch-few few = switch-kinds x (λ (o : Handed). o .after .receiver .count ≤ 265) (λ k e. few) (λ e. omega arith)
+
+  switch-reader : lineSwitchOf x .after .reader ≡ switchOf (x .reader) .after
+  switch-reader =
+      switch-kinds x (λ (o : Handed). o .after .reader ≡ switchOf (x .reader) .after)
+      (λ k e. sym (switch-stays (x .reader) (λ z. let t = switch-tells (x .reader) in absurd (omega arith)))) (λ e. refl)
+
+-- ---- any sequence of pieces and line switches
+
+pub as-calls : (σ : Shape) (es : List Event) (x : Line) → x .receiver .count ≤ 265 → finallyOn σ x es .reader ≡ finally σ (x .reader) (runs σ x es)
+unfolding finallyOn onLine runs finally on
+as-calls σ [] x few = refl
+as-calls σ (received piece lent ∷ es) x few =
+    let y : Line = receiveOf σ x piece lent .after in
+    as-calls σ es y (stays-few σ x few piece lent) ∙ ap (λ (r : Reader). finally σ r (runs σ y es)) (as-call σ x few piece lent .reader)
+as-calls σ (switch ∷ es) x few =
+    let y : Line = lineSwitchOf x .after in
+    as-calls σ es y (switch-few x few) ∙ ap (λ (r : Reader). finally σ r (runs σ y es)) (switch-reader x)
+
+-- demand 2's valid count, of the runs that were held and the replies to them
+pub line-count : (σ : Shape) (ok : σ .most ≤ 8 * σ .indexed) (x : Line) → x .receiver .count ≤ 265 → x .reader .guarded .index ≡ zeros (σ .indexed) → (es : List Event)
+    → setBits (finallyOn σ x es .reader .guarded .index) ≡ livePages σ ok (x .reader) (runs σ x es)
+line-count σ ok x few z es =
+    ap (λ (r : Reader). setBits (r .guarded .index)) (as-calls σ es x few) ∙ valid-count σ ok (x .reader) z (runs σ x es)
+
+-- the reply never exceeds the reply room that is asked for
+pub line-fits : (σ : Shape) (ok : σ .most ≤ 8 * σ .indexed) (x : Line) → x .receiver .count ≤ 265 → Legal σ ok (x .reader) → (piece : List ℕ) (lent : Lent)
+    → receiveOf σ x piece lent .told .length ≤ 700
+line-fits σ ok x few l piece lent = rw (as-call σ x few piece lent .length) (reply-fits σ ok (x .reader) l (runOf (x .receiver) piece) lent)
