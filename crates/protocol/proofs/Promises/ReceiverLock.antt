@@ -3,11 +3,11 @@
 use mathlib.Core.Bool.{Bool, true, false, true≢false, cond}
 use mathlib.Core.Path.{_≡_, refl, sym, ap, _∙_, subst}
 use mathlib.Core.Logic.{_⊎_, inl, inr}
-use mathlib.Core.List.{List, [], _∷_}
-use Prim.Native.Nat.{ℕ, zero, suc}
+use mathlib.Core.List.{List, [], _∷_, _++_}
+use Prim.Native.Nat.{ℕ, zero, suc, _-_}
 use native.Mathlib.Omega.{arith}
 use lib.Dec.{T, leb}
-use lib.ListN.{length, drop}
+use lib.ListN.{length, take, drop}
 use Rattle.protocol.specs.declared.Receiver.{Receiver}
 use Rattle.protocol.specs.Numbers.{holds, badRoom}
 use Rattle.protocol.specs.Reader.{closed, Plain, Guarded, Reader, capacity, keyed, locked, withMark, reader}
@@ -15,7 +15,7 @@ use Rattle.protocol.specs.Table.{Public, publicOf}
 use Rattle.protocol.specs.Step.{wiped}
 use Rattle.protocol.specs.Call.{Shape, Lent, fitLent, legal, Told, Ended, replyOf, refused, refusalOf, callOf, switchRefusal, switchOf}
 use Rattle.protocol.specs.Dialogue.{Event, received, switch, kept}
-use Rattle.protocol.specs.Receiver.{holding, Line, line, Handed, fitting, runOf, handed, declined, receiveOf, lineSwitchOf}
+use Rattle.protocol.specs.Receiver.{bytesIn, holding, Line, line, Handed, fitting, runOf, handed, declined, receiveOf, lineSwitchOf}
 use Rattle.protocol.specs.Caller.{onLine, Talk, endsAt, begins, talk}
 use Rattle.protocol.proofs.Laws.Locked.{toldBy, plainBy, shut-of, locked-call, plain-or, locked-switch, wiped-legal}
 use Rattle.protocol.proofs.Laws.Holding.{handedBy, overfull, receive-call, receive-over, refusal-legal, switch-tells, switch-kinds}
@@ -81,33 +81,37 @@ record Shown : Type 0 where
   plain : Plain
   receiver : Receiver
 
-shownBy : Receiver → List ℕ → Told → Plain → ℕ → Shown
-shownBy h piece t p zero =
-    record {
-      told = record { refusal = 0; used = length (fitting h piece); length = t .length; room = t .room };
-      plain = p;
-      receiver = holding (drop (t .used) (runOf h piece));
-    }
-shownBy h piece t p (suc k) = record { told = t; plain = p; receiver = h }
+-- by the count, the run of the call, the bytes taken, and the receiver for where nothing changes
+shownBy : List ℕ → ℕ → Receiver → Told → Plain → ℕ → Shown
+shownBy run n h t p zero =
+    record { told = record { refusal = 0; used = n; length = t .length; room = t .room }; plain = p; receiver = holding (drop (t .used) run) }
+shownBy run n h t p (suc k) = record { told = t; plain = p; receiver = h }
+
+overShown : Public → Receiver → Lent → Shown
+overShown v h lent =
+    record { told = record { refusal = overfull (cond (fitLent lent) 0 badRoom); used = 0; length = 0; room = lent .room }; plain = v .plain; receiver = h }
+
+shownAs : Public → ℕ → List ℕ → ℕ → Receiver → Lent → Shown
+shownAs v count run n h lent =
+    let t = toldBy v run lent in
+    cond (leb count holds) (shownBy run n h t (plainBy v run lent) (t .refusal)) (overShown v h lent)
 
 shown : Public → Receiver → List ℕ → Lent → Shown
-shown v h piece lent =
-    let t = toldBy v (runOf h piece) lent in
-    cond (leb (h .count) holds) (shownBy h piece t (plainBy v (runOf h piece) lent) (t .refusal))
-    record { told = record { refusal = overfull (cond (fitLent lent) 0 badRoom); used = 0; length = 0; room = lent .room }; plain = v .plain; receiver = h }
+shown v h piece lent = shownAs v (h .count) (runOf h piece) (length (fitting h piece)) h lent
 
 showing : Shown → Guarded → Handed
 showing s g = record { told = s .told; after = line (reader (s .plain) g) (s .receiver) }
 
 locked-receive : (σ : Shape) (r : Reader) (h : Receiver) → T (legal σ r) → T (locked (r .plain)) → (piece : List ℕ) (lent : Lent)
     → receiveOf σ (line r h) piece lent ≡ showing (shown (publicOf r) h piece lent) (r .guarded)
-unfolding shown shownBy showing handed refused publicOf
+unfolding shown shownAs shownBy overShown showing handed refused publicOf
 locked-receive σ r h f l piece lent = go (leb (h .count) holds) refl
   where
     x : Line
     x = line r h
 
-    by : (t : Told) (p : Plain) (k : ℕ) → handedBy x piece record { told = t; after = reader p (r .guarded) } k ≡ showing (shownBy h piece t p k) (r .guarded)
+    by : (t : Told) (p : Plain) (k : ℕ)
+        → handedBy x piece record { told = t; after = reader p (r .guarded) } k ≡ showing (shownBy (runOf h piece) (length (fitting h piece)) h t p k) (r .guarded)
     by t p zero = refl
     by t p (suc k) = refl
 
@@ -120,7 +124,7 @@ locked-receive σ r h f l piece lent = go (leb (h .count) holds) refl
 
 -- the settings stay, but for a right password
 shown-or : (v : Public) → v .plain .verified ≡ false → (h : Receiver) (piece : List ℕ) (lent : Lent) → shown v h piece lent .plain .verified ≡ false → shown v h piece lent .plain ≡ v .plain
-unfolding shown shownBy
+unfolding shown shownAs shownBy overShown
 shown-or v e h piece lent = go (leb (h .count) holds)
   where
     t : Told
@@ -129,16 +133,44 @@ shown-or v e h piece lent = go (leb (h .count) holds)
     p : Plain
     p = plainBy v (runOf h piece) lent
 
-    by : (k : ℕ) → shownBy h piece t p k .plain ≡ p
+    shows : ℕ → Shown
+    shows k = shownBy (runOf h piece) (length (fitting h piece)) h t p k
+
+    by : (k : ℕ) → shows k .plain ≡ p
     by zero = refl
     by (suc k) = refl
 
-    over : Shown
-    over = record { told = record { refusal = overfull (cond (fitLent lent) 0 badRoom); used = 0; length = 0; room = lent .room }; plain = v .plain; receiver = h }
-
-    go : (b : Bool) → cond b (shownBy h piece t p (t .refusal)) over .plain .verified ≡ false → cond b (shownBy h piece t p (t .refusal)) over .plain ≡ v .plain
+    go : (b : Bool) → cond b (shows (t .refusal)) (overShown v h lent) .plain .verified ≡ false → cond b (shows (t .refusal)) (overShown v h lent) .plain ≡ v .plain
     go true z = by (t .refusal) ∙ plain-or v e (runOf h piece) lent (ap (λ (q : Plain). q .verified) (sym (by (t .refusal))) ∙ z)
     go false z = refl
+
+-- equal held bytes, whatever lies in the cells past them
+pub record SameHeld (y z : Receiver) : Type 0 where
+  pub count : y .count ≡ z .count
+  pub bytes : bytesIn y ≡ bytesIn z
+
+record SameShown (a b : Shown) : Type 0 where
+  told : a .told ≡ b .told
+  plain : a .plain ≡ b .plain
+  receiver : SameHeld (a .receiver) (b .receiver)
+
+same-shown : (v : Public) (y z : Receiver) → SameHeld y z → (piece : List ℕ) (lent : Lent) → SameShown (shown v y piece lent) (shown v z piece lent)
+unfolding shown shownAs shownBy overShown fitting runOf
+same-shown v y z h piece lent =
+    let fits : ℕ → List ℕ = λ n. take (holds - n) piece in
+    subst (λ (a : ℕ × (List ℕ × ℕ)). SameShown (shownAs v (a .0) (a .1 .0) (a .1 .1) y lent) (shown v z piece lent))
+    (λ j. (sym (h .count) j, (sym (h .bytes) j ++ fits (sym (h .count) j), length (fits (sym (h .count) j))))) (go (leb (z .count) holds))
+  where
+    shows : Receiver → ℕ → Shown
+    shows x k = shownBy (runOf z piece) (length (fitting z piece)) x (toldBy v (runOf z piece) lent) (plainBy v (runOf z piece) lent) k
+
+    same : (k : ℕ) → SameShown (shows y k) (shows z k)
+    same zero = record { told = refl; plain = refl; receiver = record { count = refl; bytes = refl } }
+    same (suc k) = record { told = refl; plain = refl; receiver = h }
+
+    go : (b : Bool) → SameShown (cond b (shows y (toldBy v (runOf z piece) lent .refusal)) (overShown v y lent)) (cond b (shows z (toldBy v (runOf z piece) lent .refusal)) (overShown v z lent))
+    go true = same (toldBy v (runOf z piece) lent .refusal)
+    go false = record { told = refl; plain = refl; receiver = h }
 
 quiet : Told
 quiet = record { refusal = 0; used = 0; length = 0; room = [] }
@@ -158,7 +190,7 @@ pub record ReceiverBlind (g h : Guarded) (d e : Talk) : Type 0 where
   pub events : d .events ≡ e .events
   pub told : d .told ≡ e .told
   pub settings : d .last .reader .plain ≡ e .last .reader .plain
-  pub receiver : d .last .receiver ≡ e .last .receiver
+  pub held : SameHeld (d .last .receiver) (e .last .receiver)
   pub kept-one : d .last .reader .guarded ≡ kept g (d .events)
   pub kept-other : e .last .reader .guarded ≡ kept h (e .events)
 
@@ -166,36 +198,44 @@ module _ (σ : Shape) (p : Plain) (l : T (locked p)) where
   unverified : (g : Guarded) → T (legal σ (reader p g)) → p .verified ≡ false
   unverified g f = shut-of σ (reader p g) f l .unverified
 
-  blind : (es : List Event) (y : Receiver) (g h : Guarded) → T (legal σ (reader p g)) → T (legal σ (reader p h)) → publicOf (reader p g) ≡ publicOf (reader p h)
-      → ReceiverBlind g h (talk σ (line (reader p g) y) es) (talk σ (line (reader p h) y) es)
+  blind : (es : List Event) (y z : Receiver) → SameHeld y z → (g h : Guarded) → T (legal σ (reader p g)) → T (legal σ (reader p h)) → publicOf (reader p g) ≡ publicOf (reader p h)
+      → ReceiverBlind g h (talk σ (line (reader p g) y) es) (talk σ (line (reader p h) z) es)
   unfolding talk onLine endsAt begins kept publicOf wiped capacity showing
-  blind [] y g h f k v = record { events = refl; told = refl; settings = refl; receiver = refl; kept-one = refl; kept-other = refl }
-  blind (received piece lent ∷ es) y g h f k v =
-      rw (locked-receive σ (reader p g) y f l piece lent, locked-receive σ (reader p h) y k l piece lent, ← v) (go (s .plain .verified) refl (blind es (s .receiver) g h f k v))
+  blind [] y z w g h f k v = record { events = refl; told = refl; settings = refl; held = w; kept-one = refl; kept-other = refl }
+  blind (received piece lent ∷ es) y z w g h f k v =
+      rw (locked-receive σ (reader p g) y f l piece lent, locked-receive σ (reader p h) z k l piece lent, ← v, ← same .told, ← same .plain)
+      (go (s .plain .verified) refl (blind es (s .receiver) (u .receiver) (same .receiver) g h f k v))
     where
       s : Shown
       s = shown (publicOf (reader p g)) y piece lent
 
-      rest : Bool → Plain → Guarded → Talk
-      rest b q c = cond b (endsAt (line (reader q c) (s .receiver))) (talk σ (line (reader q c) (s .receiver)) es)
+      u : Shown
+      u = shown (publicOf (reader p g)) z piece lent
 
-      go : (b : Bool) → s .plain .verified ≡ b → ReceiverBlind g h (talk σ (line (reader p g) (s .receiver)) es) (talk σ (line (reader p h) (s .receiver)) es)
-          → ReceiverBlind g h (begins (received piece lent) (s .told) (rest b (s .plain) g)) (begins (received piece lent) (s .told) (rest b (s .plain) h))
-      go true e i = record { events = refl; told = refl; settings = refl; receiver = refl; kept-one = refl; kept-other = refl }
+      same : SameShown s u
+      same = same-shown (publicOf (reader p g)) y z w piece lent
+
+      rest : Bool → Plain → Guarded → Receiver → Talk
+      rest b q c x = cond b (endsAt (line (reader q c) x)) (talk σ (line (reader q c) x) es)
+
+      go : (b : Bool) → s .plain .verified ≡ b → ReceiverBlind g h (talk σ (line (reader p g) (s .receiver)) es) (talk σ (line (reader p h) (u .receiver)) es)
+          → ReceiverBlind g h (begins (received piece lent) (s .told) (rest b (s .plain) g (s .receiver))) (begins (received piece lent) (s .told) (rest b (s .plain) h (u .receiver)))
+      go true e i = record { events = refl; told = refl; settings = refl; held = same .receiver; kept-one = refl; kept-other = refl }
       go false e i =
-          subst (λ (q : Plain). ReceiverBlind g h (begins (received piece lent) (s .told) (rest false q g)) (begins (received piece lent) (s .told) (rest false q h)))
+          subst (λ (q : Plain). ReceiverBlind g h (begins (received piece lent) (s .told) (rest false q g (s .receiver))) (begins (received piece lent) (s .told) (rest false q h (u .receiver))))
           (sym (shown-or (publicOf (reader p g)) (unverified g f) y piece lent e))
           record {
             events = ap (λ (x : List Event). received piece lent ∷ x) (i .events);
             told = ap (λ (x : List Told). s .told ∷ x) (i .told);
             settings = i .settings;
-            receiver = i .receiver;
+            held = i .held;
             kept-one = i .kept-one;
             kept-other = i .kept-other;
           }
-  blind (switch ∷ es) y g h f k v =
-      rw (locked-switched σ (reader p g) y f l, locked-switched σ (reader p h) y k l)
-      (go (p .verified) (unverified g f) (blind es (holding []) (wiped g) (wiped h) (wiped-legal σ (reader p g) f l) (wiped-legal σ (reader p h) k l) v))
+  blind (switch ∷ es) y z w g h f k v =
+      rw (locked-switched σ (reader p g) y f l, locked-switched σ (reader p h) z k l)
+      (go (p .verified) (unverified g f)
+      (blind es (holding []) (holding []) record { count = refl; bytes = refl } (wiped g) (wiped h) (wiped-legal σ (reader p g) f l) (wiped-legal σ (reader p h) k l) v))
     where
       next : Guarded → Line
       next c = line (reader p (wiped c)) (holding [])
@@ -208,18 +248,18 @@ module _ (σ : Shape) (p : Plain) (l : T (locked p)) where
             events = ap (λ (x : List Event). switch ∷ x) (i .events);
             told = ap (λ (x : List Told). quiet ∷ x) (i .told);
             settings = i .settings;
-            receiver = i .receiver;
+            held = i .held;
             kept-one = i .kept-one;
             kept-other = i .kept-other;
           }
 
 -- legal locked readers of equal capacity and equal settings but for the filled marks, with equal held bytes
-pub receiver-second-half : (σ : Shape) (r t : Reader) (y : Receiver) → T (legal σ r) → T (legal σ t) → T (locked (r .plain)) → r .plain ≡ t .plain → capacity (r .guarded) ≡ capacity (t .guarded)
-    → (es : List Event) → ReceiverBlind (r .guarded) (t .guarded) (talk σ (line r y) es) (talk σ (line t y) es)
+pub receiver-second-half : (σ : Shape) (r t : Reader) (y z : Receiver) → T (legal σ r) → T (legal σ t) → T (locked (r .plain)) → r .plain ≡ t .plain → capacity (r .guarded) ≡ capacity (t .guarded)
+    → SameHeld y z → (es : List Event) → ReceiverBlind (r .guarded) (t .guarded) (talk σ (line r y) es) (talk σ (line t z) es)
 unfolding publicOf
-receiver-second-half σ r t y f k l e c es =
+receiver-second-half σ r t y z f k l e c w es =
     let copy : Reader = reader (r .plain) (t .guarded) in
     let same : copy ≡ t = ap (λ (p : Plain). reader p (t .guarded)) e in
-    subst (λ (x : Reader). ReceiverBlind (r .guarded) (t .guarded) (talk σ (line r y) es) (talk σ (line x y) es)) same
-    (blind σ (r .plain) l es y (r .guarded) (t .guarded) f (subst (λ (x : Reader). T (legal σ x)) (sym same) k)
+    subst (λ (x : Reader). ReceiverBlind (r .guarded) (t .guarded) (talk σ (line r y) es) (talk σ (line x z) es)) same
+    (blind σ (r .plain) l es y z w (r .guarded) (t .guarded) f (subst (λ (x : Reader). T (legal σ x)) (sym same) k)
     (ap (λ (n : ℕ). record { plain = r .plain; capacity = n }) c))
