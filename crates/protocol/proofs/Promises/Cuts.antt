@@ -16,11 +16,12 @@ use Rattle.protocol.specs.Numbers.{holds, longest}
 use Rattle.protocol.specs.Finder.{findOf, usedOf}
 use Rattle.protocol.specs.Reader.{Reader}
 use Rattle.protocol.specs.Step.{stepOf}
-use Rattle.protocol.specs.Call.{Shape, Lent, fitLent, legal, replyOf, carried}
+use Rattle.protocol.specs.Call.{Shape, Lent, fitLent, legal, replyOf, carried, callOf}
 use Rattle.protocol.specs.Receiver.{bytesIn, holding, Line, line, Handed, fitting, runOf, handed, receiveOf}
 use Rattle.protocol.specs.Caller.{Try, Ran, replied, offers, served, Rests, resting, atRest, drained}
 use Rattle.protocol.proofs.Laws.Logic.{and-l, and-r}
-use Rattle.protocol.proofs.Laws.Lists.{lay-nothing}
+use Rattle.protocol.proofs.Laws.Lists.{take-lay, lay-nothing}
+use Rattle.protocol.proofs.Laws.Answers.{call-legal}
 use Rattle.protocol.proofs.Laws.Finder.{used-in}
 use Rattle.protocol.proofs.Laws.Drain.{drained-rest, drained-more, step-rest}
 use Rattle.protocol.proofs.Laws.Holding.{Sized, in-holding, all-in, few-fit, length-run, reply-taken, receive-legal, Carried, accepted}
@@ -139,6 +140,12 @@ module _ (σ : Shape) where
   pub rests-drained : (ts : List Try) (x : Line) (s : List ℕ) (lent : Lent) → T (served σ ts x s) → Rests σ (offers σ ts x s) lent
       → resting σ (offers σ ts x s) lent ≡ drained (x .reader) (bytesIn (x .receiver) ++ s)
   rests-drained ts x s lent t f = rests-ends (offers σ ts x s) lent f ∙ sym (offers-drain ts x s t)
+
+  -- each step of the drain is that call: its bytes used, its reply and its reader after it
+  pub drains-by-call : (r : Reader) (s : List ℕ) (lent : Lent) → T (legal σ r) → T (fitLent lent)
+      → (callOf σ r s lent .told .used ≡ usedOf (findOf s)) × ((replyOf (callOf σ r s lent .told) ≡ stepOf r s .reply) × (callOf σ r s lent .after ≡ stepOf r s .after))
+  unfolding carried replyOf stepOf
+  drains-by-call r s lent f u = rw (call-legal σ r s lent f u) (refl, (take-lay (stepOf r s .reply) (lent .room), refl))
 
   -- WHERE A RUN WAS CUT DOES NOT MATTER: two ways to offer it, no call refused, both through to rest; the same replies in order, the same reader,
   -- the same held bytes, and the same cells
