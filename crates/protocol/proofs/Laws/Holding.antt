@@ -11,7 +11,7 @@ use Rattle.protocol.specs.Numbers.{holds, badLength, badRoom, badSetting
 use Rattle.protocol.specs.Bytes.{zeros}
 use Rattle.protocol.specs.Tests.{verdict}
 use Rattle.protocol.specs.Reader.{Reader}
-use Rattle.protocol.specs.Step.{stepOf, switched}
+use Rattle.protocol.specs.Step.{stepOf}
 use Rattle.protocol.specs.Call.{Shape, fitLengths, Lent, fitLent, sound, legal, Ended, replyOf, refused, carried, refusalOf, callAs, callOf, switchRefusal, switchAs, switchOf}
 use Rattle.protocol.specs.Receiver.{bytesIn, holding, Line, line, Handed, fitting, runOf, handed, declined, receiveRefusal, receiveAs, receiveOf, lineSwitchAs, lineSwitchOf}
 use Rattle.protocol.proofs.Laws.Logic.{T→true, and-l, and-r, and-i, verdict-passed, passed-verdict}
@@ -90,7 +90,7 @@ module _ (σ : Shape) (x : Line) (piece : List ℕ) (lent : Lent) where
       go : (k : ℕ) → receiveRefusal σ x lent ≡ k → P (receiveAs σ x piece lent k)
       go zero e =
           let t = verdict-passed _ tt e in
-          let a : T (fitLengths σ (x .reader .guarded)) = search (and-l) in
+          let a : T (fitLengths σ (x .reader .guarded)) = search (and-l, and-r) in
           let b : T (fitLent lent) = search (and-l, and-r) in
           let c : T (sound (x .reader)) = search (and-l, and-r) in
           let d : T (leb (x .receiver .count) holds) = search (and-l, and-r) in

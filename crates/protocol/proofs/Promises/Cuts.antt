@@ -24,7 +24,7 @@ use Rattle.protocol.proofs.Laws.Lists.{take-lay, lay-nothing}
 use Rattle.protocol.proofs.Laws.Answers.{call-legal}
 use Rattle.protocol.proofs.Laws.Finder.{used-in}
 use Rattle.protocol.proofs.Laws.Drain.{drained-rest, drained-more, step-rest}
-use Rattle.protocol.proofs.Laws.Holding.{Sized, in-holding, all-in, few-fit, length-run, reply-taken, receive-legal, Carried, accepted}
+use Rattle.protocol.proofs.Laws.Holding.{in-holding, all-in, few-fit, length-run, reply-taken, receive-legal, Carried, accepted}
 use Rattle.protocol.proofs.Promises.ZeroUsed.{Waiting, found-waits}
 
 -- ---- one call

@@ -92,10 +92,9 @@ pub one-receive : (x y : Received) (t i n b c o t′ i′ n′ b′ c′ o′ : 
 one-receive x y t i n b c o t′ i′ n′ b′ c′ o′ e =
     let r : OneReader (x .settings) (y .settings) t i n b c t′ i′ n′ b′ c′ =
     one-reader (x .settings) (y .settings) t i n b c t′ i′ n′ b′ c′ (ap (λ (z : Handed). z .after .reader) e)
-    in
-    (
+    in (
       λ j.
-      record { receiver = e j .after .receiver; settings = r .settings j; refusal = e j .told .refusal; taken = e j .told .used; length = e j .told .length },
+          record { receiver = e j .after .receiver; settings = r .settings j; refusal = e j .told .refusal; taken = e j .told .used; length = e j .told .length },
       (r, ap (λ (z : Handed). z .told .room) e),
     )
 

@@ -2,15 +2,12 @@
 -- bytes of the piece it took .. A line switch empties the held bytes. A call takes what fits of the piece, does document 01's call on all
 -- held bytes, and drops those used. Refusals: held count above 265 is 3; a refused call takes and drops nothing."
 use mathlib.Core.Path.{_≡_, refl, sym, subst}
-use mathlib.Core.Logic.{_↔_, _≢_}
+use mathlib.Core.Logic.{_↔_}
 use mathlib.Core.List.{List, [], _∷_, _++_}
 use Prim.Native.Nat.{ℕ, zero, suc, _-_, _≤_, min}
-use native.Mathlib.Omega.{arith}
 use lib.Dec.{T, leb, leb→le, le→leb}
-use lib.ListN.{length, take, drop, replicate, length-take, length-drop}
-use Rattle.protocol.specs.declared.Receiver.{Receiver}
+use lib.ListN.{length, take, drop, replicate, length-take}
 use Rattle.protocol.specs.Numbers.{holds, longest}
-use Rattle.protocol.specs.Reader.{Reader}
 use Rattle.protocol.specs.Step.{stepOf}
 use Rattle.protocol.specs.Call.{core, Lent, fitLent, fitLengths, fitBuffers, fitRoom, sound, Ended, refused, carried, callOf, switchRefusal, switchAs, switchOf}
 use Rattle.protocol.specs.Receiver.{bytesIn, holding, Line, Handed, fitting, runOf, handed, receiveRefusal, receiveAs, receiveOf, lineSwitchAs, lineSwitchOf}

@@ -10,7 +10,7 @@ use Rattle.protocol.specs.Bytes.{zeros}
 use Rattle.protocol.specs.Index.{setBits}
 use Rattle.protocol.specs.Reader.{Reader}
 use Rattle.protocol.specs.Step.{stepOf}
-use Rattle.protocol.specs.Call.{Shape, Lent, Ended, refused, carried, callOf, switchOf}
+use Rattle.protocol.specs.Call.{Shape, Lent, Ended, carried, callOf, switchOf}
 use Rattle.protocol.specs.Dialogue.{Event, received, switch, on, finally}
 use Rattle.protocol.specs.Receiver.{holding, Line, Handed, runOf, handed, receiveOf, lineSwitchOf}
 use Rattle.protocol.specs.Caller.{onLine, finallyOn, runs}

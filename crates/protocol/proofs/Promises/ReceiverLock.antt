@@ -13,7 +13,7 @@ use Rattle.protocol.specs.Numbers.{holds, badRoom}
 use Rattle.protocol.specs.Reader.{closed, Plain, Guarded, Reader, capacity, keyed, locked, withMark, reader}
 use Rattle.protocol.specs.Table.{Public, publicOf}
 use Rattle.protocol.specs.Step.{wiped}
-use Rattle.protocol.specs.Call.{Shape, Lent, fitLent, legal, Told, Ended, replyOf, refused, refusalOf, callOf, switchRefusal, switchOf}
+use Rattle.protocol.specs.Call.{Shape, Lent, fitLent, legal, Told, Ended, replyOf, refused, refusalOf, callOf, switchOf}
 use Rattle.protocol.specs.Dialogue.{Event, received, switch, kept}
 use Rattle.protocol.specs.Receiver.{bytesIn, holding, Line, line, Handed, fitting, runOf, handed, declined, receiveOf, lineSwitchOf}
 use Rattle.protocol.specs.Caller.{onLine, Talk, endsAt, begins, talk}
