@@ -93,7 +93,7 @@ replied-ends (b ∷ a) d = refl
 
 module _ (σ : Shape) where
   -- one call, not refused
-  offered : (x : Line) (n : ℕ) (s : List ℕ) (lent : Lent) → receiveOf σ x (take n s) lent .told .refusal ≡ 0
+  pub offered : (x : Line) (n : ℕ) (s : List ℕ) (lent : Lent) → receiveOf σ x (take n s) lent .told .refusal ≡ 0
       → drained (x .reader) (bytesIn (x .receiver) ++ s)
       ≡ replied (replyOf (receiveOf σ x (take n s) lent .told))
       (drained (receiveOf σ x (take n s) lent .after .reader) (bytesIn (receiveOf σ x (take n s) lent .after .receiver) ++ drop (receiveOf σ x (take n s) lent .told .used) s))
@@ -188,25 +188,39 @@ module _ (σ : Shape) where
         go (yes h) long = omega (arith, count-after σ x piece lent e)
         go (no h) long = let u : usedOf (findOf (runOf (x .receiver) piece)) ≡ 0 = omega arith in absurd (omega (arith, waits-few (runOf (x .receiver) piece) u))
 
-    -- how a caller sees the end by two numbers: a call that takes nothing and leaves the held count was offered nothing, answers nothing, and
-    -- leaves the held bytes
-    pub seen-by-count : receiveOf σ x piece lent .told .used ≡ 0 → receiveOf σ x piece lent .after .receiver .count ≡ x .receiver .count
-        → (piece ≡ []) × ((receiveOf σ x piece lent .told .length ≡ 0) × (bytesIn (receiveOf σ x piece lent .after .receiver) ≡ bytesIn (x .receiver)))
-    seen-by-count k same =
-        (nil-of piece (empty (decLe 1 (length piece))), (ap (λ (o : Handed). o .told .length) does, ap (λ (o : Handed). bytesIn (o .after .receiver)) does ∙ in-holding (bytesIn (x .receiver))))
-      where
-        none : length (fitting (x .receiver) piece) ≡ 0
-        none = sym (took-is σ x piece lent e) ∙ k
+    -- how a caller sees the end by two numbers: a call that takes nothing and leaves the held count
+    module _ (k : receiveOf σ x piece lent .told .used ≡ 0) (same : receiveOf σ x piece lent .after .receiver .count ≡ x .receiver .count) where
+      none : fitting (x .receiver) piece ≡ []
+      none = nil-of (fitting (x .receiver) piece) (sym (took-is σ x piece lent e) ∙ k)
 
-        still : usedOf (findOf (runOf (x .receiver) piece)) ≡ 0
-        still = omega (arith, count-after σ x piece lent e, length-held, none, same, used-in (runOf (x .receiver) piece))
+      still : usedOf (findOf (bytesIn (x .receiver))) ≡ 0
+      still =
+          let run : List ℕ = runOf (x .receiver) piece in
+          let f : length (fitting (x .receiver) piece) ≡ 0 = ap (λ (y : List ℕ). length y) none in
+          let z : usedOf (findOf run) ≡ 0 = omega (arith, count-after σ x piece lent e, length-held, same, used-in run) in
+          ap (λ (y : List ℕ). usedOf (findOf y)) (sym (run-same (x .receiver) piece none)) ∙ z
 
-        empty : Dec (1 ≤ length piece) → length piece ≡ 0
-        empty (yes h) = let full = none-fits (x .receiver) piece few h none in absurd (omega (arith, full-drops full))
-        empty (no h) = omega arith
+      does : receiveOf σ x piece lent ≡ record { told = record { refusal = 0; used = 0; length = 0; room = lent .room }; after = line (x .reader) (holding (bytesIn (x .receiver))) }
+      does = let c : Carried σ x piece lent = accepted σ x piece lent e in idle σ x piece lent (c .legal) (c .roomy) (c .few) none still
 
-        does : receiveOf σ x piece lent ≡ record { told = record { refusal = 0; used = 0; length = 0; room = lent .room }; after = line (x .reader) (holding (bytesIn (x .receiver))) }
-        does =
-            let c : Carried σ x piece lent = accepted σ x piece lent e in
-            let f : fitting (x .receiver) piece ≡ [] = nil-of (fitting (x .receiver) piece) none in
-            idle σ x piece lent (c .legal) (c .roomy) (c .few) f (ap (λ (y : List ℕ). usedOf (findOf y)) (sym (run-same (x .receiver) piece f)) ∙ still)
+      -- it was offered nothing
+      pub offers-nothing : piece ≡ []
+      offers-nothing = nil-of piece (go (decLe 1 (length piece)))
+        where
+          go : Dec (1 ≤ length piece) → length piece ≡ 0
+          go (yes h) =
+              let full : x .receiver .count ≡ 265 = none-fits (x .receiver) piece few h (ap (λ (y : List ℕ). length y) none) in
+              absurd (omega (arith, full-drops full))
+          go (no h) = omega arith
+
+      -- answers nothing, and leaves the held bytes
+      pub answers-nothing : receiveOf σ x piece lent .told .length ≡ 0
+      answers-nothing = ap (λ (o : Handed). o .told .length) does
+
+      pub leaves-held : bytesIn (receiveOf σ x piece lent .after .receiver) ≡ bytesIn (x .receiver)
+      leaves-held = ap (λ (o : Handed). bytesIn (o .after .receiver)) does ∙ in-holding (bytesIn (x .receiver))
+
+      -- so it is the last call
+      pub all-drained : receiveOf σ x piece lent .after ≡ drained (x .reader) (bytesIn (x .receiver) ++ piece) .after
+      unfolding atRest
+      all-drained = rw (does, offers-nothing, append-nil (bytesIn (x .receiver)), drained-rest (x .reader) (bytesIn (x .receiver)) still) refl
