@@ -11,6 +11,22 @@ use Rattle.receiver.proofs.receive.Tie as tie
 held-long : (s : tie.Start) → length (s .args .receiver .held) ≡ 265
 held-long s = search needs
 
+-- places that are far back from the later needs
+unfoldable called : tie.Else2 → tie.After-step
+called c = search
+
+unfoldable laid : tie.After-step → tie.After-put
+laid c = search
+
+unfoldable fitted : tie.After-step → tie.After-lesser
+fitted c = search
+
+unfoldable passed : tie.After-step → tie.Else1
+passed c = search
+
+unfoldable start : tie.After-lesser → tie.Start
+start c = search
+
 cast-count : tie.Need-cast-count
 cast-count c = search needs
 
@@ -80,26 +96,53 @@ same-length-6 : tie.Need-same-length-6
 same-length-6 c = search needs
 
 returns-2 : tie.Need-returns-2
-returns-2 c = ?
+unfolding holds longest called fitted passed laid start
+returns-2 c =
+    let f = (let p : tie.After-lesser = search (fitted, called) in p .lesser .ensures) in
+    let m = (let p : tie.Else1 = search (passed, called) in p .if1 .left) in
+    let l = (let p : tie.Start = search (start, fitted, called) in held-long p) in
+    let p = (let p : tie.After-put = search (laid, called) in p .put .ensures) in
+    let q = (let p : tie.After-step = search called in p .step .ensures) in
+    let z = (let p : tie.Then2 = search in p .if2 .taken) in
+    let e = (let p : tie.After-received-of2 = search in p .received-of2 .ensures) in
+    stops _ _ _ _ _ _ _ _ _ l m _ f _ p _ _ _ _ _ _ _ q _ z e
 
 sub-left : tie.Need-sub-left
-sub-left c = search used-within
+unfolding called
+sub-left c =
+    let e = (let p : tie.After-step = search called in p .step .ensures) in
+    used-within _ _ _ _ _ _ _ _ _ _ _ e
 
 cast-kept : tie.Need-cast-kept
-cast-kept c = search needs
+unfolding called fitted passed
+cast-kept c =
+    let f = (let p : tie.After-lesser = search (fitted, called) in p .lesser .ensures) in
+    let m = (let p : tie.Else1 = search (passed, called) in p .if1 .left) in
+    search needs
 
 slice-aggregate-put-2 : tie.Need-slice-aggregate-put-2
 slice-aggregate-put-2 c = search needs
 
 sub-put-2 : tie.Need-sub-put-2
-sub-put-2 c = search used-within
+unfolding called
+sub-put-2 c =
+    let e = (let p : tie.After-step = search called in p .step .ensures) in
+    used-within _ _ _ _ _ _ _ _ _ _ _ e
 
 part-put-start : tie.Need-part-put-start
-part-put-start c = search used-within
+unfolding called
+part-put-start c =
+    let e = (let p : tie.After-step = search called in p .step .ensures) in
+    used-within _ _ _ _ _ _ _ _ _ _ _ e
 
 part-put-end : tie.Need-part-put-end
-unfolding holds longest
-part-put-end c = search (in-cells, held-long)
+unfolding holds longest called fitted passed laid start
+part-put-end c =
+    let f = (let p : tie.After-lesser = search (fitted, called) in p .lesser .ensures) in
+    let m = (let p : tie.Else1 = search (passed, called) in p .if1 .left) in
+    let l = (let p : tie.Start = search (start, fitted, called) in held-long p) in
+    let p = (let p : tie.After-put = search (laid, called) in p .put .ensures) in
+    in-cells _ _ _ _ f l m _ p
 
 put-requires-2 : tie.Need-put-requires-2
 put-requires-2 c κs = search needs
@@ -123,7 +166,16 @@ same-length-12 : tie.Need-same-length-12
 same-length-12 c = search needs
 
 returns-3 : tie.Need-returns-3
-returns-3 c = ?
+unfolding holds longest called fitted passed laid start
+returns-3 c =
+    let f = (let p : tie.After-lesser = search (fitted, called) in p .lesser .ensures) in
+    let m = (let p : tie.Else1 = search (passed, called) in p .if1 .left) in
+    let l = (let p : tie.Start = search (start, fitted, called) in held-long p) in
+    let p = (let p : tie.After-put = search (laid, called) in p .put .ensures) in
+    let q = (let p : tie.After-step = search called in p .step .ensures) in
+    let z = (let p : tie.Else2 = search in p .if2 .left) in
+    let e = (let p : tie.After-put2 = search in p .put2 .ensures) in
+    goes _ _ _ _ _ _ _ _ _ l m _ f _ p _ _ _ _ _ _ _ q _ z e
 
 pub receive-spec : {M : Type 1} → statement M
 receive-spec =
