@@ -21,7 +21,8 @@ use Rattle.protocol.proofs.Laws.Answers.{call-legal}
 use Rattle.protocol.proofs.Laws.Finder.{used-in}
 use Rattle.protocol.proofs.Laws.Holding.{in-holding, holding-sized, few-in, few-held, receive-kinds, receive-legal, switch-kinds}
 use Rattle.protocol.proofs.Promises.StaysLegal.{Legal, stays-legal}
-use Rattle.protocol.proofs.Promises.Cuts.{nil-of, run-left, idle, run-same, fits-nil, cut-free, none-fits, length-held, full-drops, count-after, took-is}
+use Rattle.protocol.proofs.Promises.ZeroUsed.{empty-run}
+use Rattle.protocol.proofs.Promises.Cuts.{run-left, idle, run-same, fits-nil, cut-free, none-fits, length-held, full-drops, count-after, took-is}
 
 -- every call of a caller has a fit reply room; and none offers nothing while bytes are left
 unfoldable pub roomy : List Try → Bool
@@ -135,7 +136,7 @@ module _ (σ : Shape) (ok : σ .most ≤ 8 * σ .indexed) where
     unfolding offers roomy eager neat
     comes-to-rest [] x s k v w m =
         let none : length (bytesIn (x .receiver)) ≤ 0 = omega (arith, few-in (x .receiver)) in
-        rests-now x k s (nil-of s (omega arith)) (omega (arith, used-in (bytesIn (x .receiver))))
+        rests-now x k s (empty-run s (omega arith)) (omega (arith, used-in (bytesIn (x .receiver))))
     comes-to-rest (t ∷ ts) x s k v w m =
         rests-replied (replyOf (o .told)) (offers σ ts (o .after) (drop (o .told .used) s)) lent
         (go (decLe 1 (length (fitting (x .receiver) piece) + n)) (comes-to-rest ts (o .after) (drop (o .told .used) s) (ready-receive x k piece (t .lent)) more (and-r (leb 1 (t .size)) (eager ts) w)))
@@ -170,7 +171,7 @@ module _ (σ : Shape) (ok : σ .most ≤ 8 * σ .indexed) where
         -- no byte is left to offer, and none was used
         still : length (fitting (x .receiver) piece) ≡ 0 → n ≡ 0 → s ≡ [] → goal
         still a z p =
-            let f : fitting (x .receiver) piece ≡ [] = nil-of (fitting (x .receiver) piece) a in
+            let f : fitting (x .receiver) piece ≡ [] = empty-run (fitting (x .receiver) piece) a in
             let z′ : usedOf (findOf (bytesIn (x .receiver))) ≡ 0 = ap (λ (y : List ℕ). usedOf (findOf y)) (sym (run-same (x .receiver) piece f)) ∙ z in
             let i = idle σ x piece (t .lent) (k .legal .legal) fit (few-holds x k) f z′ in
             let d : drop (o .told .used) s ≡ [] = ap (λ (j : ℕ). drop j s) (took ∙ a) ∙ p in
@@ -186,7 +187,7 @@ module _ (σ : Shape) (ok : σ .most ≤ 8 * σ .indexed) where
 
         rest : length (fitting (x .receiver) piece) ≡ 0 → n ≡ 0 → Dec (1 ≤ length s) → goal
         rest a z (yes h) = stuck a z h
-        rest a z (no h) = still a z (nil-of s (omega arith))
+        rest a z (no h) = still a z (empty-run s (omega arith))
 
         go : Dec (1 ≤ length (fitting (x .receiver) piece) + n) → (2 * length (drop (o .told .used) s) + o .after .receiver .count ≤ length ts → goal) → goal
         go (yes h) ih =

@@ -25,13 +25,9 @@ use Rattle.protocol.proofs.Laws.Answers.{call-legal}
 use Rattle.protocol.proofs.Laws.Finder.{used-in}
 use Rattle.protocol.proofs.Laws.Drain.{drained-rest, drained-more, step-rest}
 use Rattle.protocol.proofs.Laws.Holding.{in-holding, all-in, few-fit, length-run, reply-taken, receive-legal, Carried, accepted}
-use Rattle.protocol.proofs.Promises.ZeroUsed.{Waiting, found-waits}
+use Rattle.protocol.proofs.Promises.ZeroUsed.{Waiting, empty-run, found-waits}
 
 -- ---- one call
-
-pub nil-of : (s : List ℕ) → length s ≡ 0 → s ≡ []
-nil-of [] e = refl
-nil-of (b ∷ s) e = absurd (omega arith)
 
 -- what is taken of a piece, and then all that is left of the run, is the run
 prefix : (k n : ℕ) (s : List ℕ) → take k (take n s) ++ drop (length (take k (take n s))) s ≡ s
@@ -191,7 +187,7 @@ module _ (σ : Shape) where
     -- how a caller sees the end by two numbers: a call that takes nothing and leaves the held count
     module _ (k : receiveOf σ x piece lent .told .used ≡ 0) (same : receiveOf σ x piece lent .after .receiver .count ≡ x .receiver .count) where
       none : fitting (x .receiver) piece ≡ []
-      none = nil-of (fitting (x .receiver) piece) (sym (took-is σ x piece lent e) ∙ k)
+      none = empty-run (fitting (x .receiver) piece) (sym (took-is σ x piece lent e) ∙ k)
 
       still : usedOf (findOf (bytesIn (x .receiver))) ≡ 0
       still =
@@ -205,7 +201,7 @@ module _ (σ : Shape) where
 
       -- it was offered nothing
       pub offers-nothing : piece ≡ []
-      offers-nothing = nil-of piece (go (decLe 1 (length piece)))
+      offers-nothing = empty-run piece (go (decLe 1 (length piece)))
         where
           go : Dec (1 ≤ length piece) → length piece ≡ 0
           go (yes h) =

@@ -1,5 +1,6 @@
 -- A receiver's pieces are document 01's calls on its held bytes: so what is promised of any sequence of calls is promised of pieces.
-use mathlib.Core.Path.{_≡_, refl, sym, ap, _∙_}
+use mathlib.Core.Bool.{Bool, true, false, cond}
+use mathlib.Core.Path.{_≡_, refl, sym, ap, _∙_, subst}
 use mathlib.Core.List.{List, [], _∷_}
 use Prim.Native.Nat.{ℕ, zero, suc, _*_, _≤_}
 use native.Mathlib.Omega.{arith}
@@ -11,9 +12,9 @@ use Rattle.protocol.specs.Index.{setBits}
 use Rattle.protocol.specs.Reader.{Reader}
 use Rattle.protocol.specs.Step.{stepOf}
 use Rattle.protocol.specs.Call.{Shape, Lent, Ended, carried, callOf, switchOf}
-use Rattle.protocol.specs.Dialogue.{Event, received, switch, on, finally}
+use Rattle.protocol.specs.Dialogue.{Event, received, switch, on, finally, Dialogue, over, first, dialogue}
 use Rattle.protocol.specs.Receiver.{holding, Line, Handed, runOf, handed, receiveOf, lineSwitchOf}
-use Rattle.protocol.specs.Caller.{onLine, finallyOn, runs}
+use Rattle.protocol.specs.Caller.{onLine, finallyOn, runs, Talk, endsAt, begins, talk}
 use Rattle.protocol.proofs.Laws.Logic.{T→true}
 use Rattle.protocol.proofs.Laws.Answers.{switch-stays}
 use Rattle.protocol.proofs.Laws.Holding.{few-held, handedBy, receive-kinds, receive-call, switch-tells, switch-kinds}
@@ -72,6 +73,50 @@ as-calls σ (received piece lent ∷ es) x few =
 as-calls σ (switch ∷ es) x few =
     let y : Line = lineSwitchOf x .after in
     as-calls σ es y (switch-few x few) ∙ ap (λ (r : Reader). finally σ r (runs σ y es)) (switch-reader x)
+
+-- up to and including the first accepted password too: a talk goes as far as the dialogue of its runs, so `course` says where it stops
+pub record AsDialogue (σ : Shape) (x : Line) (d : Talk) (e : Dialogue) : Type 0 where
+  pub events : runs σ x (d .events) ≡ e .events
+  pub last : d .last .reader ≡ e .last
+
+pub as-dialogue : (σ : Shape) (es : List Event) (x : Line) → x .receiver .count ≤ 265 → AsDialogue σ x (talk σ x es) (dialogue σ (x .reader) (runs σ x es))
+unfolding talk onLine endsAt begins runs dialogue on over first
+as-dialogue σ [] x few = record { events = refl; last = refl }
+as-dialogue σ (received piece lent ∷ es) x few =
+    subst (AsDialogue σ x (talk σ x (received piece lent ∷ es))) here (go (o .after .reader .plain .verified) (as-dialogue σ es (o .after) (stays-few σ x few piece lent)))
+  where
+    o : Handed
+    o = receiveOf σ x piece lent
+
+    run : Event
+    run = received (runOf (x .receiver) piece) lent
+
+    rest : Bool → Reader → Dialogue
+    rest b r = first run (callOf σ (x .reader) (runOf (x .receiver) piece) lent .told) (cond b (over r) (dialogue σ r (runs σ (o .after) es)))
+
+    here : rest (o .after .reader .plain .verified) (o .after .reader) ≡ dialogue σ (x .reader) (run ∷ runs σ (o .after) es)
+    here = ap (λ (r : Reader). rest (r .plain .verified) r) (as-call σ x few piece lent .reader)
+
+    go : (b : Bool) → AsDialogue σ (o .after) (talk σ (o .after) es) (dialogue σ (o .after .reader) (runs σ (o .after) es))
+        → AsDialogue σ x (begins (received piece lent) (o .told) (cond b (endsAt (o .after)) (talk σ (o .after) es))) (rest b (o .after .reader))
+    go true i = record { events = refl; last = refl }
+    go false i = record { events = ap (λ (y : List Event). run ∷ y) (i .events); last = i .last }
+as-dialogue σ (switch ∷ es) x few =
+    subst (AsDialogue σ x (talk σ x (switch ∷ es))) here (go (o .after .reader .plain .verified) (as-dialogue σ es (o .after) (switch-few x few)))
+  where
+    o : Handed
+    o = lineSwitchOf x
+
+    rest : Bool → Reader → Dialogue
+    rest b r = first switch (switchOf (x .reader) .told) (cond b (over r) (dialogue σ r (runs σ (o .after) es)))
+
+    here : rest (o .after .reader .plain .verified) (o .after .reader) ≡ dialogue σ (x .reader) (switch ∷ runs σ (o .after) es)
+    here = ap (λ (r : Reader). rest (r .plain .verified) r) (switch-reader x)
+
+    go : (b : Bool) → AsDialogue σ (o .after) (talk σ (o .after) es) (dialogue σ (o .after .reader) (runs σ (o .after) es))
+        → AsDialogue σ x (begins switch (o .told) (cond b (endsAt (o .after)) (talk σ (o .after) es))) (rest b (o .after .reader))
+    go true i = record { events = refl; last = refl }
+    go false i = record { events = ap (λ (y : List Event). switch ∷ y) (i .events); last = i .last }
 
 -- demand 2's valid count, of the runs that were held and the replies to them
 pub line-count : (σ : Shape) (ok : σ .most ≤ 8 * σ .indexed) (x : Line) → x .receiver .count ≤ 265 → x .reader .guarded .index ≡ zeros (σ .indexed) → (es : List Event)

@@ -24,7 +24,7 @@ pub record UnfinishedPacket (s : List ℕ) : Type 0 where
 abbrev pub Waiting : List ℕ → Type 0
 Waiting s = (s ≡ []) ⊎ (s ≡ 0xef ∷ []) ⊎ UnfinishedPacket s
 
-empty-run : (s : List ℕ) → length s ≡ 0 → s ≡ []
+pub empty-run : (s : List ℕ) → length s ≡ 0 → s ≡ []
 empty-run [] e = refl
 empty-run (b ∷ s) e = absurd (omega arith)
 
