@@ -1,7 +1,8 @@
-//! The table of examples P1 to P12.
+//! The table of examples P1 to P12, and examples of the receiver.
 
 use crate::reader::Reader;
 use crate::readers::fresh_reader;
+use crate::receiver::Receiver;
 
 /// A reader and what it is sent, step by step.
 pub struct Example {
@@ -16,12 +17,27 @@ pub struct Step {
     pub reply: Vec<u8>,
 }
 
+/// What a fresh reader with an empty receiver is offered, piece by piece.
+pub struct Offered {
+    pub name: &'static str,
+    pub steps: Vec<OfferedStep>,
+}
+
+pub struct OfferedStep {
+    pub piece: Vec<u8>,
+    pub taken: usize,
+    pub reply: Vec<u8>,
+    /// The receiver after the call.
+    pub receiver: Receiver,
+}
+
 pub const HAND_SHAKE: &str = "EF 01 A 01 00 03 40 00 44";
 pub const COUNT: &str = "EF 01 A 01 00 03 1D 00 21";
 const DELETE_9_1: &str = "EF 01 A 01 00 07 0C 00 09 00 01 00 1E";
 const DELETE_9_2: &str = "EF 01 A 01 00 07 0C 00 09 00 02 00 1F";
 const DELETE_0_0: &str = "EF 01 A 01 00 07 0C 00 00 00 00 00 14";
 pub const FINE: &str = "EF 01 A 07 00 03 00 00 0A";
+const UNKNOWN: &str = "EF 01 A 07 00 03 19 00 23";
 
 pub fn all() -> Vec<Example> {
     let fresh = fresh_reader(10);
@@ -50,6 +66,47 @@ pub fn all() -> Vec<Example> {
             "P12",
             &two_stored,
             &[(DELETE_9_2, 16, "EF 01 A 07 00 03 10 00 1A"), (DELETE_0_0, 16, FINE), (COUNT, 12, &count(2))],
+        ),
+    ]
+}
+
+/// The receiver's examples: a piece, the bytes taken of it, the reply, and the bytes held afterwards.
+pub fn of_receiver() -> Vec<Offered> {
+    let zeroes = |count: usize| " 00".repeat(count);
+    let longest = format!("EF 01 A 01 01 00{} 00 02", zeroes(254));
+    let (cut, left) = longest.split_at(longest.len() - 3);
+    let example = |name, steps: &[(&str, usize, &str, &str)]| {
+        let step = |&(piece, taken, reply, held): &(&str, usize, &str, &str)| OfferedStep {
+            piece: bytes(piece),
+            taken,
+            reply: bytes(reply),
+            receiver: Receiver::holding(&bytes(held)),
+        };
+        Offered { name, steps: steps.iter().map(step).collect() }
+    };
+    vec![
+        example("of an empty piece", &[("", 0, "", "")]),
+        example(
+            "of P1 in three pieces",
+            &[("EF", 1, "", "EF"), ("01 A 01 00", 7, "", "EF 01 A 01 00"), ("03 40 00 44", 4, FINE, "")],
+        ),
+        example(
+            "of P1 and P8 in one piece",
+            &[(&format!("{HAND_SHAKE} {COUNT}"), 24, FINE, COUNT), ("", 0, &count(0), ""), ("", 0, "", "")],
+        ),
+        example("of noise", &[(&"41".repeat(300), 265, "", ""), ("41 EF", 2, "", "EF"), ("41", 1, "", "")]),
+        example("of P6", &[("EF 01 A 01 00 02 40", 10, "", "A 01 00 02 40"), ("", 0, "", "")]),
+        example(
+            "of the longest packet, code 00h, and P1",
+            &[(&format!("{longest} {HAND_SHAKE}"), 265, UNKNOWN, ""), (HAND_SHAKE, 12, FINE, "")],
+        ),
+        example(
+            "of the longest unfinished packet, and its last byte before P1",
+            &[(cut, 264, "", cut), ("", 0, "", cut), (&format!("{left} {HAND_SHAKE}"), 1, UNKNOWN, "")],
+        ),
+        example(
+            "of noise before the longest packet",
+            &[(&format!("41 {longest}"), 265, "", cut), ("", 0, "", cut), (left, 1, UNKNOWN, "")],
         ),
     ]
 }
