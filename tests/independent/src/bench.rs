@@ -41,8 +41,8 @@ impl Bench {
         }
     }
 
-    /// The replies to a piece that comes in: it is offered, then its rest, then an empty piece, until a call takes nothing,
-    /// answers nothing and leaves the held bytes as they are.
+    /// The replies to a piece that comes in: it is offered, then its rest, then an empty piece, until a call takes
+    /// nothing, answers nothing and leaves the held bytes as they are.
     fn take(&mut self, piece: &[u8]) -> Result<Vec<u8>, Vec<String>> {
         let mut rest = piece;
         let mut replies = Vec::new();

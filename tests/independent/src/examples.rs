@@ -7,28 +7,19 @@ use crate::receiver::Receiver;
 /// A reader and what it is sent, step by step.
 pub struct Example {
     pub name: &'static str,
+    pub receiver: Option<Receiver>,
     pub reader: Reader,
     pub steps: Vec<Step>,
 }
 
 pub struct Step {
+    /// The run, or the piece that the receiver is offered.
     pub run: Vec<u8>,
+    /// The bytes used of the run, or those taken of the piece.
     pub used: usize,
     pub reply: Vec<u8>,
-}
-
-/// What a fresh reader with an empty receiver is offered, piece by piece.
-pub struct Offered {
-    pub name: &'static str,
-    pub steps: Vec<OfferedStep>,
-}
-
-pub struct OfferedStep {
-    pub piece: Vec<u8>,
-    pub taken: usize,
-    pub reply: Vec<u8>,
-    /// The receiver after the call.
-    pub receiver: Receiver,
+    /// The receiver after the step.
+    pub receiver: Option<Receiver>,
 }
 
 pub const HAND_SHAKE: &str = "EF 01 A 01 00 03 40 00 44";
@@ -40,6 +31,10 @@ pub const FINE: &str = "EF 01 A 07 00 03 00 00 0A";
 const UNKNOWN: &str = "EF 01 A 07 00 03 19 00 23";
 
 pub fn all() -> Vec<Example> {
+    [of_document_01(), of_receiver()].into_iter().flatten().collect()
+}
+
+fn of_document_01() -> Vec<Example> {
     let fresh = fresh_reader(10);
     let mut locked = fresh.clone();
     locked.settings.password = [0, 0, 0, 5];
@@ -47,8 +42,13 @@ pub fn all() -> Vec<Example> {
     two_stored.index[..2].copy_from_slice(&[0x01, 0x02]);
 
     let example = |name, reader: &Reader, steps: &[(&str, usize, &str)]| {
-        let step = |&(run, used, reply): &(&str, usize, &str)| Step { run: bytes(run), used, reply: bytes(reply) };
-        Example { name, reader: reader.clone(), steps: steps.iter().map(step).collect() }
+        let step = |&(run, used, reply): &(&str, usize, &str)| Step {
+            run: bytes(run),
+            used,
+            reply: bytes(reply),
+            receiver: None,
+        };
+        Example { name, receiver: None, reader: reader.clone(), steps: steps.iter().map(step).collect() }
     };
     vec![
         example("P1", &fresh, &[(HAND_SHAKE, 12, FINE)]),
@@ -70,43 +70,43 @@ pub fn all() -> Vec<Example> {
     ]
 }
 
-/// The receiver's examples: a piece, the bytes taken of it, the reply, and the bytes held afterwards.
-pub fn of_receiver() -> Vec<Offered> {
-    let zeroes = |count: usize| " 00".repeat(count);
-    let longest = format!("EF 01 A 01 01 00{} 00 02", zeroes(254));
-    let (cut, left) = longest.split_at(longest.len() - 3);
+/// A fresh reader with an empty receiver: a piece, the bytes taken of it, the reply, and the bytes held afterwards.
+fn of_receiver() -> Vec<Example> {
+    let longest = format!("EF 01 A 01 01 00{} 00 02", " 00".repeat(254));
+    let (cut, last) = longest.split_at(longest.len() - 3);
     let example = |name, steps: &[(&str, usize, &str, &str)]| {
-        let step = |&(piece, taken, reply, held): &(&str, usize, &str, &str)| OfferedStep {
-            piece: bytes(piece),
-            taken,
+        let step = |&(piece, taken, reply, held): &(&str, usize, &str, &str)| Step {
+            run: bytes(piece),
+            used: taken,
             reply: bytes(reply),
-            receiver: Receiver::holding(&bytes(held)),
+            receiver: Some(Receiver::holding(&bytes(held))),
         };
-        Offered { name, steps: steps.iter().map(step).collect() }
+        let steps = steps.iter().map(step).collect();
+        Example { name, receiver: Some(Receiver::empty()), reader: fresh_reader(10), steps }
     };
     vec![
-        example("of an empty piece", &[("", 0, "", "")]),
+        example("an empty piece", &[("", 0, "", "")]),
         example(
-            "of P1 in three pieces",
+            "P1 in three pieces",
             &[("EF", 1, "", "EF"), ("01 A 01 00", 7, "", "EF 01 A 01 00"), ("03 40 00 44", 4, FINE, "")],
         ),
         example(
-            "of P1 and P8 in one piece",
+            "P1 and P8 in one piece",
             &[(&format!("{HAND_SHAKE} {COUNT}"), 24, FINE, COUNT), ("", 0, &count(0), ""), ("", 0, "", "")],
         ),
-        example("of noise", &[(&"41".repeat(300), 265, "", ""), ("41 EF", 2, "", "EF"), ("41", 1, "", "")]),
-        example("of P6", &[("EF 01 A 01 00 02 40", 10, "", "A 01 00 02 40"), ("", 0, "", "")]),
+        example("noise", &[(&"41".repeat(300), 265, "", ""), ("41 EF", 2, "", "EF"), ("41", 1, "", "")]),
+        example("P6 in one piece", &[("EF 01 A 01 00 02 40", 10, "", "A 01 00 02 40"), ("", 0, "", "")]),
         example(
-            "of the longest packet, code 00h, and P1",
+            "the longest packet, code 00h, and P1",
             &[(&format!("{longest} {HAND_SHAKE}"), 265, UNKNOWN, ""), (HAND_SHAKE, 12, FINE, "")],
         ),
         example(
-            "of the longest unfinished packet, and its last byte before P1",
-            &[(cut, 264, "", cut), ("", 0, "", cut), (&format!("{left} {HAND_SHAKE}"), 1, UNKNOWN, "")],
+            "the longest unfinished packet, then its last byte and P1",
+            &[(cut, 264, "", cut), ("", 0, "", cut), (&format!("{last} {HAND_SHAKE}"), 1, UNKNOWN, "")],
         ),
         example(
-            "of noise before the longest packet",
-            &[(&format!("41 {longest}"), 265, "", cut), ("", 0, "", cut), (left, 1, UNKNOWN, "")],
+            "noise before the longest packet",
+            &[(&format!("41 {longest}"), 265, "", cut), ("", 0, "", cut), (last, 1, UNKNOWN, "")],
         ),
     ]
 }

@@ -24,7 +24,6 @@ use cases::Dialogue;
 use chance::Chance;
 use frame::{Outcome, Request};
 use probe::Probe;
-use receiver::Receiver;
 use receivers::Caller;
 use std::fs;
 use std::io::{self, Write};
@@ -37,11 +36,12 @@ const USAGE: &str = "usage: independent [--cases N] [--seed S] [--quiet] -- PROG
        independent --errors            list the deliberate errors
        independent --dialogue FOLDER   write the stored dialogue, stdin and stdout, into the folder";
 
-const DEFAULT_CASES: u64 = 12_000;
+const DEFAULT_CASES: u64 = 14_000;
 /// So many cases or more must reach all that is counted; the examples do not count.
-const COVERING_CASES: u64 = 1000;
-/// One case in so many is a dialogue, one a receiver's caller, one a single receiver; the others are single readers.
-const TURN: u64 = 6;
+const COVERING_CASES: u64 = 2000;
+/// In so many cases there are one dialogue with a reader, one caller of a receiver and two single receivers; the others
+/// are single readers.
+const TURN: u64 = 7;
 /// How often a long run tells how far it is.
 const PROGRESS: Duration = Duration::from_secs(10);
 
@@ -113,16 +113,25 @@ fn number(name: &str, value: Option<&String>) -> Result<u64, String> {
 }
 
 fn list_errors() -> Result<(), End> {
-    println!("{}", wrong::names().join("\n"));
+    for (name, _) in wrong::ERRORS {
+        println!("{name}");
+    }
     Ok(())
 }
 
 /// Acts as a probe with the independent reader, or with a wrong one.
 fn answer(arguments: &[String]) -> Result<(), End> {
-    let carry_out: Box<dyn Fn(&Request) -> Outcome> = match arguments {
-        [] => Box::new(Request::carried_out),
-        [name] => Box::new(wrong::named(name).ok_or_else(|| format!("unknown error {name}\n{USAGE}"))?),
+    let wrong = match arguments {
+        [] => None,
+        [name] => match wrong::ERRORS.iter().find(|(error, _)| error == name) {
+            Some((_, wrong)) => Some(wrong),
+            None => return Err(End::Trouble(format!("unknown error {name}\n{USAGE}"))),
+        },
         _ => return Err(End::Trouble(format!("--answer takes one error\n{USAGE}"))),
+    };
+    let carry_out = |request: &Request| match wrong {
+        Some(wrong) => wrong.carried_out(request),
+        None => request.carried_out(),
     };
     let (mut input, mut output) = (io::stdin().lock(), io::stdout().lock());
     let mut answer_all = || -> io::Result<()> {
@@ -159,7 +168,6 @@ fn compare(options: Options) -> Result<(), End> {
         case: String::new(),
     };
     comparer.examples()?;
-    comparer.receiver_examples()?;
     (comparer.readers, comparer.receivers) = Default::default();
     let mut told = Instant::now();
     for case in 0..cases {
@@ -168,7 +176,7 @@ fn compare(options: Options) -> Result<(), End> {
         match case % TURN {
             0 => comparer.dialogue(Dialogue::new(chance))?,
             1 => comparer.caller(Caller::new(chance))?,
-            2 => drop(comparer.agreed(&receivers::single(chance))?),
+            2 | 3 => drop(comparer.agreed(&receivers::single(chance))?),
             _ => drop(comparer.agreed(&cases::single(chance))?),
         }
         if !quiet && told.elapsed() > PROGRESS {
@@ -206,49 +214,30 @@ struct Comparer {
 }
 
 impl Comparer {
-    /// The examples of document 01, which also bind the independent reader.
+    /// The examples, which also bind the independent reader and receiver.
     fn examples(&mut self) -> Result<(), End> {
         for example in examples::all() {
-            self.case = format!("example {}", example.name);
-            let mut reader = example.reader;
+            self.case = format!("the example {}", example.name);
+            let (mut receiver, mut reader) = (example.receiver, example.reader);
             for step in example.steps {
                 let room = vec![0x5A; reader::ROOM];
-                let request = Request { line_switch: false, receiver: None, reader, run: step.run, room };
+                let request = Request { line_switch: false, receiver, reader, run: step.run, room };
                 let outcome = self.agreed(&request)?;
                 let answer = &outcome.answer;
-                self.demand(answer.used == step.used && outcome.room[..answer.length] == step.reply)?;
-                reader = outcome.reader;
-            }
-        }
-        Ok(())
-    }
-
-    /// The examples of the receiver, which also bind the independent one.
-    fn receiver_examples(&mut self) -> Result<(), End> {
-        for example in examples::of_receiver() {
-            self.case = format!("the receiver's example {}", example.name);
-            let mut reader = readers::fresh_reader(10);
-            let mut receiver = Some(Receiver::empty());
-            for step in example.steps {
-                let room = vec![0x5A; reader::ROOM];
-                let request = Request { line_switch: false, receiver, reader, run: step.piece, room };
-                let outcome = self.agreed(&request)?;
-                let answer = &outcome.answer;
-                self.demand(answer.used == step.taken && outcome.room[..answer.length] == step.reply)?;
-                receiver = outcome.receiver;
-                self.demand(receiver.as_ref() == Some(&step.receiver))?;
-                reader = outcome.reader;
+                let answered = answer.used == step.used && outcome.room[..answer.length] == step.reply;
+                self.demand(answered && outcome.receiver == step.receiver, "gives another answer")?;
+                (receiver, reader) = (outcome.receiver, outcome.reader);
             }
         }
         Ok(())
     }
 
     /// A demand of the papers on the independent reader, in the case at hand.
-    fn demand(&self, holds: bool) -> Result<(), String> {
+    fn demand(&self, holds: bool, failure: &str) -> Result<(), String> {
         if holds {
             Ok(())
         } else {
-            Err(format!("the independent reader breaks {}", self.case))
+            Err(format!("the independent reader {failure} in {}", self.case))
         }
     }
 
@@ -264,7 +253,7 @@ impl Comparer {
         while let Some(request) = caller.next() {
             let outcome = self.agreed(&request)?;
             caller.go_on(&request, outcome);
-            self.demand(caller.as_given_whole())?;
+            self.demand(caller.as_given_whole(), "depends on where a run is cut,")?;
         }
         Ok(())
     }

@@ -7,6 +7,7 @@ use crate::frame::{Outcome, Request};
 use crate::reader::*;
 use crate::readers::{any_legal_reader, legal_reader, spoiled_reader};
 use crate::receiver::{given_whole, Receiver, Rest, HOLDS};
+use crate::templates;
 use std::collections::VecDeque;
 
 /// The pieces of the single calls have every length up to this one.
@@ -20,7 +21,7 @@ pub fn single(mut chance: Chance) -> Request {
     let count = any_count(&mut chance);
     let length = chance.within(0, MOST_PIECE);
     let (receiver, run) = offered(&mut chance, &reader, count, length);
-    Request { line_switch: chance.percent(20), receiver: Some(receiver), reader, run, room }
+    Request { line_switch: chance.percent(25), receiver: Some(receiver), reader, run, room }
 }
 
 /// Calls of legal readers, with pieces of every length and every legal held count.
@@ -39,10 +40,10 @@ fn any_count(chance: &mut Chance) -> usize {
     let (few, legal, beyond) = (chance.below(24), chance.within(0, HOLDS), chance.within(HOLDS + 1, 0xFFFF));
     match chance.below(10) {
         0..=2 => few,
-        3..=5 => legal,
-        6 => chance.pick(&[0, 1, HOLDS - 1, HOLDS]),
-        7 => HOLDS,
-        8 => chance.pick(&[HOLDS + 1, HOLDS + 1, HOLDS + 2, MOST_PIECE, 512, 0x8000, 0xFFFF]),
+        3 | 4 => legal,
+        5 => chance.pick(&[0, 1, HOLDS - 1, HOLDS]),
+        6 => HOLDS,
+        7 | 8 => chance.pick(&[HOLDS + 1, HOLDS + 1, HOLDS + 2, MOST_PIECE, 512, 0x8000, 0xFFFF]),
         _ => beyond,
     }
 }
@@ -85,8 +86,8 @@ fn longest(author: &mut Author) -> Vec<u8> {
     author.packet(identifier, &content)
 }
 
-/// The caller of the request: it offers a piece and then the rest of it, then an empty piece, until a call takes nothing,
-/// answers nothing and leaves the held bytes as they are.
+/// The caller of the request: it offers a piece and then the rest of it, then an empty piece, until a call takes
+/// nothing, answers nothing and leaves the held bytes as they are.
 pub struct Caller {
     chance: Chance,
     reader: Reader,
@@ -120,7 +121,7 @@ impl Caller {
         let reader = any_legal_reader(&mut chance);
         let hasty = chance.percent(50);
         let most = chance.pick(&[12, 60, 60, 60, 60, MOST_PIECE, MOST_PIECE, 1000]);
-        let scenes = chance.within(2, 4);
+        let scenes = chance.within(1, 3);
         Caller { hasty, most, scenes, ..Caller::with(chance, reader, &[]) }
     }
 
@@ -218,7 +219,7 @@ pub fn cut_transfers(seed: u64) -> impl Iterator<Item = Caller> {
     SIZE_CODES.flat_map(move |size_code| {
         let mut reader = legal_reader(&mut chance(size_code), 1);
         reader.settings = Settings { size_code, ..Settings::fresh() };
-        let run = transfer(&mut Author { chance: &mut chance(size_code), reader: &reader });
+        let run = transfer(&Author { chance: &mut chance(size_code), reader: &reader });
         (0..=run.len()).map(move |place| {
             let (one, other) = run.split_at(place);
             Caller::with(chance(size_code), reader.clone(), &[one, other])
@@ -227,11 +228,10 @@ pub fn cut_transfers(seed: u64) -> impl Iterator<Item = Caller> {
 }
 
 /// DownChar, the data packets, and UpChar of the same buffer.
-fn transfer(author: &mut Author) -> Vec<u8> {
+fn transfer(author: &Author) -> Vec<u8> {
     let size = author.reader.settings.size();
-    let data = author.data(PAGE);
     let mut run = author.packet(COMMAND, &[DOWN_CHAR, 1]);
-    for (place, part) in data.chunks(size).enumerate() {
+    for (place, part) in templates::first().chunks(size).enumerate() {
         let last = (place + 1) * size == PAGE;
         run.extend(author.packet(if last { LAST_DATA } else { DATA }, part));
     }

@@ -22,8 +22,10 @@ pub fn case(request: &Request) -> Vec<String> {
     lines.push(memory("buffer 2", &reader.buffers[1]));
     lines.push(memory("reply room", &request.room));
     if let Some(receiver) = &request.receiver {
-        lines.push(format!("held count {}: {}", receiver.count, hex(receiver.held())));
-        lines.push(memory("cells past the count", receiver.past()));
+        lines.push(format!("held count {}, {}", receiver.count, memory("cells", &receiver.cells)));
+        if receiver.legal() {
+            lines.push(format!("held bytes: {}", hex(receiver.held())));
+        }
     }
     let run = if request.receiver.is_some() { "piece" } else { "run" };
     lines.push(format!("{run} of {} bytes: {}", request.run.len(), hex(&request.run)));

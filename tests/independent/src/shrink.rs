@@ -98,7 +98,7 @@ impl<F: FnMut(&Request) -> Result<Outcome, String>> Shrinker<F> {
         }
     }
 
-    /// Lets the receiver hold less, and zeroes the cells past the held bytes.
+    /// Lets the receiver hold less, and zeroes the cells that do not matter.
     fn empty_receiver(&mut self) {
         let mut piece = self.held().len();
         while piece > 0 {
@@ -111,12 +111,8 @@ impl<F: FnMut(&Request) -> Result<Outcome, String>> Shrinker<F> {
             }
             piece /= 2;
         }
-        for past in (0..HOLDS).rev() {
-            self.attempt(|case| {
-                if let Some(receiver) = case.receiver.as_mut().filter(|receiver| past >= receiver.held().len()) {
-                    receiver.cells[past] = 0;
-                }
-            });
+        for cell in 0..HOLDS {
+            self.attempt(|case| case.receiver.iter_mut().for_each(|receiver| receiver.cells[cell] = 0));
         }
     }
 

@@ -1,74 +1,71 @@
-//! Readers and receivers with one deliberate error each, made by changing what the good one is asked or what it answers.
+//! Readers and receivers with one deliberate error each, made by changing what the good one is asked or what it
+//! answers.
 
 use crate::frame::{Outcome, Request};
 use crate::reader::*;
 use crate::receiver::{Receiver, HOLDS};
+use Error::{OfReader, OfReceiver};
 
-type Wrong = fn(&Request) -> Outcome;
-/// An error of a receiver is handed the receiver too.
-type WrongReceiver = fn(&Request, &Receiver) -> Outcome;
-
-const READERS: [(&str, Wrong); 20] = [
-    ("lock-before-sum", lock_before_sum),
-    ("delete-keeps-templates", delete_keeps_templates),
-    ("sum-in-16-bits", sum_in_16_bits),
-    ("two-ends-transfer", two_ends_transfer),
-    ("rescans-bad-sum", rescans_bad_sum),
-    ("first-packet-only", first_packet_only),
-    ("reply-room-past", reply_room_past),
-    ("settings-before-room", settings_before_room),
-    ("always-silent", always_silent),
-    ("always-unknown", always_unknown),
-    ("always-fine", always_fine),
-    ("store-moves-nothing", store_moves_nothing),
-    ("invents-count", invents_count),
-    ("keeps-mark", keeps_mark),
-    ("old-address", old_address),
-    ("foreign-ends-transfer", foreign_ends_transfer),
-    ("eats-last-ef", eats_last_ef),
-    ("switch-keeps-buffers", switch_keeps_buffers),
-    ("takes-any-mark", takes_any_mark),
-    ("switch-keeps-unfit-marks", switch_keeps_unfit_marks),
-];
-
-const RECEIVERS: [(&str, WrongReceiver); 18] = [
-    ("holds-264", holds_264),
-    ("holds-266", holds_266),
-    ("drops-one-more", drops_one_more),
-    ("keeps-used", keeps_used),
-    ("used-byte-past-count", used_byte_past_count),
-    ("keeps-cells-past-count", keeps_cells_past_count),
-    ("says-used-for-taken", says_used_for_taken),
-    ("answers-two", answers_two),
-    ("refuses-265", refuses_265),
-    ("takes-any-count", takes_any_count),
-    ("count-before-lengths", count_before_lengths),
-    ("count-before-room", count_before_room),
-    ("refused-takes-piece", refused_takes_piece),
-    ("refused-empties", refused_empties),
-    ("refused-zeroes-past-count", refused_zeroes_past_count),
-    ("switch-keeps-held", switch_keeps_held),
-    ("switch-keeps-cells", switch_keeps_cells),
-    ("switch-refuses-count", switch_refuses_count),
-];
-
-pub fn names() -> Vec<&'static str> {
-    let readers = READERS.iter().map(|error| error.0);
-    readers.chain(RECEIVERS.iter().map(|error| error.0)).collect()
+pub enum Error {
+    /// The error shows where there is no receiver.
+    OfReader(fn(&Request) -> Outcome),
+    /// The error shows where there is a receiver, which is handed in too.
+    OfReceiver(fn(&Request, &Receiver) -> Outcome),
 }
 
-/// What a reader and receiver with the error of this name make of a request; none if there is no such error. A wrong reader
-/// has its error where there is no receiver, and a wrong receiver where there is one.
-pub fn named(name: &str) -> Option<impl Fn(&Request) -> Outcome> {
-    let reader = READERS.iter().find(|error| error.0 == name);
-    let receiver = RECEIVERS.iter().find(|error| error.0 == name);
-    let known = reader.is_some() || receiver.is_some();
-    known.then(|| move |request: &Request| match (&request.receiver, reader, receiver) {
-        (None, Some((_, wrong)), _) => wrong(request),
-        (Some(held), _, Some((_, wrong))) => wrong(request, held),
-        _ => request.carried_out(),
-    })
+impl Error {
+    /// What the wrong one makes of a request.
+    pub fn carried_out(&self, request: &Request) -> Outcome {
+        match (self, &request.receiver) {
+            (OfReader(wrong), None) => wrong(request),
+            (OfReceiver(wrong), Some(receiver)) => wrong(request, receiver),
+            _ => request.carried_out(),
+        }
+    }
 }
+
+pub const ERRORS: [(&str, Error); 40] = [
+    ("lock-before-sum", OfReader(lock_before_sum)),
+    ("delete-keeps-templates", OfReader(delete_keeps_templates)),
+    ("sum-in-16-bits", OfReader(sum_in_16_bits)),
+    ("two-ends-transfer", OfReader(two_ends_transfer)),
+    ("rescans-bad-sum", OfReader(rescans_bad_sum)),
+    ("first-packet-only", OfReader(first_packet_only)),
+    ("reply-room-past", OfReader(reply_room_past)),
+    ("settings-before-room", OfReader(settings_before_room)),
+    ("always-silent", OfReader(always_silent)),
+    ("always-unknown", OfReader(always_unknown)),
+    ("always-fine", OfReader(always_fine)),
+    ("store-moves-nothing", OfReader(store_moves_nothing)),
+    ("invents-count", OfReader(invents_count)),
+    ("keeps-mark", OfReader(keeps_mark)),
+    ("old-address", OfReader(old_address)),
+    ("foreign-ends-transfer", OfReader(foreign_ends_transfer)),
+    ("eats-last-ef", OfReader(eats_last_ef)),
+    ("switch-keeps-buffers", OfReader(switch_keeps_buffers)),
+    ("takes-any-mark", OfReader(takes_any_mark)),
+    ("switch-keeps-unfit-marks", OfReader(switch_keeps_unfit_marks)),
+    ("holds-264", OfReceiver(holds_264)),
+    ("holds-266", OfReceiver(holds_266)),
+    ("drops-one-more", OfReceiver(drops_one_more)),
+    ("keeps-used", OfReceiver(keeps_used)),
+    ("used-byte-past-count", OfReceiver(used_byte_past_count)),
+    ("keeps-cells-past-count", OfReceiver(keeps_cells_past_count)),
+    ("keeps-cells-past-bytes", OfReceiver(keeps_cells_past_bytes)),
+    ("says-used-for-taken", OfReceiver(says_used_for_taken)),
+    ("answers-two", OfReceiver(answers_two)),
+    ("refuses-265", OfReceiver(refuses_265)),
+    ("takes-any-count", OfReceiver(takes_any_count)),
+    ("count-before-lengths", OfReceiver(count_before_lengths)),
+    ("count-before-room", OfReceiver(count_before_room)),
+    ("refused-takes-piece", OfReceiver(refused_takes_piece)),
+    ("refused-empties", OfReceiver(refused_empties)),
+    ("refused-zeroes-past-count", OfReceiver(refused_zeroes_past_count)),
+    ("refused-switch-empties", OfReceiver(refused_switch_empties)),
+    ("switch-keeps-held", OfReceiver(switch_keeps_held)),
+    ("switch-keeps-cells", OfReceiver(switch_keeps_cells)),
+    ("switch-refuses-count", OfReceiver(switch_refuses_count)),
+];
 
 /// A locked reader gives 21h to a command with a wrong sum.
 fn lock_before_sum(request: &Request) -> Outcome {
@@ -345,10 +342,20 @@ fn used_byte_past_count(request: &Request, _: &Receiver) -> Outcome {
 }
 
 /// When nothing is dropped, the cells past the count stay as they were.
-fn keeps_cells_past_count(request: &Request, before: &Receiver) -> Outcome {
+fn keeps_cells_past_count(request: &Request, receiver: &Receiver) -> Outcome {
+    keeps_cells(false, request, receiver)
+}
+
+/// When something is dropped, only cells that bytes were in are zeroed.
+fn keeps_cells_past_bytes(request: &Request, receiver: &Receiver) -> Outcome {
+    keeps_cells(true, request, receiver)
+}
+
+/// The cells past all bytes stay as they were if some are dropped, or if none is.
+fn keeps_cells(dropped: bool, request: &Request, before: &Receiver) -> Outcome {
     let mut outcome = request.carried_out();
     let end = request.whole_run().len();
-    if carried_out(request, &outcome) && left(&outcome).len() == end {
+    if carried_out(request, &outcome) && dropped == (left(&outcome).len() < end) {
         if let Some(receiver) = &mut outcome.receiver {
             receiver.cells[end..].copy_from_slice(&before.cells[end..]);
         }
@@ -449,6 +456,15 @@ fn refused_zeroes_past_count(request: &Request, receiver: &Receiver) -> Outcome 
     let mut outcome = request.carried_out();
     if refused(request, &outcome) && receiver.legal() {
         outcome.receiver = Some(Receiver::holding(receiver.held()));
+    }
+    outcome
+}
+
+/// A refused line switch empties the held bytes.
+fn refused_switch_empties(request: &Request, _: &Receiver) -> Outcome {
+    let mut outcome = request.carried_out();
+    if request.line_switch && outcome.answer.refusal != 0 {
+        outcome.receiver = Some(Receiver::empty());
     }
     outcome
 }
