@@ -60,14 +60,15 @@ impl Bench {
             self.reader = outcome.reader;
             self.receiver = outcome.receiver;
             if at_rest {
-                let waits = rest.is_empty() && self.held().len() <= MOST_LEFT;
+                let waits = rest.is_empty() && self.left().len() <= MOST_LEFT;
                 demand(waits, "a call that takes and drops nothing does not wait for more")?;
                 return Ok(replies);
             }
         }
     }
 
-    fn held(&self) -> &[u8] {
+    /// The bytes that wait for more.
+    fn left(&self) -> &[u8] {
         self.receiver.as_ref().map_or(&[], Receiver::held)
     }
 }
@@ -86,7 +87,7 @@ pub fn stored() -> Result<Stored, Vec<String>> {
     let bench = held(&exchanges)?;
     let sent = exchanges.iter().flat_map(|exchange| exchange.sent.clone()).collect::<Vec<u8>>();
     let replies = exchanges.iter().flat_map(|exchange| exchange.expected.clone()).collect::<Vec<u8>>();
-    let rest = Rest { reader: bench.reader.clone(), replies: replies.clone(), left: bench.held().to_vec() };
+    let rest = Rest { reader: bench.reader.clone(), replies: replies.clone(), left: bench.left().to_vec() };
     let ways = cut(&sent, &rest)?;
     let packets = read_back(&replies)?;
 
@@ -134,7 +135,7 @@ fn cut(sent: &[u8], rest: &Rest) -> Result<usize, Vec<String>> {
         for piece in pieces {
             replies.extend(bench.take(piece)?);
         }
-        let same = Rest { left: bench.held().to_vec(), reader: bench.reader, replies } == *rest;
+        let same = Rest { left: bench.left().to_vec(), reader: bench.reader, replies } == *rest;
         demand(same, &format!("another rest in pieces, the first of {} bytes", pieces[0].len()))?;
     }
     Ok(ways.len())

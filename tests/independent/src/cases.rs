@@ -3,7 +3,7 @@
 use crate::chance::Chance;
 use crate::frame::{Outcome, Request, MOST_RUN};
 use crate::reader::*;
-use crate::readers::{address, any_legal_reader, password, size, spoiled_reader};
+use crate::readers::{address, any_legal_reader, capacity, password, size, spoiled_reader};
 use std::collections::VecDeque;
 
 /// What happens to a reader in a dialogue.
@@ -27,7 +27,8 @@ pub struct Dialogue {
 
 impl Dialogue {
     pub fn new(mut chance: Chance) -> Dialogue {
-        let reader = any_legal_reader(&mut chance);
+        let capacity = capacity(&mut chance);
+        let reader = any_legal_reader(&mut chance, capacity);
         let scenes = chance.within(4, 14);
         Dialogue { chance, reader, left: Vec::new(), waiting: true, events: VecDeque::new(), scenes }
     }

@@ -5,8 +5,7 @@ use crate::reader::*;
 use std::ops::RangeInclusive;
 
 /// A legal reader, at times a fresh one.
-pub fn any_legal_reader(chance: &mut Chance) -> Reader {
-    let capacity = capacity(chance);
+pub fn any_legal_reader(chance: &mut Chance, capacity: usize) -> Reader {
     if chance.percent(25) {
         fresh_reader(capacity)
     } else {
@@ -26,7 +25,7 @@ pub fn spoiled_reader(chance: &mut Chance) -> (Reader, Vec<u8>) {
 }
 
 /// C: mostly small, at times beside a multiple of 8, anywhere, or at the end.
-fn capacity(chance: &mut Chance) -> usize {
+pub fn capacity(chance: &mut Chance) -> usize {
     match chance.below(100) {
         0..=79 => chance.within(1, 12),
         80..=95 => 8 * chance.within(1, 5) + chance.below(3) - 1,

@@ -24,12 +24,13 @@ pub fn single(mut chance: Chance) -> Request {
     Request { line_switch: chance.percent(25), receiver: Some(receiver), reader, run, room }
 }
 
-/// Calls of legal readers, with pieces of every length and every legal held count.
+/// Calls of legal readers, with pieces of every length and with every legal held count.
 pub fn every_length(seed: u64) -> impl Iterator<Item = Request> {
     (0..ROUNDS * (MOST_PIECE + 1)).map(move |place| {
         let mut chance = Chance::new(seed, place as u64);
         let capacity = chance.within(1, 4);
         let reader = legal_reader(&mut chance, capacity);
+        // 5 and 266 have no factor in common, so that every count has its turn.
         let (receiver, run) = offered(&mut chance, &reader, 5 * place % (HOLDS + 1), place % (MOST_PIECE + 1));
         let room = chance.bytes(ROOM);
         Request { line_switch: false, receiver: Some(receiver), reader, run, room }
@@ -107,7 +108,7 @@ pub struct Caller {
 
 /// What happened since the start or the last line switch.
 struct Stretch {
-    /// The reader at its begin.
+    /// The reader at the start of it.
     start: Reader,
     /// All bytes that came in.
     run: Vec<u8>,
@@ -116,9 +117,10 @@ struct Stretch {
 }
 
 impl Caller {
-    /// A caller with a legal reader and scenes by chance.
+    /// A caller with a legal reader of a few pages and scenes by chance.
     pub fn new(mut chance: Chance) -> Caller {
-        let reader = any_legal_reader(&mut chance);
+        let capacity = chance.within(1, 12);
+        let reader = any_legal_reader(&mut chance, capacity);
         let hasty = chance.percent(50);
         let most = chance.pick(&[12, 60, 60, 60, 60, MOST_PIECE, MOST_PIECE, 1000]);
         let scenes = chance.within(1, 3);
@@ -197,11 +199,14 @@ impl Caller {
         Some(())
     }
 
-    /// Lets bytes come in by pieces of any length, the empty one too.
+    /// Lets bytes come in by pieces of any length, the empty one too, at times with a line switch behind a piece.
     fn cut(&mut self, mut bytes: &[u8]) {
         while !bytes.is_empty() {
             let (piece, more) = bytes.split_at(self.chance.within(0, self.most).min(bytes.len()));
             self.events.push_back(Event::Bytes(piece.to_vec()));
+            if self.chance.percent(2) {
+                self.events.push_back(Event::LineSwitch);
+            }
             bytes = more;
         }
     }

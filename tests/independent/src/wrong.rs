@@ -24,7 +24,7 @@ impl Error {
     }
 }
 
-pub const ERRORS: [(&str, Error); 40] = [
+pub const ERRORS: [(&str, Error); 41] = [
     ("lock-before-sum", OfReader(lock_before_sum)),
     ("delete-keeps-templates", OfReader(delete_keeps_templates)),
     ("sum-in-16-bits", OfReader(sum_in_16_bits)),
@@ -58,6 +58,7 @@ pub const ERRORS: [(&str, Error); 40] = [
     ("takes-any-count", OfReceiver(takes_any_count)),
     ("count-before-lengths", OfReceiver(count_before_lengths)),
     ("count-before-room", OfReceiver(count_before_room)),
+    ("room-before-lengths", OfReceiver(room_before_lengths)),
     ("refused-takes-piece", OfReceiver(refused_takes_piece)),
     ("refused-empties", OfReceiver(refused_empties)),
     ("refused-zeroes-past-count", OfReceiver(refused_zeroes_past_count)),
@@ -427,6 +428,15 @@ fn count_before(refusal: u8, request: &Request, receiver: &Receiver) -> Outcome 
     let mut outcome = request.carried_out();
     if !request.line_switch && !receiver.legal() && outcome.answer.refusal == refusal {
         outcome.answer.refusal = 3;
+    }
+    outcome
+}
+
+/// Refusal 2 comes before refusal 1.
+fn room_before_lengths(request: &Request, _: &Receiver) -> Outcome {
+    let mut outcome = request.carried_out();
+    if refused(request, &outcome) && request.room.len() < ROOM {
+        outcome.answer.refusal = 2;
     }
     outcome
 }
