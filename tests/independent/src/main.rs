@@ -36,7 +36,7 @@ const USAGE: &str = "usage: independent [--cases N] [--seed S] [--quiet] -- PROG
        independent --errors            list the deliberate errors
        independent --dialogue FOLDER   write the stored dialogue, stdin and stdout, into the folder";
 
-const DEFAULT_CASES: u64 = 12_000;
+const DEFAULT_CASES: u64 = 10_000;
 /// So many cases or more must reach all that is counted; the examples do not count.
 const COVERING_CASES: u64 = 2000;
 /// In so many cases there are one dialogue with a reader, one caller of a receiver and two single receivers; the others
