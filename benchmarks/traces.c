@@ -33,22 +33,22 @@ static void make_locked_settings(struct bystrodol_settings *settings) {
 
 static void make_pair(size_t capacity, size_t number) {
     make_reader(capacity);
-    make_locked_settings(&reader.settings);
+    make_locked_settings(&reader.line.settings);
     pair[0] = pair[1] = reader;
     switch (number % KINDS) {
     case 0: /* everything differs */
         fill_random(&pair[1].memory, sizeof pair[1].memory);
-        set_marks(&pair[1].settings, random_byte());
+        set_marks(&pair[1].line.settings, random_byte());
         break;
     case 1: /* nothing, and all that there can be */
         memset(&pair[0].memory, 0x00, sizeof pair[0].memory);
         memset(&pair[1].memory, 0xFF, sizeof pair[1].memory);
-        set_marks(&pair[0].settings, 0);
-        set_marks(&pair[1].settings, 3);
+        set_marks(&pair[0].line.settings, 0);
+        set_marks(&pair[1].line.settings, 3);
         break;
     case 2: /* the filled marks alone */
-        set_marks(&pair[0].settings, 0);
-        set_marks(&pair[1].settings, (uint8_t)(1 + random_byte() % 3));
+        set_marks(&pair[0].line.settings, 0);
+        set_marks(&pair[1].line.settings, (uint8_t)(1 + random_byte() % 3));
         break;
     default: /* one page of the index alone */
         clear_stored(&pair[0].memory, number % capacity);
@@ -104,12 +104,12 @@ static void append_command(struct command command, enum shape shape) {
 static void append_data(enum identifier identifier) {
     uint8_t content[128];
     fill_random(content, sizeof content);
-    append_packet(identifier, content, (size_t)32 << pair[0].settings.size);
+    append_packet(identifier, content, (size_t)32 << pair[0].line.settings.size);
 }
 
 static void append_password(uint8_t change) {
     uint8_t content[5] = {0x13};
-    memcpy(content + 1, pair[0].settings.password, 4);
+    memcpy(content + 1, pair[0].line.settings.password, 4);
     content[4] ^= change;
     append_packet(COMMAND, content, sizeof content);
 }
@@ -178,7 +178,7 @@ static enum call first_difference(size_t number) {
         if (paths_differ(call)) return call;
     }
     if (paths_differ(RIGHT_PASSWORD)) return RIGHT_PASSWORD;
-    if (!pair[0].settings.verified || !pair[1].settings.verified) fail("the right password was not accepted");
+    if (!pair[0].line.settings.verified || !pair[1].line.settings.verified) fail("the right password was not accepted");
     return NO_CALL;
 }
 
