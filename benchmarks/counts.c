@@ -13,7 +13,7 @@ static const size_t capacities[CAPACITIES] = {1, 64, 256}, piece_lengths[PIECES]
 
 struct row {
     const char *name, *trouble;
-    size_t bytes; /* where the row is of received bytes */
+    size_t bytes; /* of the run, where the counts are told by the byte; else 0 */
     size_t ours[COLUMNS_MOST], plain[COLUMNS_MOST];
 };
 
@@ -188,32 +188,34 @@ static void measure_calls(size_t capacity) {
     refusal_rows(capacity);
 }
 
-/* ---- the rows of received bytes */
+/* ---- the rows of received bytes: a run that comes in pieces */
 
-/* What a caller has of a run: how much of it was taken, in how many instructions, and the replies, joined. */
+/* What a caller has of a run: how much of it was taken, by how many instructions, and the replies, joined. */
 struct heard {
     size_t taken, instructions, length;
     uint8_t replies[BYSTRODOL_REPLY_BYTES];
 };
 
 /*
- * The caller of request [1] on a piece: it offers the rest, then an empty piece, until a call takes nothing, answers
- * nothing and leaves the held bytes as they are. These are seen by their count: a call that takes nothing only drops
- * bytes.
+ * The caller of request [1] with a piece: it offers the rest, then an empty piece, until a call takes nothing, answers
+ * nothing and leaves the held bytes as they are. It sees the last by their count, since a call that takes nothing can
+ * only drop bytes. Its own instructions are not counted.
  */
 static void offer(__typeof__(bystrodol_receive) *receive, const uint8_t *piece, size_t n, struct heard *heard) {
+    const struct bystrodol_receiver *receiver = &reader.line.receiver;
     struct bystrodol_received answer;
-    uint16_t count;
+    size_t count;
     do {
-        count = reader.line.receiver.count;
+        count = receiver->count;
         answer = receive_stepped(receive, piece, n);
-        if (answer.taken > n || answer.length > sizeof heard->replies - heard->length) fail("a receiver's answer is too long");
-        piece += answer.taken, n -= answer.taken;
+        if (answer.refusal != BYSTRODOL_ACCEPTED) fail("a legal reader was refused");
+        if (answer.taken > n || answer.length > sizeof heard->replies - heard->length) fail("an answer is too long");
         memcpy(heard->replies + heard->length, reader.reply, answer.length);
         heard->length += answer.length;
         heard->taken += answer.taken;
         heard->instructions += step_count;
-    } while (answer.taken != 0 || answer.length != 0 || reader.line.receiver.count != count);
+        piece += answer.taken, n -= answer.taken;
+    } while (answer.taken != 0 || answer.length != 0 || receiver->count != count);
 }
 
 static struct heard hear(__typeof__(bystrodol_receive) *receive) {
@@ -235,6 +237,7 @@ static void measure_run(int expected) {
     expect(plain.taken == run_length && (plain.length ? plain.replies[9] : SILENT) == expected);
 }
 
+/* One page: with more the test of the index costs less. */
 static void measure_received(void) {
     static const uint8_t hand_shake[] = {0x40};
     received.length = 0;
@@ -260,7 +263,7 @@ static void build_row(const char *name, size_t n) {
     MEASURE(build, 0x12345678, DATA, reader.memory.buffer1, n, reader.reply, reply_length);
 }
 
-/* A receiver that holds so many bytes. */
+/* A row of a receiver that holds so many bytes, or of a count that is not legal. */
 static void begin_held(const char *name, uint16_t count) {
     begin(&services, name, 1);
     fill_random(reader.line.receiver.held, sizeof reader.line.receiver.held);
@@ -274,7 +277,7 @@ static void measure_refusal(uint8_t expected) {
     turn(step_count);
     struct bystrodol_received plain = receive_stepped(plain_receive, piece, sizeof piece);
     finish(step_count, ours.refusal == plain.refusal && ours.taken == plain.taken && ours.length == plain.length);
-    expect(plain.refusal == expected && is_same(&before, &reader));
+    expect(plain.refusal == expected && plain.taken == 0 && plain.length == 0 && is_same(&before, &reader));
 }
 
 static void measure_receiver(void) {
@@ -283,7 +286,8 @@ static void measure_receiver(void) {
     uint8_t ours = receiver_switch_stepped(bystrodol_receiver_switch);
     turn(step_count);
     uint8_t plain = receiver_switch_stepped(plain_receiver_switch);
-    finish(step_count, ours == plain && plain == BYSTRODOL_ACCEPTED);
+    finish(step_count, ours == plain);
+    expect(plain == BYSTRODOL_ACCEPTED && reader.line.receiver.count == 0);
     begin_held("receiver: refusal 1", 266);
     pages = 0;
     measure_refusal(BYSTRODOL_BAD_LENGTH);
@@ -334,14 +338,19 @@ static void put_ratio(size_t hundredths) {
     put_text(hundredths % 100 < 10 ? ".0" : "."), put_number(hundredths % 100);
 }
 
-/* The instructions of a row, or of a byte of it, in tenths then. */
+static size_t tenths_of(size_t count, size_t divisor) { return (10 * count + divisor / 2) / divisor; }
+
+/* The width is that of the whole number before the point. */
+static void put_tenths_in(size_t width, size_t tenths) {
+    put_number_in(width, tenths / 10), put_text("."), put_number(tenths % 10);
+}
+
+/* A count, or the count by the byte. */
 static void put_count(size_t count, size_t bytes) {
-    if (bytes == 0) {
+    if (bytes == 0)
         put_number_in(9, count);
-    } else {
-        size_t tenths = (10 * count + bytes / 2) / bytes;
-        put_number_in(7, tenths / 10), put_text("."), put_number(tenths % 10);
-    }
+    else
+        put_tenths_in(7, tenths_of(count, bytes));
     put_text(" |");
 }
 
@@ -374,6 +383,20 @@ static void put_growing(void) {
     put_text(".\n\n");
 }
 
+/* The share of the line's time that our dearest received byte takes, at one instruction a cycle. */
+static void put_share(void) {
+    const size_t cycles = 10 * 48000000 / 57600;
+    size_t most = 0;
+    for (size_t i = 0; i < received.length; i++)
+        for (size_t j = 0; j < PIECES; j++) {
+            size_t tenths = tenths_of(received.rows[i].ours[j], received.rows[i].bytes);
+            if (tenths > most) most = tenths;
+        }
+    put_text("A byte of ten bits at 57600 baud and 48 MHz: "), put_number(cycles), put_text(" cycles; ours at most ");
+    put_tenths_in(0, most), put_text(" instructions, "), put_tenths_in(0, tenths_of(10 * most, cycles));
+    put_text("%.\n\n");
+}
+
 static void put_summary(const struct summary *summary) {
     put_text("counts: "), put_number(summary->ratios), put_text(" ratios, "), put_number(summary->at_most_one);
     put_text(" at most 1, "), put_number(summary->above), put_text(" above 1.1, the largest ");
@@ -397,6 +420,7 @@ int print_counts(void) {
     put_table("| a service                    |     ours |        C | ratio |\n|---|---:|---:|---:|\n", &services, 1,
               &summary);
     put_growing();
+    put_share();
     put_summary(&summary);
     return summary.troubles != 0;
 }

@@ -1,7 +1,7 @@
 /*
- * The reader of document 01 and the receiver of request [1] in plain C: what the counts of the proved ones are held
- * against.
- * It is written as C is usually written: each rule once, memory moved by memcpy and memset, nothing done for a count.
+ * The reader of document 01 and its receiver in plain C: what the counts of the proved ones are held against.
+ * It is written as C is usually written: each rule once, memory moved by memcpy, memmove and memset, nothing done for a
+ * count.
  */
 #include "plain.h"
 
@@ -452,8 +452,8 @@ uint8_t plain_line_switch(struct bystrodol_settings *settings, uint8_t *buffer1,
 static size_t lesser(size_t a, size_t b) { return a < b ? a : b; }
 
 /*
- * The piece is put behind the held bytes, where the step finds both; a refused call puts the old cells back. A count that
- * is too large is refused behind what the step refuses, which gets no bytes then and so changes nothing.
+ * The piece is put behind the held bytes, and the step gets both; a refused call puts the old cells back. Where the
+ * count is bad the step gets no bytes, so that it changes nothing: it only has the refusals that come first.
  */
 struct bystrodol_received plain_receive(struct bystrodol_line *line, uint8_t *templates, size_t templates_length,
                                         uint8_t *index, size_t index_length, uint8_t *notepad, size_t notepad_length,
