@@ -190,9 +190,9 @@ static void measure_calls(size_t capacity) {
 
 /* ---- the rows of received bytes: a run that comes in pieces */
 
-/* What a caller has of a run: how much of it was taken, by how many instructions, and the replies, joined. */
+/* What a caller has of a run: how much of it was taken, by how many calls and instructions, and the replies, joined. */
 struct heard {
-    size_t taken, instructions, length;
+    size_t taken, calls, instructions, length;
     uint8_t replies[BYSTRODOL_REPLY_BYTES];
 };
 
@@ -213,13 +213,14 @@ static void offer(__typeof__(bystrodol_receive) *receive, const uint8_t *piece, 
         memcpy(heard->replies + heard->length, reader.reply, answer.length);
         heard->length += answer.length;
         heard->taken += answer.taken;
+        heard->calls++;
         heard->instructions += step_count;
         piece += answer.taken, n -= answer.taken;
     } while (answer.taken != 0 || answer.length != 0 || receiver->count != count);
 }
 
 static struct heard hear(__typeof__(bystrodol_receive) *receive) {
-    struct heard heard = {0, 0, 0, {0}};
+    struct heard heard = {0, 0, 0, 0, {0}};
     const size_t most = piece_lengths[column];
     for (size_t at = 0; at < run_length; at += most)
         offer(receive, run + at, run_length - at < most ? run_length - at : most, &heard);
@@ -232,7 +233,7 @@ static void measure_run(int expected) {
     const struct heard ours = hear(bystrodol_receive);
     turn(ours.instructions);
     const struct heard plain = hear(plain_receive);
-    finish(plain.instructions, ours.taken == plain.taken && ours.length == plain.length &&
+    finish(plain.instructions, ours.taken == plain.taken && ours.calls == plain.calls && ours.length == plain.length &&
                                    memcmp(ours.replies, plain.replies, sizeof ours.replies) == 0);
     expect(plain.taken == run_length && (plain.length ? plain.replies[9] : SILENT) == expected);
 }
