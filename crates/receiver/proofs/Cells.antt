@@ -7,10 +7,9 @@ use lib.ListN.{length, take, drop, length-take, length-drop, length-replicate}
 use lib.Seq.{take-all, take-take, take-add, drop-at, length-take-le}
 use borrow.Author.Tests.{le-leb}
 use borrow.Rule.Slice.PartMut.{putMid}
-use Rattle.protocol.specs.declared.Receiver.{Receiver}
 use Rattle.protocol.specs.Numbers.{holds}
 use Rattle.protocol.specs.Bytes.{part, zeros, lay}
-use Rattle.protocol.specs.Receiver.{bytesIn, holding, fitting, runOf}
+use Rattle.protocol.specs.Receiver.{holding}
 use Rattle.protocol.proofs.Laws.Lists.{length-lay, head-lay}
 use Rattle.wire.specs.Laying.{layFront}
 use Rattle.library.proofs.Parts.{part-put}

@@ -1,4 +1,4 @@
--- (why the function is right)
+-- A count above what is held is refused by the lengths alone. Else the reader is called on all held bytes, and refused, or what it left is held.
 use mathlib.Core.Path.{_≡_}
 use lib.ListN.{length}
 use borrow.Author.Needs.{needs}
