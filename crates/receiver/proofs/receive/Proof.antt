@@ -3,12 +3,14 @@ use mathlib.Core.Path.{_≡_}
 use lib.ListN.{length}
 use borrow.Author.Needs.{needs}
 use Rattle.protocol.specs.Numbers.{holds, longest}
-use Rattle.receiver.proofs.Cells.{fits-within, fits-long, in-cells, in-run}
+use Rattle.protocol.specs.Receiver.{bytesIn, fitting, runOf}
+use Rattle.receiver.proofs.Cells.{fits-within, fits-long, in-cells, in-run, cells-run, fits-many, rest-held}
 use Rattle.receiver.proofs.Calls.{full, stops, goes, used-within}
 use Rattle.receiver.proofs.receive.Statement.{statement}
 use Rattle.receiver.proofs.receive.Tie as tie
 
-held-long : (s : tie.Start) → length (s .args .receiver .held) ≡ 265
+held-long : (s : tie.Start) → length (s .args .receiver .held) ≡ holds
+unfolding holds longest
 held-long s = search needs
 
 -- places that are far back from the later needs
@@ -96,7 +98,7 @@ same-length-6 : tie.Need-same-length-6
 same-length-6 c = search needs
 
 returns-2 : tie.Need-returns-2
-unfolding holds longest called fitted passed laid start
+unfolding runOf bytesIn fitting holds longest called fitted passed laid start
 returns-2 c =
     let f = (let p : tie.After-lesser = search (fitted, called) in p .lesser .ensures) in
     let m = (let p : tie.Else1 = search (passed, called) in p .if1 .left) in
@@ -105,13 +107,13 @@ returns-2 c =
     let q = (let p : tie.After-step = search called in p .step .ensures) in
     let z = (let p : tie.Then2 = search in p .if2 .taken) in
     let e = (let p : tie.After-received-of2 = search in p .received-of2 .ensures) in
-    stops _ _ _ _ _ _ _ _ _ l m _ f _ p _ _ _ _ _ _ _ q _ z e
+    rw e (stops _ _ _ m _ (cells-run _ _ _ f _ l m _ p) _ q z)
 
 sub-left : tie.Need-sub-left
 unfolding called
 sub-left c =
-    let e = (let p : tie.After-step = search called in p .step .ensures) in
-    used-within _ _ _ _ _ _ _ _ _ _ _ e
+    let q = (let p : tie.After-step = search called in p .step .ensures) in
+    used-within _ _ _ _ _ q
 
 cast-kept : tie.Need-cast-kept
 unfolding called fitted passed
@@ -126,14 +128,14 @@ slice-aggregate-put-2 c = search needs
 sub-put-2 : tie.Need-sub-put-2
 unfolding called
 sub-put-2 c =
-    let e = (let p : tie.After-step = search called in p .step .ensures) in
-    used-within _ _ _ _ _ _ _ _ _ _ _ e
+    let q = (let p : tie.After-step = search called in p .step .ensures) in
+    used-within _ _ _ _ _ q
 
 part-put-start : tie.Need-part-put-start
 unfolding called
 part-put-start c =
-    let e = (let p : tie.After-step = search called in p .step .ensures) in
-    used-within _ _ _ _ _ _ _ _ _ _ _ e
+    let q = (let p : tie.After-step = search called in p .step .ensures) in
+    used-within _ _ _ _ _ q
 
 part-put-end : tie.Need-part-put-end
 unfolding holds longest called fitted passed laid start
@@ -142,7 +144,7 @@ part-put-end c =
     let m = (let p : tie.Else1 = search (passed, called) in p .if1 .left) in
     let l = (let p : tie.Start = search (start, fitted, called) in held-long p) in
     let p = (let p : tie.After-put = search (laid, called) in p .put .ensures) in
-    in-cells _ _ _ _ f l m _ p
+    in-cells _ _ _ f _ l m _ p
 
 put-requires-2 : tie.Need-put-requires-2
 put-requires-2 c κs = search needs
@@ -166,7 +168,7 @@ same-length-12 : tie.Need-same-length-12
 same-length-12 c = search needs
 
 returns-3 : tie.Need-returns-3
-unfolding holds longest called fitted passed laid start
+unfolding runOf bytesIn fitting holds longest called fitted passed laid start
 returns-3 c =
     let f = (let p : tie.After-lesser = search (fitted, called) in p .lesser .ensures) in
     let m = (let p : tie.Else1 = search (passed, called) in p .if1 .left) in
@@ -175,7 +177,8 @@ returns-3 c =
     let q = (let p : tie.After-step = search called in p .step .ensures) in
     let z = (let p : tie.Else2 = search in p .if2 .left) in
     let e = (let p : tie.After-put2 = search in p .put2 .ensures) in
-    goes _ _ _ _ _ _ _ _ _ l m _ f _ p _ _ _ _ _ _ _ q _ z e
+    let u = used-within _ _ _ _ _ q in
+    goes _ _ _ m _ (cells-run _ _ _ f _ l m _ p) _ q _ _ z (fits-many _ _ _ f) (rest-held _ _ _ f _ l m _ p _ u _ e)
 
 pub receive-spec : {M : Type 1} → statement M
 receive-spec =
