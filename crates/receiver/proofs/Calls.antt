@@ -1,31 +1,27 @@
 -- A call of the receiver by the reader's call that it makes, and its line switch by the reader's.
 use mathlib.Core.Bool.{Bool, true, false, cond}
-use mathlib.Core.Path.{_≡_, refl, sym, ap, _∙_, subst}
+use mathlib.Core.Path.{_≡_, refl, sym, ap, _∙_}
 use mathlib.Core.Logic.{_≢_}
 use mathlib.Core.List.{List, []}
-use Prim.Native.Nat.{ℕ, zero, suc, _+_, _-_, _≤_, _<_, min}
+use Prim.Native.Nat.{ℕ, zero, suc, _≤_, _<_}
 use native.Mathlib.Omega.{arith}
 use lib.Dec.{leb}
 use lib.ListN.{length, take, drop, length-take}
 use borrow.Author.Tests.{le-leb, lt-leb}
-use borrow.Rule.Slice.PartMut.{putMid}
 use Rattle.protocol.specs.declared.Settings.{Settings}
-use Rattle.protocol.specs.declared.Called.{Called}
 use Rattle.protocol.specs.declared.Switched.{Switched}
 use Rattle.protocol.specs.declared.Receiver.{Receiver}
 use Rattle.protocol.specs.declared.Received.{Received}
 use Rattle.protocol.specs.declared.Emptied.{Emptied}
 use Rattle.protocol.specs.Numbers.{holds, replyRoom, badLength, badRoom, badSetting}
-use Rattle.protocol.specs.Bytes.{part, zeros}
 use Rattle.protocol.specs.Tests.{verdict}
 use Rattle.protocol.specs.Reader.{Reader}
 use Rattle.protocol.specs.Step.{stepOf}
 use Rattle.protocol.specs.Call.{core, fitLengths, fitRoom, sound, Lent, Ended, refusalOf, refused, carried, callAs, callOf, switchRefusal, switchAs, switchOf}
-use Rattle.protocol.specs.Receiver.{bytesIn, holding, Line, line, fitting, runOf, handed, declined, receiveRefusal, receiveAs, receiveOf, lineSwitchAs, lineSwitchOf}
-use Rattle.protocol.specs.Records.{readerOf, lentOf, endedOf, switchedOf, receivedOf, emptiedOf}
+use Rattle.protocol.specs.Receiver.{holding, Line, line, fitting, runOf, handed, declined, receiveRefusal, receiveAs, receiveOf, lineSwitchAs, lineSwitchOf}
+use Rattle.protocol.specs.Records.{readerOf, lentOf, switchedOf, receivedOf, emptiedOf}
 use Rattle.protocol.proofs.Laws.Answers.{call-kinds}
 use Rattle.protocol.proofs.Laws.Finder.{used-in}
-use Rattle.wire.specs.Laying.{layFront}
 use Rattle.reader.proofs.Calls.{lengths-are}
 use Rattle.receiver.specs.Full.{fullRefusal}
 use Rattle.receiver.specs.Made.{received, emptied}
