@@ -1,12 +1,14 @@
 -- What a receiver's call keeps within, and a piece offered up to rest.
+use mathlib.Core.Bool.{Bool, true, false, true≢false}
 use mathlib.Core.Path.{_≡_, refl, sym, ap, _∙_, subst}
 use mathlib.Core.List.{List, [], _∷_, _++_}
 use Prim.Native.Nat.{ℕ, _+_, _-_, _*_, _≤_, _<_}
 use native.Mathlib.Omega.{arith}
 use native.Mathlib.Decide.{decLe}
-use lib.Dec.{leb→le}
+use lib.Dec.{eqb, eqb→eq, leb→le}
 use lib.ListN.{length, getD, take, drop, length-take, length-drop}
 use lib.Seq.{take-all, drop-drop}
+use borrow.Author.Tests.{eq-eqb}
 use mir.Syntax.{w8}
 use mir.Val.{Fits}
 use Rattle.protocol.specs.declared.Settings.{Settings}
@@ -20,12 +22,13 @@ use Rattle.protocol.specs.Call.{core, Lent, fitRoom, Typed, refused}
 use Rattle.protocol.specs.Receiver.{bytesIn, Line, line, Handed, fitting, runOf, handed, receiveOf}
 use Rattle.protocol.specs.Caller.{Ran, replied, drained}
 use Rattle.protocol.specs.Records.{readerOf, lentOf, receivedOf}
+use Rattle.protocol.proofs.Laws.Logic.{and-l, and-r}
 use Rattle.protocol.proofs.Laws.Finder.{used-in}
 use Rattle.protocol.proofs.Laws.Holding.{receive-kinds, receive-legal}
 use Rattle.protocol.proofs.Promises.LegalMeans.{core-holds}
 use Rattle.protocol.proofs.Promises.Cuts.{offered, count-after, took-is, length-held, all-drained}
 use Rattle.protocol.proofs.Promises.ReceiverCalls.{line-fits}
-use Rattle.bench.specs.Offer.{Offered, Drained}
+use Rattle.bench.specs.Offer.{isLast, Offered, Drained}
 
 -- ---- one call
 
@@ -46,7 +49,7 @@ module _ (x : Line) (piece : List ℕ) (lent : Lent) where
 
   -- what is taken and what is used bring the end nearer
   brings-nearer : length (x .receiver .held) ≡ 265 → receiveOf core x piece lent .told .refusal ≡ 0
-      → (receiveOf core x piece lent .told .used ≡ 0 → receiveOf core x piece lent .after .receiver .count ≡ x .receiver .count → ⊥)
+      → isLast (receiveOf core x piece lent .told .used) (x .receiver .count) (receiveOf core x piece lent .after .receiver .count) ≡ false
       → 2 * (length piece - receiveOf core x piece lent .told .used) + receiveOf core x piece lent .after .receiver .count < 2 * length piece + x .receiver .count
   brings-nearer z e n = go (decLe 1 (length (fitting (x .receiver) piece) + usedOf (findOf run)))
     where
@@ -55,10 +58,11 @@ module _ (x : Line) (piece : List ℕ) (lent : Lent) where
 
       go : Dec (1 ≤ length (fitting (x .receiver) piece) + usedOf (findOf run))
           → 2 * (length piece - receiveOf core x piece lent .told .used) + receiveOf core x piece lent .after .receiver .count < 2 * length piece + x .receiver .count
-      go (yes h) =
-          omega (arith, taken-within, took-is core x piece lent e, count-after core x piece lent e, length-held core x piece lent z e, used-in run)
+      go (yes h) = omega (arith, taken-within, took-is core x piece lent e, count-after core x piece lent e, length-held core x piece lent z e, used-in run)
       go (no h) =
-          absurd (n (omega (arith, took-is core x piece lent e)) (omega (arith, count-after core x piece lent e, length-held core x piece lent z e)))
+          let u : receiveOf core x piece lent .told .used ≡ 0 = omega (arith, took-is core x piece lent e) in
+          let c : receiveOf core x piece lent .after .receiver .count ≡ x .receiver .count = omega (arith, count-after core x piece lent e, length-held core x piece lent z e) in
+          absurd (true≢false (sym (rw (eq-eqb _ _ u, eq-eqb _ _ c) refl) ∙ n))
 
 pub offer-within : (h : Receiver) (s : Settings) (t i n b d piece room : List ℕ) (q : Received) (t′ i′ n′ b′ d′ room′ : List ℕ) → length (s .password) ≡ fourBytes → length (s .address) ≡ fourBytes
     → length (h .held) ≡ 265 → ((k : ℕ) → Fits w8 (getD i k 0))
@@ -73,6 +77,7 @@ offer-within h s t i n b d piece room q t′ i′ n′ b′ d′ room′ p a z f
       taken = taken-within x piece (lentOf room);
       written = reply-within x piece (lentOf room) record { password = p; address = a; index = λ k. f k .fits };
       nearer = brings-nearer x piece (lentOf room) z;
+      cells = z;
     }
 
 -- ---- a piece offered, at a place of it: what is left gives the whole
@@ -112,10 +117,17 @@ module _ (x₀ : Line) (piece : List ℕ) (x : Line) (from : ℕ) (k : Offering 
         left = k .left ∙ next ∙ ap (λ (y : List ℕ). drained (o .after .reader) (bytesIn (o .after .receiver) ++ y) .after) (drop-drop (o .told .used) from piece);
       }
 
+  -- which brings the end nearer
+  pub closer : isLast (o .told .used) (x .receiver .count) (o .after .receiver .count) ≡ false
+      → 2 * (length piece - (from + o .told .used)) + o .after .receiver .count < 2 * (length piece - from) + x .receiver .count
+  closer n =
+      let l : length (take (length piece - from) (drop from piece)) ≡ length piece - from = ap length (rest from piece) ∙ length-drop from piece in
+      omega (arith, f .nearer e n)
+
   -- and the last
-  pub over : length (x .receiver .held) ≡ 265 → o .told .used ≡ 0 → o .after .receiver .count ≡ x .receiver .count → Drained x₀ piece (o .after)
-  over z u c =
-      let ends : (y : Handed) → y ≡ o → y ≡ receiveOf core x (drop from piece) lent → receiveOf core x (drop from piece) lent .after ≡ drained (x .reader) (bytesIn (x .receiver) ++ drop from piece) .after =
-      λ y p q. all-drained core x (drop from piece) lent z (rw here at e) (rw here at u) (rw here at c)
-      in
-      ap (λ (y : Handed). y .after) here ∙ ends o refl here ∙ sym (k .left)
+  pub over : isLast (o .told .used) (x .receiver .count) (o .after .receiver .count) ≡ true → Drained x₀ piece (o .after)
+  over n =
+      let same : Bool = eqb (o .after .receiver .count) (x .receiver .count) in
+      let u : o .told .used ≡ 0 = eqb→eq (o .told .used) 0 (and-l (eqb (o .told .used) 0) same (rw n tt)) in
+      let c : o .after .receiver .count ≡ x .receiver .count = eqb→eq (o .after .receiver .count) (x .receiver .count) (and-r (eqb (o .told .used) 0) same (rw n tt)) in
+      ap (λ (y : Handed). y .after) here ∙ all-drained core x (drop from piece) lent (f .cells) (rw here at e) (rw here at u) (rw here at c) ∙ sym (k .left)

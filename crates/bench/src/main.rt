@@ -30,7 +30,7 @@ struct Line {
     is_open: bool,
 }
 
-// Offers a piece until a call takes nothing and leaves the held count, and writes each reply. A refusal and a failed write close the line.
+// Offers a piece up to the last call, and writes each reply. A refusal and a failed write close the line.
 fn answer(
     receiver: Receiver,
     settings: Settings,
@@ -80,7 +80,8 @@ fn answer(
                 is_open: false,
             };
         }
-        if r.taken == 0 && held.count == before {
+        let is_last = offer::is_last(r.taken, before, held.count);
+        if is_last {
             return Line {
                 receiver: held,
                 settings: current,

@@ -1,15 +1,15 @@
-// One call of the receiver, with what its caller's loop needs to know of it.
+// One call of the receiver, with what its caller's loop needs to know of it, and which is the last.
 ghost use mathlib.Core.Path.{_≡_};
 ghost use lib.ListN.{length};
 ghost use Rattle.protocol.specs.Receiver.{line};
 ghost use Rattle.protocol.specs.Records.{readerOf, lentOf, receivedOf};
-ghost use Rattle.bench.specs.Offer.{Offered};
+ghost use Rattle.bench.specs.Offer.{Offered, isLast};
 use protocol::Received;
 use protocol::Receiver;
 use protocol::Settings;
 
-// It takes no more than the piece and writes no more than the room; and a call that is not refused, unless it takes nothing and leaves the held
-// count, brings the end of the piece nearer.
+// It takes no more than the piece and writes no more than the room; and a call that is not refused brings the end of the piece nearer, unless it
+// is the last.
 pub(crate) fn offer(
     receiver: Receiver,
     settings: Settings,
@@ -34,4 +34,14 @@ pub(crate) fn offer(
         piece,
         reply,
     )
+}
+
+// Whether a call was the last: it took nothing, and left the held count as it was before.
+pub(crate) fn is_last(taken: usize, before: u16, after: u16) -> bool
+    ensures { λ r. ⌜ r ≡ isLast taken before after ⌝ }
+{
+    if taken != 0 {
+        return false;
+    }
+    after == before
 }
