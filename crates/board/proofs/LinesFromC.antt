@@ -11,12 +11,12 @@ use borrow.Author.Tests.{ne-eqb}
 use Rattle.protocol.specs.Reader.{withMark, withTransfer, emptied}
 use Rattle.protocol.specs.Step.{wiped, switched}
 use Rattle.protocol.specs.Call.{core, Lent, refused, switchRefusal, switchAs, switchOf}
-use Rattle.protocol.specs.Receiver.{holding, Line, Handed, receiveOf, lineSwitchAs, lineSwitchOf}
+use Rattle.protocol.specs.Receiver.{holding, Handed, receiveOf, lineSwitchAs, lineSwitchOf}
 use Rattle.protocol.proofs.Promises.OneResult.{OneReader}
 use Rattle.board.specs.declared.lines.StoredLine.{StoredLine}
 use Rattle.board.specs.declared.lines.StoredReceived.{StoredReceived}
 use Rattle.board.specs.declared.lines.StoredEmptied.{StoredEmptied}
-use Rattle.board.specs.Stored.{Marks, fitMarks, settingsOf, stored, marksRefusal}
+use Rattle.board.specs.Stored.{fitMarks, settingsOf, stored, marksRefusal}
 use Rattle.board.specs.Lines.{MarkedLine, lineOf, storedLine, MarkedEnd, lineAfter, storedReceiveOf, storedLineSwitchOf, storedLineOf, storedReceivedOf, storedEmptiedOf}
 use Rattle.board.proofs.Receiving.{receive-stays, empty-stays}
 use Rattle.board.proofs.FromC.{stored-fit, called-unfit, one-stored}
