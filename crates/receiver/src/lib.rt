@@ -121,12 +121,14 @@ pub fn receive(
         return received_of(receiver, s, c.refusal, 0, 0);
     }
     let used = c.used;
+    let left = to - used;
+    let kept = left as u16;
     let mut rest = [0u8; numbers::HOLDS];
     bytes::put(&mut rest, &held[used..to]);
     Received {
         receiver: Receiver {
             held: rest,
-            count: (to - used) as u16,
+            count: kept,
         },
         settings: s,
         refusal: refusals::ACCEPTED,
@@ -149,5 +151,6 @@ pub fn line_switch(
     if switched.refusal != refusals::ACCEPTED {
         return emptied_of(receiver, s, switched.refusal);
     }
-    emptied_of(empty(), s, refusals::ACCEPTED)
+    let none = empty();
+    emptied_of(none, s, refusals::ACCEPTED)
 }

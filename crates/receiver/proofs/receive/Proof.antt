@@ -1,0 +1,219 @@
+-- (why the function is right)
+use mathlib.Core.Path.{_≡_}
+use lib.ListN.{length}
+use borrow.Author.Needs.{needs}
+use Rattle.protocol.specs.Numbers.{holds, longest}
+use Rattle.receiver.proofs.Cells.{fits-within, fits-long, in-cells, in-run}
+use Rattle.receiver.proofs.Calls.{full, stops, goes, used-within}
+use Rattle.receiver.proofs.receive.Statement.{statement}
+use Rattle.receiver.proofs.receive.Tie as tie
+
+held-long : (s : tie.Start) → length (s .args .receiver .held) ≡ 265
+held-long s = search needs
+
+-- places that are far back from the later needs
+unfoldable called : tie.Else2 → tie.After-step
+called c = search
+
+unfoldable laid : tie.After-step → tie.After-put
+laid c = search
+
+unfoldable fitted : tie.After-step → tie.After-lesser
+fitted c = search
+
+unfoldable passed : tie.After-step → tie.Else1
+passed c = search
+
+unfoldable start : tie.After-lesser → tie.Start
+start c = search
+
+cast-count : tie.Need-cast-count
+cast-count c = search needs
+
+full-refusal-requires : tie.Need-full-refusal-requires
+full-refusal-requires c κs = search needs
+
+received-of-requires : tie.Need-received-of-requires
+received-of-requires c κs = search needs
+
+returns : tie.Need-returns
+unfolding holds longest
+returns c = search full
+
+lesser-requires : tie.Need-lesser-requires
+lesser-requires c κs = search needs
+
+add-to : tie.Need-add-to
+add-to c = search needs
+
+sub-put : tie.Need-sub-put
+sub-put c = search needs
+
+part-held-start : tie.Need-part-held-start
+part-held-start c = search needs
+
+part-held-end : tie.Need-part-held-end
+unfolding holds longest
+part-held-end c = search (fits-within, held-long)
+
+slice-aggregate-put : tie.Need-slice-aggregate-put
+unfolding holds longest
+slice-aggregate-put c = search fits-long
+
+put-requires : tie.Need-put-requires
+put-requires c κs = search needs
+
+array-share-prefix-held : tie.Need-array-share-prefix-held
+unfolding holds longest
+array-share-prefix-held c = search (in-cells, held-long)
+
+slice-aggregate-step : tie.Need-slice-aggregate-step
+unfolding holds longest
+slice-aggregate-step c = search (in-run, in-cells, held-long)
+
+step-requires : tie.Need-step-requires
+step-requires c κs = search needs
+
+received-of-requires-2 : tie.Need-received-of-requires-2
+received-of-requires-2 c κs = search needs
+
+same-length : tie.Need-same-length
+same-length c = search needs
+
+same-length-2 : tie.Need-same-length-2
+same-length-2 c = search needs
+
+same-length-3 : tie.Need-same-length-3
+same-length-3 c = search needs
+
+same-length-4 : tie.Need-same-length-4
+same-length-4 c = search needs
+
+same-length-5 : tie.Need-same-length-5
+same-length-5 c = search needs
+
+same-length-6 : tie.Need-same-length-6
+same-length-6 c = search needs
+
+returns-2 : tie.Need-returns-2
+unfolding holds longest called fitted passed laid start
+returns-2 c =
+    let f = (let p : tie.After-lesser = search (fitted, called) in p .lesser .ensures) in
+    let m = (let p : tie.Else1 = search (passed, called) in p .if1 .left) in
+    let l = (let p : tie.Start = search (start, fitted, called) in held-long p) in
+    let p = (let p : tie.After-put = search (laid, called) in p .put .ensures) in
+    let q = (let p : tie.After-step = search called in p .step .ensures) in
+    let z = (let p : tie.Then2 = search in p .if2 .taken) in
+    let e = (let p : tie.After-received-of2 = search in p .received-of2 .ensures) in
+    stops _ _ _ _ _ _ _ _ _ l m _ f _ p _ _ _ _ _ _ _ q _ z e
+
+sub-left : tie.Need-sub-left
+unfolding called
+sub-left c =
+    let e = (let p : tie.After-step = search called in p .step .ensures) in
+    used-within _ _ _ _ _ _ _ _ _ _ _ e
+
+cast-kept : tie.Need-cast-kept
+unfolding called fitted passed
+cast-kept c =
+    let f = (let p : tie.After-lesser = search (fitted, called) in p .lesser .ensures) in
+    let m = (let p : tie.Else1 = search (passed, called) in p .if1 .left) in
+    search needs
+
+slice-aggregate-put-2 : tie.Need-slice-aggregate-put-2
+slice-aggregate-put-2 c = search needs
+
+sub-put-2 : tie.Need-sub-put-2
+unfolding called
+sub-put-2 c =
+    let e = (let p : tie.After-step = search called in p .step .ensures) in
+    used-within _ _ _ _ _ _ _ _ _ _ _ e
+
+part-put-start : tie.Need-part-put-start
+unfolding called
+part-put-start c =
+    let e = (let p : tie.After-step = search called in p .step .ensures) in
+    used-within _ _ _ _ _ _ _ _ _ _ _ e
+
+part-put-end : tie.Need-part-put-end
+unfolding holds longest called fitted passed laid start
+part-put-end c =
+    let f = (let p : tie.After-lesser = search (fitted, called) in p .lesser .ensures) in
+    let m = (let p : tie.Else1 = search (passed, called) in p .if1 .left) in
+    let l = (let p : tie.Start = search (start, fitted, called) in held-long p) in
+    let p = (let p : tie.After-put = search (laid, called) in p .put .ensures) in
+    in-cells _ _ _ _ f l m _ p
+
+put-requires-2 : tie.Need-put-requires-2
+put-requires-2 c κs = search needs
+
+same-length-7 : tie.Need-same-length-7
+same-length-7 c = search needs
+
+same-length-8 : tie.Need-same-length-8
+same-length-8 c = search needs
+
+same-length-9 : tie.Need-same-length-9
+same-length-9 c = search needs
+
+same-length-10 : tie.Need-same-length-10
+same-length-10 c = search needs
+
+same-length-11 : tie.Need-same-length-11
+same-length-11 c = search needs
+
+same-length-12 : tie.Need-same-length-12
+same-length-12 c = search needs
+
+returns-3 : tie.Need-returns-3
+unfolding holds longest called fitted passed laid start
+returns-3 c =
+    let f = (let p : tie.After-lesser = search (fitted, called) in p .lesser .ensures) in
+    let m = (let p : tie.Else1 = search (passed, called) in p .if1 .left) in
+    let l = (let p : tie.Start = search (start, fitted, called) in held-long p) in
+    let p = (let p : tie.After-put = search (laid, called) in p .put .ensures) in
+    let q = (let p : tie.After-step = search called in p .step .ensures) in
+    let z = (let p : tie.Else2 = search in p .if2 .left) in
+    let e = (let p : tie.After-put2 = search in p .put2 .ensures) in
+    goes _ _ _ _ _ _ _ _ _ l m _ f _ p _ _ _ _ _ _ _ q _ z e
+
+pub receive-spec : {M : Type 1} → statement M
+receive-spec =
+    tie.close
+    (tie.spec
+    cast-count
+    full-refusal-requires
+    received-of-requires
+    returns
+    lesser-requires
+    add-to
+    sub-put
+    part-held-start
+    part-held-end
+    slice-aggregate-put
+    put-requires
+    array-share-prefix-held
+    slice-aggregate-step
+    step-requires
+    received-of-requires-2
+    same-length
+    same-length-2
+    same-length-3
+    same-length-4
+    same-length-5
+    same-length-6
+    returns-2
+    sub-left
+    cast-kept
+    slice-aggregate-put-2
+    sub-put-2
+    part-put-start
+    part-put-end
+    put-requires-2
+    same-length-7
+    same-length-8
+    same-length-9
+    same-length-10
+    same-length-11
+    same-length-12
+    returns-3)
