@@ -13,19 +13,19 @@
 
 /* ---- the area */
 
-enum { TEMPLATES, INDEX, NOTEPAD, BUFFER1, BUFFER2, RUN, REPLY, PARTS };
+enum { INDEX, NOTEPAD, BUFFER1, BUFFER2, RUN, REPLY, TEMPLATES, PARTS };
 enum { GUARD = 64, TEN_PAGES = 10 * BYSTRODOL_PAGE_BYTES, MOST = 257 * BYSTRODOL_PAGE_BYTES };
 
-static const char *const names[PARTS] = {"templates", "index", "notepad", "buffer 1", "buffer 2", "run", "reply room"};
+static const char *const names[PARTS] = {"index", "notepad", "buffer 1", "buffer 2", "run", "reply room", "templates"};
 
 /* Room for each part, one byte more than is right, or a page more. */
-static const size_t rooms[PARTS] = {MOST, 33, 513, 513, 513, 64, 701};
+static const size_t rooms[PARTS] = {33, 513, 513, 513, 64, 701, MOST};
 
 static struct {
     uint8_t before_line[GUARD];
     struct bystrodol_line line;
-    uint8_t parts[PARTS * GUARD + MOST + 33 + 3 * 513 + 64 + 701 + GUARD];
-} area, was;
+    uint8_t parts[PARTS * GUARD + 33 + 3 * 513 + 64 + 701 + MOST + GUARD];
+} area, was, bytes;
 
 static uint8_t *parts[PARTS];
 static size_t lengths[PARTS];
@@ -37,18 +37,27 @@ static enum { STEP, OFFERED, HELD, DOORS } door;
 static const uint8_t handshake[] = {0xEF, 0x01, 0xFF, 0xFF, 0xFF, 0xFF, 0x01, 0x00, 0x03, 0x40, 0x00, 0x44};
 static const uint8_t done[] = {0xEF, 0x01, 0xFF, 0xFF, 0xFF, 0xFF, 0x07, 0x00, 0x03, 0x00, 0x00, 0x0A};
 
+static void fill_bytes(void) {
+    for (size_t i = 0; i < sizeof bytes; i++) ((uint8_t *)&bytes)[i] = (uint8_t)(0xA5 + 7 * i);
+    area = bytes;
+}
+
+/* How much of the area is used: the templates are its last part, and have a guard behind them. */
+static size_t extent(void) { return (size_t)(parts[TEMPLATES] - (uint8_t *)&area) + lengths[TEMPLATES] + GUARD; }
+
+static void save(void) { memcpy(&was, &area, extent()); }
+
 /* A legal reader of ten pages with fresh settings and bytes in all its memory, a handshake as its run, and a reply room. */
 static void set_up(void) {
-    static const size_t right[PARTS] = {TEN_PAGES, 32, 512, 512, 512, sizeof handshake, 700};
+    static const size_t right[PARTS] = {32, 512, 512, 512, sizeof handshake, 700, TEN_PAGES};
     size_t at = GUARD;
-    uint8_t *bytes = (uint8_t *)&area;
-    for (size_t i = 0; i < sizeof area; i++) bytes[i] = (uint8_t)(0xA5 + 7 * i);
-    area.line.settings = bystrodol_fresh();
     for (int i = 0; i < PARTS; i++) {
         parts[i] = area.parts + at;
         lengths[i] = right[i];
         at += rooms[i] + GUARD;
     }
+    memcpy(&area, &bytes, extent());
+    area.line.settings = bystrodol_fresh();
     memset(parts[INDEX], 0, rooms[INDEX]);
     memcpy(parts[RUN], handshake, sizeof handshake);
 }
@@ -60,7 +69,7 @@ static uint8_t *part(int i) { return lengths[i] ? parts[i] : NULL; }
                part(BUFFER1), lengths[BUFFER1], part(BUFFER2), lengths[BUFFER2]
 
 static void step(void) {
-    was = area;
+    save();
     answer = bystrodol_step(&area.line.settings, MEMORY, part(RUN), lengths[RUN], part(REPLY), lengths[REPLY]);
 }
 
@@ -68,7 +77,7 @@ static void step(void) {
 static void receive(size_t held) {
     memcpy(area.line.receiver.held, parts[RUN], held);
     area.line.receiver.count = (uint16_t)held;
-    was = area;
+    save();
     struct bystrodol_received r = bystrodol_receive(&area.line, MEMORY, parts[RUN] + held, lengths[RUN] - held, part(REPLY), lengths[REPLY]);
     answer.refusal = r.refusal;
     answer.used = held + r.taken - area.line.receiver.count;
@@ -84,7 +93,7 @@ static void call(void) {
 static size_t unchanged(void) {
     size_t padding = offsetof(struct bystrodol_receiver, held) + BYSTRODOL_HELD_MOST;
     ((uint8_t *)&was.line.receiver)[padding] = ((uint8_t *)&area.line.receiver)[padding];
-    return differ((const uint8_t *)&area, (const uint8_t *)&was, sizeof area);
+    return differ((const uint8_t *)&area, (const uint8_t *)&was, extent());
 }
 
 /* A receiver that was called holds nothing now. */
@@ -98,7 +107,7 @@ static void refuses(const char *name, size_t which, uint8_t refusal) {
     check_of(name, which, "refusal", answer.refusal, refusal);
     check_of(name, which, "bytes used", answer.used, 0);
     check_of(name, which, "reply length", answer.length, 0);
-    check_of(name, which, "memory, settings and guards", unchanged(), sizeof area);
+    check_of(name, which, "memory, settings and guards", unchanged(), extent());
 }
 
 /* Where a part lies in the area as it was. */
@@ -112,7 +121,7 @@ static void is_answered(const char *name, size_t which, const uint8_t *reply, si
     check_of(name, which, "reply", differ(parts[REPLY], reply, length), length);
     memcpy(parts[REPLY], part_was(REPLY), length);
     empty_what_was();
-    check_of(name, which, "memory, settings and guards", unchanged(), sizeof area);
+    check_of(name, which, "memory, settings and guards", unchanged(), extent());
 }
 
 static void is_done(const char *name, size_t which) { is_answered(name, which, done, sizeof done); }
@@ -245,7 +254,7 @@ static void order(void) {
 
 /* The receiver has what set_up left in it, a count above 265. */
 static uint8_t line_switch(void) {
-    was = area;
+    save();
     if (door == STEP) return bystrodol_line_switch(&area.line.settings, part(BUFFER1), lengths[BUFFER1], part(BUFFER2), lengths[BUFFER2]);
     return bystrodol_receiver_switch(&area.line, part(BUFFER1), lengths[BUFFER1], part(BUFFER2), lengths[BUFFER2]);
 }
@@ -265,14 +274,14 @@ static void switches(void) {
             set_up();
             lengths[i] = wrong == 0 ? 0 : wrong == 1 ? 511 : 513;
             check_of("a line switch", (size_t)i, "refusal", line_switch(), BYSTRODOL_BAD_LENGTH);
-            check_of("a refused line switch", (size_t)i, "memory, settings and guards", unchanged(), sizeof area);
+            check_of("a refused line switch", (size_t)i, "memory, settings and guards", unchanged(), extent());
         }
     /* It takes any settings, illegal ones too, blank flash among them, and keeps those that it does not clear. */
     set_up();
     memset(&area.line.settings, 0xFF, sizeof area.line.settings);
     check("a line switch", line_switch(), BYSTRODOL_ACCEPTED);
     switch_what_was();
-    check("what a line switch leaves", unchanged(), sizeof area);
+    check("what a line switch leaves", unchanged(), extent());
 }
 
 /* ---- settings change where they lie */
@@ -317,11 +326,11 @@ static void any_mark(int mark, uint8_t byte) {
     *marks[mark] = byte;
     lengths[BUFFER2] = 511;
     check_of(name, byte, "a line switch with a wrong length", line_switch(), BYSTRODOL_BAD_LENGTH);
-    check_of(name, byte, "what it leaves", unchanged(), sizeof area);
+    check_of(name, byte, "what it leaves", unchanged(), extent());
     lengths[BUFFER2] = 512;
     check_of(name, byte, "a line switch", line_switch(), BYSTRODOL_ACCEPTED);
     switch_what_was();
-    check_of(name, byte, "what it leaves", unchanged(), sizeof area);
+    check_of(name, byte, "what it leaves", unchanged(), extent());
 }
 
 /* A reader with a password: the mark decides whether a command is barred, and no byte but 1 opens it. */
@@ -413,7 +422,7 @@ static void any_settings(void) {
         fill_settings();
         check_of("settings of random bytes", i, "a line switch", line_switch(), BYSTRODOL_ACCEPTED);
         switch_what_was();
-        check_of("settings of random bytes", i, "what a line switch leaves", unchanged(), sizeof area);
+        check_of("settings of random bytes", i, "what a line switch leaves", unchanged(), extent());
     }
     check("random settings, of which some are legal", legal > 256 && legal < 3840, 1);
 }
@@ -494,6 +503,7 @@ static void fresh(void) {
 static const char *const door_names[DOORS] = {"bystrodol_step", "bystrodol_receive, all offered", "bystrodol_receive, half held"};
 
 int main(void) {
+    fill_bytes();
     fresh();
     unfinished();
     for (door = STEP; door < DOORS && !failed; door++) {
