@@ -4,15 +4,16 @@
 #include "stepper.h"
 #include "system.h"
 
-enum { ROWS_MOST = 48, COLUMNS_MOST = 3 };
+enum { ROWS_MOST = 48, CAPACITIES = 3, PIECES = 4, COLUMNS_MOST = PIECES };
 
-/* A call is measured at these capacities, a service once. */
-static const size_t capacities[COLUMNS_MOST] = {1, 64, 256};
+/* A call is measured at these capacities, a run in pieces of these lengths, a service once. */
+static const size_t capacities[CAPACITIES] = {1, 64, 256}, piece_lengths[PIECES] = {1, 16, 60, 265};
 
 /* ---- rows: a row is measured once in each column */
 
 struct row {
     const char *name, *trouble;
+    size_t bytes; /* of the run, where the counts are told by the byte; else 0 */
     size_t ours[COLUMNS_MOST], plain[COLUMNS_MOST];
 };
 
@@ -21,7 +22,7 @@ struct table {
     size_t length;
 };
 
-static struct table calls, services;
+static struct table calls, received, services;
 static struct row *row;
 static size_t column;
 
@@ -33,13 +34,16 @@ static void begin(struct table *table, const char *name, size_t capacity) {
     restart_random();
     make_reader(capacity);
     set_stored(&reader.memory, capacity - 1);
-    reader.settings.password[3] = 5;
-    reader.settings.verified = reader.settings.filled1 = reader.settings.filled2 = 1;
+    reader.line.settings.password[3] = 5;
+    reader.line.settings.verified = reader.line.settings.filled1 = reader.line.settings.filled2 = 1;
     run_length = 0;
 }
 
 static int is_same(const struct reader *a, const struct reader *b) {
-    return memcmp(&a->settings, &b->settings, sizeof a->settings) == 0 &&
+    const struct bystrodol_line *first = &a->line, *second = &b->line;
+    return memcmp(&first->settings, &second->settings, sizeof first->settings) == 0 &&
+           first->receiver.count == second->receiver.count &&
+           memcmp(first->receiver.held, second->receiver.held, sizeof first->receiver.held) == 0 &&
            memcmp(&a->memory, &b->memory, sizeof a->memory) == 0 && memcmp(a->reply, b->reply, sizeof a->reply) == 0;
 }
 
@@ -48,14 +52,14 @@ static struct reader before, after;
 
 static void start(void) { before = reader; }
 
-static void turn(void) {
-    row->ours[column] += step_count;
+static void turn(size_t count) {
+    row->ours[column] += count;
     after = reader;
     reader = before;
 }
 
-static void finish(int same_answer) {
-    row->plain[column] += step_count;
+static void finish(size_t count, int same_answer) {
+    row->plain[column] += count;
     if (!same_answer || !is_same(&after, &reader)) row->trouble = "OTHER RESULTS";
 }
 
@@ -63,22 +67,26 @@ static void finish(int same_answer) {
     do {                                                                                       \
         start();                                                                               \
         size_t ours = STEPPED(bystrodol_##service, bystrodol_##service(__VA_ARGS__));          \
-        turn();                                                                                \
+        turn(step_count);                                                                      \
         size_t plain = STEPPED(plain_##service, plain_##service(__VA_ARGS__));                 \
-        finish(ours == plain);                                                                 \
+        finish(step_count, ours == plain);                                                     \
     } while (0)
 
 /* What a call comes to: an acknowledge code, silence, or a refusal. */
 enum { SILENT = 0x100, REFUSED = 0x200 };
 
+static void expect(int is_so) {
+    if (!is_so && !row->trouble) row->trouble = "NOT AS EXPECTED";
+}
+
 static void measure_call(int expected) {
     start();
     struct bystrodol_answer ours = call_stepped(bystrodol_step);
-    turn();
+    turn(step_count);
     struct bystrodol_answer plain = call_stepped(plain_step);
-    finish(ours.refusal == plain.refusal && ours.used == plain.used && ours.length == plain.length);
+    finish(step_count, ours.refusal == plain.refusal && ours.used == plain.used && ours.length == plain.length);
     int outcome = plain.refusal ? REFUSED + plain.refusal : plain.length ? reader.reply[9] : SILENT;
-    if (outcome != expected && !row->trouble) row->trouble = "NOT AS EXPECTED";
+    expect(outcome == expected);
 }
 
 /* ---- the rows of calls */
@@ -111,7 +119,7 @@ static void refused_command_rows(size_t capacity) {
     begin(&calls, "wrong password: 13h", capacity);
     measure_command(0x13, password, sizeof password);
     begin(&calls, "locked: 21h", capacity);
-    reader.settings.verified = 0;
+    reader.line.settings.verified = 0;
     measure_command(0x21, count, sizeof count);
 }
 
@@ -138,17 +146,17 @@ static void refusal_rows(size_t capacity) {
     reply_length--;
     measure_call(REFUSED + BYSTRODOL_BAD_ROOM);
     begin(&calls, "refusal 3, a setting", capacity);
-    reader.settings.level = 6;
+    reader.line.settings.level = 6;
     measure_call(REFUSED + BYSTRODOL_BAD_SETTING);
     begin(&calls, "refusal 3, a mark", capacity);
-    reader.settings.verified = 2;
+    reader.line.settings.verified = 2;
     measure_call(REFUSED + BYSTRODOL_BAD_SETTING);
 }
 
 static void upload_row(const char *name, size_t capacity, uint8_t size) {
     static const uint8_t up[] = {0x08, 1};
     begin(&calls, name, capacity);
-    reader.settings.size = size;
+    reader.line.settings.size = size;
     measure_command(0x00, up, sizeof up);
 }
 
@@ -156,14 +164,14 @@ static void download_row(const char *name, size_t capacity, uint8_t size) {
     static const uint8_t down[] = {0x09, 1};
     const size_t bytes = (size_t)32 << size;
     begin(&calls, name, capacity);
-    reader.settings.size = size;
+    reader.line.settings.size = size;
     measure_command(0x00, down, sizeof down);
     for (size_t got = 0; got < BYSTRODOL_PAGE_BYTES; got += bytes) {
         run_length = 0;
         append_packet(got + bytes < BYSTRODOL_PAGE_BYTES ? DATA : LAST_DATA, reader.memory.buffer2 + got, bytes);
         measure_call(SILENT);
     }
-    if (!reader.settings.filled1) row->trouble = "NOT AS EXPECTED";
+    expect(reader.line.settings.filled1);
 }
 
 static void measure_calls(size_t capacity) {
@@ -180,6 +188,75 @@ static void measure_calls(size_t capacity) {
     refusal_rows(capacity);
 }
 
+/* ---- the rows of received bytes: a run that comes in pieces */
+
+/* What a caller has of a run: how much of it was taken, by how many calls and instructions, and the replies, joined. */
+struct heard {
+    size_t taken, calls, instructions, length;
+    uint8_t replies[BYSTRODOL_REPLY_BYTES];
+};
+
+/*
+ * The caller of request [1] with a piece: it offers the rest, then an empty piece, until a call takes nothing, answers
+ * nothing and leaves the held bytes as they are. It sees the last by their count, since a call that takes nothing can
+ * only drop bytes. Its own instructions are not counted.
+ */
+static void offer(__typeof__(bystrodol_receive) *receive, const uint8_t *piece, size_t n, struct heard *heard) {
+    const struct bystrodol_receiver *receiver = &reader.line.receiver;
+    struct bystrodol_received answer;
+    size_t count;
+    do {
+        count = receiver->count;
+        answer = receive_stepped(receive, piece, n);
+        if (answer.refusal != BYSTRODOL_ACCEPTED) fail("a legal reader was refused");
+        if (answer.taken > n || answer.length > sizeof heard->replies - heard->length) fail("an answer is too long");
+        memcpy(heard->replies + heard->length, reader.reply, answer.length);
+        heard->length += answer.length;
+        heard->taken += answer.taken;
+        heard->calls++;
+        heard->instructions += step_count;
+        piece += answer.taken, n -= answer.taken;
+    } while (answer.taken != 0 || answer.length != 0 || receiver->count != count);
+}
+
+static struct heard hear(__typeof__(bystrodol_receive) *receive) {
+    struct heard heard = {0, 0, 0, 0, {0}};
+    const size_t most = piece_lengths[column];
+    for (size_t at = 0; at < run_length; at += most)
+        offer(receive, run + at, run_length - at < most ? run_length - at : most, &heard);
+    return heard;
+}
+
+static void measure_run(int expected) {
+    row->bytes = run_length;
+    start();
+    const struct heard ours = hear(bystrodol_receive);
+    turn(ours.instructions);
+    const struct heard plain = hear(plain_receive);
+    finish(plain.instructions, ours.taken == plain.taken && ours.calls == plain.calls && ours.length == plain.length &&
+                                   memcmp(ours.replies, plain.replies, sizeof ours.replies) == 0);
+    expect(plain.taken == run_length && (plain.length ? plain.replies[9] : SILENT) == expected);
+}
+
+/* One page: with more the test of the index costs less. */
+static void measure_received(void) {
+    static const uint8_t hand_shake[] = {0x40};
+    received.length = 0;
+    begin(&received, "40h HandShake, 12 bytes", 1);
+    append_packet(COMMAND, hand_shake, sizeof hand_shake);
+    measure_run(0x00);
+    begin(&received, "data packet, 139 bytes", 1);
+    reader.line.settings.size = 2;
+    reader.line.settings.transfer = 1;
+    reader.line.settings.filled1 = 0;
+    append_packet(DATA, reader.memory.buffer2, 128);
+    measure_run(SILENT);
+    expect(reader.line.settings.got == 128);
+    begin(&received, "noise, 1024 bytes", 1);
+    append_noise(1024);
+    measure_run(SILENT);
+}
+
 /* ---- the rows of services */
 
 static void build_row(const char *name, size_t n) {
@@ -187,12 +264,51 @@ static void build_row(const char *name, size_t n) {
     MEASURE(build, 0x12345678, DATA, reader.memory.buffer1, n, reader.reply, reply_length);
 }
 
+/* A row of a receiver that holds so many bytes, or of a count that is not legal. */
+static void begin_held(const char *name, uint16_t count) {
+    begin(&services, name, 1);
+    fill_random(reader.line.receiver.held, sizeof reader.line.receiver.held);
+    reader.line.receiver.count = count;
+}
+
+static void measure_refusal(uint8_t expected) {
+    static const uint8_t piece[] = {0xEF, 0x01};
+    start();
+    struct bystrodol_received ours = receive_stepped(bystrodol_receive, piece, sizeof piece);
+    turn(step_count);
+    struct bystrodol_received plain = receive_stepped(plain_receive, piece, sizeof piece);
+    finish(step_count, ours.refusal == plain.refusal && ours.taken == plain.taken && ours.length == plain.length);
+    expect(plain.refusal == expected && plain.taken == 0 && plain.length == 0 && is_same(&before, &reader));
+}
+
+static void measure_receiver(void) {
+    begin_held("receiver: line switch", 200);
+    start();
+    uint8_t ours = receiver_switch_stepped(bystrodol_receiver_switch);
+    turn(step_count);
+    uint8_t plain = receiver_switch_stepped(plain_receiver_switch);
+    finish(step_count, ours == plain);
+    expect(plain == BYSTRODOL_ACCEPTED && reader.line.receiver.count == 0);
+    begin_held("receiver: refusal 1", 266);
+    pages = 0;
+    measure_refusal(BYSTRODOL_BAD_LENGTH);
+    begin_held("receiver: refusal 2", 266);
+    reply_length--;
+    measure_refusal(BYSTRODOL_BAD_ROOM);
+    begin_held("receiver: refusal 3, setting", 200);
+    reader.line.settings.level = 6;
+    measure_refusal(BYSTRODOL_BAD_SETTING);
+    begin_held("receiver: refusal 3, count", 266);
+    measure_refusal(BYSTRODOL_BAD_SETTING);
+}
+
 static void measure_services(void) {
     begin(&services, "line switch", 1);
     start();
     uint8_t ours = line_switch_stepped(bystrodol_line_switch);
-    turn();
-    finish(ours == line_switch_stepped(plain_line_switch));
+    turn(step_count);
+    uint8_t plain = line_switch_stepped(plain_line_switch);
+    finish(step_count, ours == plain);
     begin(&services, "sum of 1024 bytes", 1);
     append_noise(1024);
     MEASURE(sum, run, run_length);
@@ -208,6 +324,7 @@ static void measure_services(void) {
     build_row("build, refused", 255);
     begin(&services, "count", 1);
     MEASURE(count, reader.memory.index, sizeof reader.memory.index);
+    measure_receiver();
 }
 
 /* ---- output: tables in Markdown, their columns aligned */
@@ -222,12 +339,27 @@ static void put_ratio(size_t hundredths) {
     put_text(hundredths % 100 < 10 ? ".0" : "."), put_number(hundredths % 100);
 }
 
+static size_t tenths_of(size_t count, size_t divisor) { return (10 * count + divisor / 2) / divisor; }
+
+/* The width is that of the whole number before the point. */
+static void put_tenths_in(size_t width, size_t tenths) {
+    put_number_in(width, tenths / 10), put_text("."), put_number(tenths % 10);
+}
+
+/* A count, or the count by the byte. */
+static void put_count(size_t count, size_t bytes) {
+    if (bytes == 0)
+        put_number_in(9, count);
+    else
+        put_tenths_in(7, tenths_of(count, bytes));
+    put_text(" |");
+}
+
 static void put_row(const struct row *shown, size_t columns, struct summary *summary) {
     put_text("| "), put_text_in(28, shown->name), put_text(" |");
     for (size_t i = 0; i < columns; i++) {
         size_t ours = shown->ours[i], plain = shown->plain[i], ratio = (100 * ours + plain / 2) / plain;
-        put_number_in(9, ours), put_text(" |");
-        put_number_in(9, plain), put_text(" |");
+        put_count(ours, shown->bytes), put_count(plain, shown->bytes);
         put_text(ratio < 1000 ? "  " : " "), put_ratio(ratio), put_text(" |");
         summary->ratios++;
         summary->at_most_one += ours <= plain;
@@ -247,9 +379,23 @@ static void put_table(const char *heading, const struct table *table, size_t col
 static void put_growing(void) {
     const char *between = "Ours grow with the pages: ";
     for (size_t i = 0; i < calls.length; i++)
-        if (calls.rows[i].ours[COLUMNS_MOST - 1] > calls.rows[i].ours[0])
+        if (calls.rows[i].ours[CAPACITIES - 1] > calls.rows[i].ours[0])
             put_text(between), put_text(calls.rows[i].name), between = "; ";
     put_text(".\n\n");
+}
+
+/* The share of the line's time that our dearest received byte takes, at one instruction a cycle. */
+static void put_share(void) {
+    const size_t cycles = 10 * 48000000 / 57600;
+    size_t most = 0;
+    for (size_t i = 0; i < received.length; i++)
+        for (size_t j = 0; j < PIECES; j++) {
+            size_t tenths = tenths_of(received.rows[i].ours[j], received.rows[i].bytes);
+            if (tenths > most) most = tenths;
+        }
+    put_text("A byte of ten bits at 57600 baud and 48 MHz: "), put_number(cycles), put_text(" cycles; ours at most ");
+    put_tenths_in(0, most), put_text(" instructions, "), put_tenths_in(0, tenths_of(10 * most, cycles));
+    put_text("%.\n\n");
 }
 
 static void put_summary(const struct summary *summary) {
@@ -261,15 +407,21 @@ static void put_summary(const struct summary *summary) {
 
 int print_counts(void) {
     struct summary summary = {0, 0, 0, 0, 0, ""};
-    for (column = 0; column < COLUMNS_MOST; column++) measure_calls(capacities[column]);
+    for (column = 0; column < CAPACITIES; column++) measure_calls(capacities[column]);
+    for (column = 0; column < PIECES; column++) measure_received();
     column = 0;
     measure_services();
     put_table("| a call, at 1, 64, 256 pages  |  1: ours |     1: C | ratio | 64: ours |    64: C | ratio "
               "|256: ours |   256: C | ratio |\n|---|---:|---:|---:|---:|---:|---:|---:|---:|---:|\n",
-              &calls, COLUMNS_MOST, &summary);
+              &calls, CAPACITIES, &summary);
+    put_table("| a received byte, in pieces   |  1: ours |     1: C | ratio | 16: ours |    16: C | ratio "
+              "| 60: ours |    60: C | ratio |265: ours |   265: C | ratio |\n"
+              "|---|---:|---:|---:|---:|---:|---:|---:|---:|---:|---:|---:|---:|\n",
+              &received, PIECES, &summary);
     put_table("| a service                    |     ours |        C | ratio |\n|---|---:|---:|---:|\n", &services, 1,
               &summary);
     put_growing();
+    put_share();
     put_summary(&summary);
     return summary.troubles != 0;
 }

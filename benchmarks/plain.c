@@ -1,6 +1,7 @@
 /*
- * The reader of document 01 in plain C: what the counts of the proved reader are held against.
- * It is written as C is usually written: each rule once, memory moved by memcpy and memset, nothing done for a count.
+ * The reader of document 01 and its receiver in plain C: what the counts of the proved ones are held against.
+ * It is written as C is usually written: each rule once, memory moved by memcpy, memmove and memset, nothing done for a
+ * count.
  */
 #include "plain.h"
 
@@ -444,4 +445,51 @@ uint8_t plain_line_switch(struct bystrodol_settings *settings, uint8_t *buffer1,
     memset(buffer1, 0, BYSTRODOL_PAGE_BYTES);
     memset(buffer2, 0, BYSTRODOL_PAGE_BYTES);
     return BYSTRODOL_ACCEPTED;
+}
+
+/* ---- the receiver of request [1] */
+
+static size_t lesser(size_t a, size_t b) { return a < b ? a : b; }
+
+/*
+ * The piece is put behind the held bytes, and the step gets both; a refused call puts the old cells back. Where the
+ * count is bad the step gets no bytes, so that it changes nothing: it only has the refusals that come first.
+ */
+struct bystrodol_received plain_receive(struct bystrodol_line *line, uint8_t *templates, size_t templates_length,
+                                        uint8_t *index, size_t index_length, uint8_t *notepad, size_t notepad_length,
+                                        uint8_t *buffer1, size_t buffer1_length, uint8_t *buffer2,
+                                        size_t buffer2_length, const uint8_t *piece, size_t piece_length,
+                                        uint8_t *reply, size_t reply_length) {
+    struct bystrodol_received received = {BYSTRODOL_ACCEPTED, 0, 0};
+    uint8_t *held = line->receiver.held, cells[sizeof line->receiver.held];
+    int is_bad = line->receiver.count > sizeof cells;
+    size_t count = is_bad ? 0 : line->receiver.count;
+    size_t taken = is_bad ? 0 : lesser(piece_length, sizeof cells - count);
+    memcpy(cells, held + count, taken);
+    memcpy(held + count, piece, taken);
+    struct bystrodol_answer answer =
+        plain_step(&line->settings, templates, templates_length, index, index_length, notepad, notepad_length, buffer1,
+                   buffer1_length, buffer2, buffer2_length, held, count + taken, reply, reply_length);
+    received.refusal = answer.refusal == BYSTRODOL_ACCEPTED && is_bad ? BYSTRODOL_BAD_SETTING : answer.refusal;
+    if (received.refusal != BYSTRODOL_ACCEPTED) {
+        memcpy(held + count, cells, taken);
+    } else {
+        size_t left = count + taken - answer.used;
+        memmove(held, held + answer.used, left);
+        memset(held + left, 0, sizeof cells - left);
+        line->receiver.count = (uint16_t)left;
+        received.taken = taken;
+        received.length = answer.length;
+    }
+    return received;
+}
+
+uint8_t plain_receiver_switch(struct bystrodol_line *line, uint8_t *buffer1, size_t buffer1_length, uint8_t *buffer2,
+                              size_t buffer2_length) {
+    uint8_t refusal = plain_line_switch(&line->settings, buffer1, buffer1_length, buffer2, buffer2_length);
+    if (refusal == BYSTRODOL_ACCEPTED) {
+        memset(line->receiver.held, 0, sizeof line->receiver.held);
+        line->receiver.count = 0;
+    }
+    return refusal;
 }

@@ -6,6 +6,8 @@
 
 __typeof__(bystrodol_step) plain_step;
 __typeof__(bystrodol_line_switch) plain_line_switch;
+__typeof__(bystrodol_receive) plain_receive;
+__typeof__(bystrodol_receiver_switch) plain_receiver_switch;
 __typeof__(bystrodol_sum) plain_sum;
 __typeof__(bystrodol_used) plain_used;
 __typeof__(bystrodol_build) plain_build;

@@ -31,7 +31,9 @@ void make_index_legal(struct memory *memory) {
 void make_reader(size_t capacity) {
     pages = capacity;
     reply_length = BYSTRODOL_REPLY_BYTES;
-    reader.settings = bystrodol_fresh();
+    reader.line.settings = bystrodol_fresh();
+    memset(reader.line.receiver.held, 0xEF, sizeof reader.line.receiver.held);
+    reader.line.receiver.count = 0;
     fill_random(&reader.memory, sizeof reader.memory);
     fill_random(reader.reply, sizeof reader.reply);
     make_index_legal(&reader.memory);
@@ -80,16 +82,23 @@ struct command command_of(size_t number, size_t capacity) {
     return commands[number];
 }
 
+/* The lent memory of the reader, as arguments. */
+#define LENT(part) reader.memory.part, sizeof reader.memory.part
+#define BUFFERS LENT(buffer1), LENT(buffer2)
+#define MEMORY reader.memory.templates, BYSTRODOL_PAGE_BYTES * pages, LENT(index), LENT(notepad), BUFFERS
+
 struct bystrodol_answer call_stepped(__typeof__(bystrodol_step) *step) {
-    struct memory *lent = &reader.memory;
-    return STEPPED(step, step(&reader.settings, lent->templates, BYSTRODOL_PAGE_BYTES * pages, lent->index,
-                              sizeof lent->index, lent->notepad, sizeof lent->notepad, lent->buffer1,
-                              sizeof lent->buffer1, lent->buffer2, sizeof lent->buffer2, run, run_length, reader.reply,
-                              reply_length));
+    return STEPPED(step, step(&reader.line.settings, MEMORY, run, run_length, reader.reply, reply_length));
 }
 
 uint8_t line_switch_stepped(__typeof__(bystrodol_line_switch) *line_switch) {
-    struct memory *lent = &reader.memory;
-    return STEPPED(line_switch, line_switch(&reader.settings, lent->buffer1, sizeof lent->buffer1, lent->buffer2,
-                                            sizeof lent->buffer2));
+    return STEPPED(line_switch, line_switch(&reader.line.settings, BUFFERS));
+}
+
+struct bystrodol_received receive_stepped(__typeof__(bystrodol_receive) *receive, const uint8_t *piece, size_t n) {
+    return STEPPED(receive, receive(&reader.line, MEMORY, piece, n, reader.reply, reply_length));
+}
+
+uint8_t receiver_switch_stepped(__typeof__(bystrodol_receiver_switch) *receiver_switch) {
+    return STEPPED(receiver_switch, receiver_switch(&reader.line, BUFFERS));
 }

@@ -16,7 +16,7 @@ struct memory {
 };
 
 struct reader {
-    struct bystrodol_settings settings;
+    struct bystrodol_line line;
     struct memory memory;
     uint8_t reply[REPLY_ROOM];
 };
@@ -24,7 +24,8 @@ struct reader {
 extern struct reader reader;
 extern size_t pages, reply_length;
 
-/* Makes a reader of so many pages with fresh settings and pseudo-random memory. */
+/* Makes a reader of so many pages with fresh settings, pseudo-random memory and a receiver that holds nothing, in whose
+ * cells old bytes lie. */
 void make_reader(size_t capacity);
 
 void set_stored(struct memory *memory, size_t page);
@@ -64,5 +65,10 @@ struct command command_of(size_t number, size_t capacity);
 
 struct bystrodol_answer call_stepped(__typeof__(bystrodol_step) *step);
 uint8_t line_switch_stepped(__typeof__(bystrodol_line_switch) *line_switch);
+
+/* ---- the same of its receiver */
+
+struct bystrodol_received receive_stepped(__typeof__(bystrodol_receive) *receive, const uint8_t *piece, size_t n);
+uint8_t receiver_switch_stepped(__typeof__(bystrodol_receiver_switch) *receiver_switch);
 
 #endif

@@ -80,25 +80,45 @@ typedef uint8_t part1;
         if (n % sizeof(part) != 0) move(part, n - sizeof(part));                         \
         return to;                                                                       \
     }
-#define BY_WIDEST_PARTS(move)                                                            \
-    BY_PARTS(part64, move)                                                               \
-    BY_PARTS(part16, move)                                                               \
-    BY_PARTS(part8, move)                                                                \
-    BY_PARTS(part4, move)                                                                \
-    BY_PARTS(part2, move)                                                                \
-    BY_PARTS(part1, move)
+/* The same where parts may overlap what was written before them: the last one is read first. */
+#define DOWN_BY_PARTS(part, move)                                                        \
+    if (n >= sizeof(part)) {                                                             \
+        const part last = *(const part *)(source + n - sizeof(part));                    \
+        for (size_t at = 0; at < n - sizeof(part); at += sizeof(part)) move(part, at);   \
+        *(part *)(target + n - sizeof(part)) = last;                                     \
+        return to;                                                                       \
+    }
+#define BY_WIDEST_PARTS(by_parts, move)                                                  \
+    by_parts(part64, move)                                                               \
+    by_parts(part16, move)                                                               \
+    by_parts(part8, move)                                                                \
+    by_parts(part4, move)                                                                \
+    by_parts(part2, move)                                                                \
+    by_parts(part1, move)
 
 void *memcpy(void *to, const void *from, size_t n) {
     uint8_t *target = to;
     const uint8_t *source = from;
-    BY_WIDEST_PARTS(COPY)
+    BY_WIDEST_PARTS(BY_PARTS, COPY)
+    return to;
+}
+
+/* Bytes are moved down by parts; up, which nothing here does often, one by one from the last. */
+void *memmove(void *to, const void *from, size_t n) {
+    uint8_t *target = to;
+    const uint8_t *source = from;
+    if (target <= source) {
+        BY_WIDEST_PARTS(DOWN_BY_PARTS, COPY)
+        return to;
+    }
+    while (n-- > 0) target[n] = source[n];
     return to;
 }
 
 void *memset(void *to, int byte, size_t n) {
     uint8_t *target = to;
     const size_t filling = (size_t)(uint8_t)byte * 0x0101010101010101;
-    BY_WIDEST_PARTS(FILL)
+    BY_WIDEST_PARTS(BY_PARTS, FILL)
     return to;
 }
 

@@ -1,6 +1,6 @@
 /*
- * What the program has instead of a C library: its start, its output, and memcmp, memcpy and memset, which the code
- * that is counted calls too. x86-64 Linux.
+ * What the program has instead of a C library: its start, its output, and memcmp, memcpy, memmove and memset, which the
+ * code that is counted calls too. x86-64 Linux.
  */
 #ifndef SYSTEM_H
 #define SYSTEM_H

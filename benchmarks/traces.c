@@ -1,6 +1,7 @@
 /*
  * Pairs of legal locked readers that differ only in guarded contents get the same runs and line switches, up to and
- * including the right password. The addresses of a call's instructions must be the same in both.
+ * including the right password; first whole, by the step, and then in pieces, by receivers that hold the same. The
+ * addresses of a call's instructions must be the same in both.
  */
 #include "benchmarks.h"
 #include "reader.h"
@@ -8,7 +9,7 @@
 #include "system.h"
 
 static const size_t capacities[] = {1, 8, 9, 64, 256};
-enum { CAPACITIES = sizeof capacities / sizeof *capacities, PAIRS_EACH = 40 };
+enum { CAPACITIES = sizeof capacities / sizeof *capacities };
 
 /* ---- a pair: two readers with the same public settings */
 
@@ -33,22 +34,22 @@ static void make_locked_settings(struct bystrodol_settings *settings) {
 
 static void make_pair(size_t capacity, size_t number) {
     make_reader(capacity);
-    make_locked_settings(&reader.settings);
+    make_locked_settings(&reader.line.settings);
     pair[0] = pair[1] = reader;
     switch (number % KINDS) {
     case 0: /* everything differs */
         fill_random(&pair[1].memory, sizeof pair[1].memory);
-        set_marks(&pair[1].settings, random_byte());
+        set_marks(&pair[1].line.settings, random_byte());
         break;
     case 1: /* nothing, and all that there can be */
         memset(&pair[0].memory, 0x00, sizeof pair[0].memory);
         memset(&pair[1].memory, 0xFF, sizeof pair[1].memory);
-        set_marks(&pair[0].settings, 0);
-        set_marks(&pair[1].settings, 3);
+        set_marks(&pair[0].line.settings, 0);
+        set_marks(&pair[1].line.settings, 3);
         break;
     case 2: /* the filled marks alone */
-        set_marks(&pair[0].settings, 0);
-        set_marks(&pair[1].settings, (uint8_t)(1 + random_byte() % 3));
+        set_marks(&pair[0].line.settings, 0);
+        set_marks(&pair[1].line.settings, (uint8_t)(1 + random_byte() % 3));
         break;
     default: /* one page of the index alone */
         clear_stored(&pair[0].memory, number % capacity);
@@ -104,12 +105,12 @@ static void append_command(struct command command, enum shape shape) {
 static void append_data(enum identifier identifier) {
     uint8_t content[128];
     fill_random(content, sizeof content);
-    append_packet(identifier, content, (size_t)32 << pair[0].settings.size);
+    append_packet(identifier, content, (size_t)32 << pair[0].line.settings.size);
 }
 
 static void append_password(uint8_t change) {
     uint8_t content[5] = {0x13};
-    memcpy(content + 1, pair[0].settings.password, 4);
+    memcpy(content + 1, pair[0].line.settings.password, 4);
     content[4] ^= change;
     append_packet(COMMAND, content, sizeof content);
 }
@@ -146,39 +147,81 @@ static void make_run(enum call call) {
     }
 }
 
+/* ---- pieces */
+
+/* A piece of one of these lengths, or the rest of the run. */
+static size_t random_piece(size_t rest) {
+    static const size_t lengths[] = {0, 1, 2, 5, 9, 11, 12, 16, 30, 60, 139, 265};
+    const size_t length = lengths[random_byte() % (sizeof lengths / sizeof *lengths)];
+    return length < rest ? length : rest;
+}
+
+/* Both receivers hold the same noise, of one of these lengths; and there are old bytes in all other cells. */
+static void hold_noise(void) {
+    static const uint16_t counts[] = {0, 0, 1, 2, 9, 30, 60, 265};
+    struct bystrodol_receiver receiver;
+    for (size_t i = 0; i < sizeof receiver.held; i++) receiver.held[i] = random_byte() | 0x80;
+    receiver.count = counts[random_byte() % (sizeof counts / sizeof *counts)];
+    pair[0].line.receiver = pair[1].line.receiver = receiver;
+}
+
 /* ---- the comparison */
 
 static __typeof__(bystrodol_step) *step;
 static __typeof__(bystrodol_line_switch) *line_switch;
+static __typeof__(bystrodol_receive) *receive;
+static __typeof__(bystrodol_receiver_switch) *receiver_switch;
+static int in_pieces;
 static size_t first_count, first_trace[TRACE_MOST];
 
-/* Puts a reader of the pair in the place of the called one, calls it, and takes it back. */
-static void make_call(struct reader *called, enum call call) {
+/* A call of the reader with the whole run, or of its receiver with a piece: the refusal, and the bytes taken. */
+static struct bystrodol_received call_reader(enum call call, const uint8_t *piece, size_t n) {
+    struct bystrodol_received received = {BYSTRODOL_ACCEPTED, n, 0};
+    if (call == LINE_SWITCH)
+        received.refusal = in_pieces ? receiver_switch_stepped(receiver_switch) : line_switch_stepped(line_switch);
+    else if (in_pieces)
+        received = receive_stepped(receive, piece, n);
+    else
+        received.refusal = call_stepped(step).refusal;
+    return received;
+}
+
+/* Puts a reader of the pair in the place of the called one, calls it, and takes it back. The bytes taken. */
+static size_t make_call(struct reader *called, enum call call, const uint8_t *piece, size_t n) {
     reader = *called;
-    uint8_t refusal = call == LINE_SWITCH ? line_switch_stepped(line_switch) : call_stepped(step).refusal;
-    if (refusal != BYSTRODOL_ACCEPTED) fail("a legal reader was refused");
+    struct bystrodol_received received = call_reader(call, piece, n);
+    if (received.refusal != BYSTRODOL_ACCEPTED) fail("a legal reader was refused");
     if (step_count > TRACE_MOST) fail("a call has more instructions than a trace holds");
     *called = reader;
+    return received.taken;
 }
 
 static int paths_differ(enum call call) {
     make_run(call);
-    make_call(&pair[0], call);
-    first_count = step_count;
-    memcpy(first_trace, step_trace, step_count * sizeof *step_trace);
-    make_call(&pair[1], call);
-    return step_count != first_count || memcmp(first_trace, step_trace, step_count * sizeof *step_trace) != 0;
+    if (in_pieces) hold_noise();
+    size_t at = 0;
+    do {
+        size_t n = in_pieces ? random_piece(run_length - at) : run_length;
+        size_t taken = make_call(&pair[0], call, run + at, n);
+        first_count = step_count;
+        memcpy(first_trace, step_trace, step_count * sizeof *step_trace);
+        if (make_call(&pair[1], call, run + at, n) != taken) fail("two receivers took different numbers of bytes");
+        if (step_count != first_count || memcmp(first_trace, step_trace, step_count * sizeof *step_trace) != 0)
+            return 1;
+        at += taken;
+    } while (at < run_length);
+    return 0;
 }
 
 /* Some of the calls with a line switch among them, and then the right password. The first call whose paths differ. */
-static enum call first_difference(size_t number) {
+static enum call first_difference(size_t round) {
     for (size_t i = 0; i < CALLS_EACH; i++) {
         if (i == CALLS_EACH / 2 && paths_differ(LINE_SWITCH)) return LINE_SWITCH;
-        enum call call = (enum call)((CALLS_EACH * (number / KINDS) + i) % LOCKED_CALLS);
+        enum call call = (enum call)((CALLS_EACH * round + i) % LOCKED_CALLS);
         if (paths_differ(call)) return call;
     }
     if (paths_differ(RIGHT_PASSWORD)) return RIGHT_PASSWORD;
-    if (!pair[0].settings.verified || !pair[1].settings.verified) fail("the right password was not accepted");
+    if (!pair[0].line.settings.verified || !pair[1].line.settings.verified) fail("the right password was not accepted");
     return NO_CALL;
 }
 
@@ -200,9 +243,14 @@ static void put_place(size_t address) {
         {"the program", 0},
         {"bystrodol_step", (size_t)bystrodol_step},
         {"bystrodol_line_switch", (size_t)bystrodol_line_switch},
+        {"bystrodol_receive", (size_t)bystrodol_receive},
+        {"bystrodol_receiver_switch", (size_t)bystrodol_receiver_switch},
         {"plain_step", (size_t)plain_step},
         {"plain_line_switch", (size_t)plain_line_switch},
+        {"plain_receive", (size_t)plain_receive},
+        {"plain_receiver_switch", (size_t)plain_receiver_switch},
         {"memcpy", (size_t)memcpy},
+        {"memmove", (size_t)memmove},
         {"memset", (size_t)memset},
     };
     size_t nearest = 0;
@@ -219,30 +267,42 @@ static void put_next(const size_t *trace, size_t count, size_t i) {
 }
 
 /* Where the two last calls part: the last instruction that they share, and the next one of each. */
-static void put_difference(size_t capacity, size_t number, enum call call) {
+static void put_difference(const char *name, size_t capacity, size_t number, enum call call) {
     size_t i = 0;
     while (i < first_count && i < step_count && first_trace[i] == step_trace[i]) i++;
-    put_text("traces: capacity "), put_number(capacity), put_text(", pair "), put_number(number);
+    put_text(name), put_text(": capacity "), put_number(capacity), put_text(", pair "), put_number(number);
     put_text(", call "), put_number(call), put_text(": after "), put_place(i > 0 ? first_trace[i - 1] : 0);
     put_text(" one goes to "), put_next(first_trace, first_count, i);
     put_text(", the other to "), put_next(step_trace, step_count, i), put_text("\n");
 }
 
-int compare_traces(int of_plain) {
-    size_t pairs = CAPACITIES * PAIRS_EACH, differ = 0, unlocked_differ = 0;
-    step = of_plain ? plain_step : bystrodol_step;
-    line_switch = of_plain ? plain_line_switch : bystrodol_line_switch;
+/* Compares so many pairs of each capacity; whether all is as it must be. */
+static int compare_pairs(const char *name, size_t pairs_each) {
+    size_t pairs = CAPACITIES * pairs_each, differ = 0, unlocked_differ = 0;
     for (size_t i = 0; i < pairs; i++) {
-        size_t capacity = capacities[i % CAPACITIES], number = i / CAPACITIES;
-        make_pair(capacity, number);
-        enum call call = first_difference(number);
+        size_t place = i % CAPACITIES, number = i / CAPACITIES;
+        make_pair(capacities[place], number);
+        /* Whole, the pairs of one kind and capacity go through all calls; in pieces, the pairs of one kind do. */
+        size_t round = in_pieces ? CAPACITIES * (number / KINDS) + place : number / KINDS;
+        enum call call = first_difference(round);
         if (call == NO_CALL)
             unlocked_differ += (size_t)unlocked_paths_differ();
         else if (differ++ == 0)
-            put_difference(capacity, number, call);
+            put_difference(name, capacities[place], number, call);
     }
-    put_text("unlocked: "), put_number(pairs - differ), put_text(" pairs, "), put_number(unlocked_differ);
-    put_text(" differ (LoadChar of a page that only one has stored: all must)\n");
-    put_text("traces: "), put_number(pairs), put_text(" pairs, "), put_number(differ), put_text(" differ\n");
-    return differ != 0 || unlocked_differ != pairs;
+    put_text(name), put_text(", unlocked: "), put_number(pairs - differ), put_text(" pairs, ");
+    put_number(unlocked_differ), put_text(" differ (LoadChar of a page that only one has stored: all must)\n");
+    put_text(name), put_text(": "), put_number(pairs), put_text(" pairs, "), put_number(differ), put_text(" differ\n");
+    return differ == 0 && unlocked_differ == pairs;
+}
+
+int compare_traces(int of_plain) {
+    step = of_plain ? plain_step : bystrodol_step;
+    line_switch = of_plain ? plain_line_switch : bystrodol_line_switch;
+    receive = of_plain ? plain_receive : bystrodol_receive;
+    receiver_switch = of_plain ? plain_receiver_switch : bystrodol_receiver_switch;
+    int is_well = compare_pairs("traces", 40);
+    in_pieces = 1;
+    is_well &= compare_pairs("traces in pieces", 8);
+    return !is_well;
 }

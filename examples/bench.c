@@ -37,8 +37,7 @@ static int send_all(const uint8_t *bytes, size_t length) {
     return 1;
 }
 
-/* Offers a piece until a call takes nothing, answers nothing and leaves the held bytes as they are. Returns whether all went well,
- * and says what did not. */
+/* Offers a piece until a call takes nothing and leaves the held count. Returns whether all went well, and says what did not. */
 static int take_piece(const uint8_t *piece, size_t length) {
     struct bystrodol_received r;
     size_t held;
@@ -51,7 +50,7 @@ static int take_piece(const uint8_t *piece, size_t length) {
             return 0;
         }
         piece += r.taken, length -= r.taken;
-    } while (r.taken != 0 || r.length != 0 || line.receiver.count != held);
+    } while (r.taken != 0 || line.receiver.count != held);
     /* A reader that starts fresh stays legal, so this tells of memory that something else has written to. */
     if (r.refusal != BYSTRODOL_ACCEPTED) dprintf(STDERR_FILENO, "the reader refuses with %d\n", r.refusal);
     return r.refusal == BYSTRODOL_ACCEPTED;

@@ -21,16 +21,15 @@
  *     password was given. It takes any bytes. Then one bystrodol_receive with a piece of 0 bytes: it changes nothing, and its
  *     refusal tells whether the stored settings and index are legal. Any password and any address are, so keep a sum of your
  *     own over what is stored. Fresh settings have no password: do not fall back to them where the memory has templates.
- *   A loop. Read what the port has, a piece of any length, and offer it until a call takes nothing, answers nothing and leaves
- *     the held bytes as they are. What is answered does not depend on how the bytes were cut into pieces.
+ *   A loop. Read what the port has, a piece of any length, and offer it until a call takes nothing and leaves the held count:
+ *     then all is taken, nothing was answered, and there is nothing left to do. How the bytes were cut makes no difference.
  *         do {
  *             held = line.receiver.count;
  *             r = bystrodol_receive(&line, MEMORY, piece, length, reply, sizeof reply);
  *             send(reply, r.length), piece += r.taken, length -= r.taken;
- *         } while (r.taken != 0 || r.length != 0 || line.receiver.count != held);
+ *         } while (r.taken != 0 || line.receiver.count != held);
  *     At each call send r.length bytes of the reply room, and no more: behind them lie bytes of earlier replies, templates
- *     among them. A refused call takes nothing, answers nothing and leaves all as it is, so it ends the loop. Stop then: the
- *     same call will be refused again.
+ *     among them. A refused call ends the loop, too. If r.refusal is not 0, stop: the same call will be refused again.
  *   Silence. An unfinished packet stays held, and the rest of it is awaited: up to 264 bytes that come next are taken for it.
  *     The core knows no time. After a pause of your own choosing, longer than a host ever makes inside a packet, go on with an
  *     empty receiver: memset(&line.receiver, 0, sizeof line.receiver). Nothing is called for that, and nothing else of the

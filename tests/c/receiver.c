@@ -194,8 +194,9 @@ static uint8_t serve_piece(struct reader *r, const uint8_t *piece, size_t length
         held = r->line.receiver.count;
         a = receive(r, piece, length);
         send(r->reply, a.length), piece += a.taken, length -= a.taken;
-    } while (a.taken != 0 || a.length != 0 || r->line.receiver.count != held);
+    } while (a.taken != 0 || r->line.receiver.count != held);
     check("bytes of a piece that are left", length, 0);
+    check("reply bytes of the last call", a.length, 0);
     return a.refusal;
 }
 

@@ -1,188 +1,120 @@
--- What a call of a reader in any state keeps within, and one call more of serving.
-use mathlib.Core.Path.{_≡_, refl, sym, ap, ap₂, _∙_, subst}
-use mathlib.Core.Bool.{Bool, true, false}
-use mathlib.Core.List.{List}
-use Prim.Native.Nat.{ℕ, zero, suc, _+_, _-_, _≤_, _<_}
+-- What a receiver's call keeps within, and a piece offered up to rest.
+use mathlib.Core.Path.{_≡_, refl, sym, ap, _∙_, subst}
+use mathlib.Core.List.{List, [], _∷_, _++_}
+use Prim.Native.Nat.{ℕ, _+_, _-_, _*_, _≤_, _<_}
 use native.Mathlib.Omega.{arith}
-use lib.Dec.{eqb, leb→le}
+use native.Mathlib.Decide.{decLe}
+use lib.Dec.{leb→le}
 use lib.ListN.{length, getD, take, drop, length-take, length-drop}
-use lib.Seq.{take-all}
-use borrow.Author.Tests.{eq-eqb, ne-eqb, eqb-false}
-use mir.Syntax.{w8, w64}
+use lib.Seq.{take-all, drop-drop}
+use mir.Syntax.{w8}
 use mir.Val.{Fits}
-use borrow.Rule.Slice.PartMut.{putMid}
 use Rattle.protocol.specs.declared.Settings.{Settings}
-use Rattle.protocol.specs.declared.Called.{Called}
-use Rattle.protocol.specs.Numbers.{replyRoom, fourBytes, wrapsAt}
-use Rattle.protocol.specs.Bytes.{Bytes, lay}
-use Rattle.protocol.specs.Reader.{Reader}
-use Rattle.protocol.specs.Step.{stepOf}
-use Rattle.protocol.specs.Call.{core, fitRoom, Typed, Ended, refused, carried, callOf}
-use Rattle.protocol.specs.Records.{readerOf, lentOf, endedOf}
-use Rattle.protocol.proofs.Laws.Answers.{call-kinds, call-legal}
-use Rattle.protocol.proofs.Laws.Lists.{length-lay}
+use Rattle.protocol.specs.declared.Receiver.{Receiver}
+use Rattle.protocol.specs.declared.Received.{Received}
+use Rattle.protocol.specs.Numbers.{replyRoom, fourBytes, holds, longest}
+use Rattle.protocol.specs.Bytes.{Bytes}
+use Rattle.protocol.specs.Finder.{findOf, usedOf}
+use Rattle.protocol.specs.Call.{core, Lent, fitRoom, Typed, refused}
+use Rattle.protocol.specs.Receiver.{bytesIn, Line, line, Handed, fitting, runOf, handed, receiveOf}
+use Rattle.protocol.specs.Caller.{Ran, replied, drained}
+use Rattle.protocol.specs.Records.{readerOf, lentOf, receivedOf}
 use Rattle.protocol.proofs.Laws.Finder.{used-in}
+use Rattle.protocol.proofs.Laws.Holding.{receive-kinds, receive-legal}
 use Rattle.protocol.proofs.Promises.LegalMeans.{core-holds}
-use Rattle.protocol.proofs.Promises.ReplyFits.{reply-fits}
-use Rattle.library.proofs.Parts.{part-laid}
-use Rattle.bench.specs.declared.serve.Served.{Served}
-use Rattle.bench.specs.Serve.{Once, Service, service, serveOf, served, serviceOf}
-use Rattle.bench.proofs.Lengths.{Kept, kept-all, kept-on}
+use Rattle.protocol.proofs.Promises.Cuts.{offered, count-after, took-is, length-held, all-drained}
+use Rattle.protocol.proofs.Promises.ReceiverCalls.{line-fits}
+use Rattle.bench.specs.Offer.{Offered, Drained}
 
-used-within : (r : Reader) (s room : List ℕ) → callOf core r s (lentOf room) .told .used ≤ length s
-unfolding refused carried stepOf
-used-within r s room = call-kinds core r s (lentOf room) (λ (e : Ended). e .told .used ≤ length s) (λ n. omega arith) (λ t u. used-in s)
+-- ---- one call
 
-reply-within : (r : Reader) → Typed r → (s room : List ℕ) → callOf core r s (lentOf room) .told .length ≤ length room
-unfolding refused fitRoom
-reply-within r h s room =
-    call-kinds core r s (lentOf room) (λ (e : Ended). e .told .length ≤ length room) (λ n. omega arith)
-    (λ t u.
-    subst (λ (e : Ended). e .told .length ≤ length room) (call-legal core r s (lentOf room) t u)
-    (omega (arith, reply-fits core core-holds r record { typed = h; legal = t } s (lentOf room), leb→le replyRoom (length room) u)))
+module _ (x : Line) (piece : List ℕ) (lent : Lent) where
+  taken-within : receiveOf core x piece lent .told .used ≤ length piece
+  unfolding refused handed fitting
+  taken-within =
+      receive-kinds core x piece lent (λ (o : Handed). o .told .used ≤ length piece) (λ n. omega arith)
+      (λ t u l. omega (arith, length-take (holds - x .receiver .count) piece))
 
-pub call-within : (s : Settings) (t i n b d run room : List ℕ) (q : Called) (t′ i′ n′ b′ d′ room′ : List ℕ) → length (s .password) ≡ fourBytes → length (s .address) ≡ fourBytes
-    → ((k : ℕ) → Fits w8 (getD i k 0))
-    → endedOf q t′ i′ n′ b′ d′ room′ ≡ callOf core (readerOf s t i n b d) run (lentOf room)
-    → Once (callOf core (readerOf s t i n b d) run (lentOf room)) (length run) (length room) (endedOf q t′ i′ n′ b′ d′ room′)
+  reply-within : Typed (x .reader) → receiveOf core x piece lent .told .length ≤ length (lent .room)
+  unfolding refused fitRoom holds longest
+  reply-within h =
+      receive-kinds core x piece lent (λ (o : Handed). o .told .length ≤ length (lent .room)) (λ n. omega arith)
+      (λ t u l.
+      subst (λ (o : Handed). o .told .length ≤ length (lent .room)) (receive-legal core x piece lent t u l)
+      (omega (arith, line-fits core core-holds x l record { typed = h; legal = t } piece lent, leb→le replyRoom (length (lent .room)) u)))
+
+  -- what is taken and what is used bring the end nearer
+  brings-nearer : length (x .receiver .held) ≡ 265 → receiveOf core x piece lent .told .refusal ≡ 0
+      → (receiveOf core x piece lent .told .used ≡ 0 → receiveOf core x piece lent .after .receiver .count ≡ x .receiver .count → ⊥)
+      → 2 * (length piece - receiveOf core x piece lent .told .used) + receiveOf core x piece lent .after .receiver .count < 2 * length piece + x .receiver .count
+  brings-nearer z e n = go (decLe 1 (length (fitting (x .receiver) piece) + usedOf (findOf run)))
+    where
+      run : List ℕ
+      run = runOf (x .receiver) piece
+
+      go : Dec (1 ≤ length (fitting (x .receiver) piece) + usedOf (findOf run))
+          → 2 * (length piece - receiveOf core x piece lent .told .used) + receiveOf core x piece lent .after .receiver .count < 2 * length piece + x .receiver .count
+      go (yes h) =
+          omega (arith, taken-within, took-is core x piece lent e, count-after core x piece lent e, length-held core x piece lent z e, used-in run)
+      go (no h) =
+          absurd (n (omega (arith, took-is core x piece lent e)) (omega (arith, count-after core x piece lent e, length-held core x piece lent z e)))
+
+pub offer-within : (h : Receiver) (s : Settings) (t i n b d piece room : List ℕ) (q : Received) (t′ i′ n′ b′ d′ room′ : List ℕ) → length (s .password) ≡ fourBytes → length (s .address) ≡ fourBytes
+    → length (h .held) ≡ 265 → ((k : ℕ) → Fits w8 (getD i k 0))
+    → receivedOf q t′ i′ n′ b′ d′ room′ ≡ receiveOf core (line (readerOf s t i n b d) h) piece (lentOf room)
+    → Offered (line (readerOf s t i n b d) h) piece (lentOf room) (receivedOf q t′ i′ n′ b′ d′ room′)
 unfolding Bytes
-call-within s t i n b d run room q t′ i′ n′ b′ d′ room′ p a h e =
-    let r : Reader = readerOf s t i n b d in
-    let u : q .used ≡ callOf core r run (lentOf room) .told .used = ap (λ (x : Ended). x .told .used) e in
-    let l : q .length ≡ callOf core r run (lentOf room) .told .length = ap (λ (x : Ended). x .told .length) e in
+offer-within h s t i n b d piece room q t′ i′ n′ b′ d′ room′ p a z f e =
+    let x : Line = line (readerOf s t i n b d) h in
+    subst (Offered x piece (lentOf room)) (sym e)
     record {
-      call = e;
-      used = rw u (used-within r run room);
-      written = rw l (reply-within r record { password = p; address = a; index = λ k. h k .fits } run room);
+      call = refl;
+      taken = taken-within x piece (lentOf room);
+      written = reply-within x piece (lentOf room) record { password = p; address = a; index = λ k. f k .fits };
+      nearer = brings-nearer x piece (lentOf room) z;
     }
+
+-- ---- a piece offered, at a place of it: what is left gives the whole
+
+pub record Offering (x₀ : Line) (piece : List ℕ) (x : Line) (from : ℕ) : Type 0 where
+  pub inside : from ≤ length piece
+  pub left : drained (x₀ .reader) (bytesIn (x₀ .receiver) ++ piece) .after ≡ drained (x .reader) (bytesIn (x .receiver) ++ drop from piece) .after
+
+pub begins : (x : Line) (piece : List ℕ) → Offering x piece x 0
+begins x piece = record { inside = omega arith; left = refl }
 
 rest : (a : ℕ) (s : List ℕ) → take (length s - a) (drop a s) ≡ drop a s
 rest a s = take-all (length s - a) (drop a s) (simp length-drop (omega arith))
 
-rest-long : (a : ℕ) (s : List ℕ) → length (take (length s - a) (drop a s)) ≡ length s - a
-rest-long a s = simp (length-take, length-drop) (omega arith)
+after-replied : (a : List ℕ) (d : Ran) → replied a d .after ≡ d .after
+unfolding replied
+after-replied [] d = refl
+after-replied (b ∷ a) d = refl
 
-module _ (k : ℕ) (r : Reader) (s room : List ℕ) (from at : ℕ) (e : Ended)
-    (h : e ≡ callOf core r (take (length s - from) (drop from s)) (lentOf (take (length room - at) (drop at room))))
-    (m : at ≤ length room) (n : length (e .told .room) ≡ length room - at) where
-  here : callOf core r (drop from s) (lentOf (drop at room)) ≡ e
-  here = sym (h ∙ ap₂ (λ (x y : List ℕ). callOf core r x (lentOf y)) (rest from s) (rest at room))
+module _ (x₀ : Line) (piece : List ℕ) (x : Line) (from : ℕ) (k : Offering x₀ piece x from) (lent : Lent) (o : Handed)
+    (f : Offered x (take (length piece - from) (drop from piece)) lent o) (e : o .told .refusal ≡ 0) where
+  here : o ≡ receiveOf core x (drop from piece) lent
+  here = f .call ∙ ap (λ (s : List ℕ). receiveOf core x s lent) (rest from piece)
 
-  -- a call that uses something goes on behind it
-  goes-on : 1 ≤ e .told .used
-      → serveOf (suc k) r s room from at ≡ serveOf k (e .after) s (putMid at (length room - at) room (e .told .room)) (from + e .told .used) (at + e .told .length)
-  unfolding serveOf
-  goes-on u = rw (here, ne-eqb (e .told .used) 0 (omega arith), part-laid at (length room) room (e .told .room) m n) refl
+  -- one call more
+  pub again : Offering x₀ piece (o .after) (from + o .told .used)
+  again =
+      let s : List ℕ = drop from piece in
+      let all : take (length s) s ≡ s = take-all (length s) s (omega arith) in
+      let whole : o ≡ receiveOf core x (take (length s) s) lent = here ∙ ap (λ (y : List ℕ). receiveOf core x y lent) (sym all) in
+      let next : drained (x .reader) (bytesIn (x .receiver) ++ s) .after ≡ drained (o .after .reader) (bytesIn (o .after .receiver) ++ drop (o .told .used) s) .after =
+      subst (λ (y : Handed). drained (x .reader) (bytesIn (x .receiver) ++ s) .after ≡ drained (y .after .reader) (bytesIn (y .after .receiver) ++ drop (y .told .used) s) .after) (sym whole)
+      (ap (λ (d : Ran). d .after) (offered core x (length s) s lent (subst (λ (y : Handed). y .told .refusal ≡ 0) whole e)) ∙ after-replied _ _)
+      in
+      record {
+        inside = omega (arith, f .taken, k .inside, length-take (length piece - from) (drop from piece), length-drop from piece);
+        left = k .left ∙ next ∙ ap (λ (y : List ℕ). drained (o .after .reader) (bytesIn (o .after .receiver) ++ y) .after) (drop-drop (o .told .used) from piece);
+      }
 
-  -- a call that uses nothing is the last
-  ends : e .told .used ≡ 0 → serveOf (suc k) r s room from at ≡ service (e .after) from at (putMid at (length room - at) room (e .told .room))
-  unfolding serveOf
-  ends u = rw (here, eq-eqb (e .told .used) 0 u, part-laid at (length room) room (e .told .room) m n) refl
-
--- where no byte is left, the first call is the last
-last-call : (k : ℕ) (r : Reader) (s room : List ℕ) (from at : ℕ) → length s ≤ from → serveOf 1 r s room from at ≡ serveOf (suc k) r s room from at
-unfolding serveOf
-last-call k r s room from at a = go (eqb (e .told .used) 0) refl
-  where
-    e : Ended
-    e = callOf core r (drop from s) (lentOf (drop at room))
-
-    go : (t : Bool) → eqb (e .told .used) 0 ≡ t → serveOf 1 r s room from at ≡ serveOf (suc k) r s room from at
-    go true f = rw f refl
-    go false f = absurd (eqb-false (e .told .used) 0 f (omega (arith, used-within r (drop from s) (drop at room), length-drop from s)))
-
--- one call more than the run has bytes left is enough: more calls change nothing
-pub enough-calls : (j k : ℕ) (r : Reader) (s room : List ℕ) (from at : ℕ) → length s ≤ j + from → length s ≤ k + from
-    → serveOf (suc j) r s room from at ≡ serveOf (suc k) r s room from at
-unfolding serveOf
-enough-calls zero k r s room from at a b = last-call k r s room from at (omega arith)
-enough-calls (suc j) zero r s room from at a b = sym (last-call (suc j) r s room from at (omega arith))
-enough-calls (suc j) (suc k) r s room from at a b =
-    go (eqb (e .told .used) 0) refl (enough-calls j k (e .after) s (lay at (e .told .room) room) (from + e .told .used) (at + e .told .length))
-  where
-    e : Ended
-    e = callOf core r (drop from s) (lentOf (drop at room))
-
-    next : ℕ → Service
-    next n = serveOf (suc n) (e .after) s (lay at (e .told .room) room) (from + e .told .used) (at + e .told .length)
-
-    go : (t : Bool) → eqb (e .told .used) 0 ≡ t → (length s ≤ j + (from + e .told .used) → length s ≤ k + (from + e .told .used) → next j ≡ next k)
-        → serveOf (suc (suc j)) r s room from at ≡ serveOf (suc (suc k)) r s room from at
-    go true f h = rw f refl
-    go false f h = let u = eqb-false (e .told .used) 0 f in rw f (h (omega (arith, u)) (omega (arith, u)))
-
--- a part of the room that came back as long as it was leaves the room as long as it was
-room-same : (room ys : List ℕ) (at : ℕ) → at ≤ length room → length ys ≡ length (take (length room - at) (drop at room)) → length (putMid at (length room - at) room ys) ≡ length room
-room-same room ys at m n =
-    let k = n ∙ rest-long at room in
-    ap length (part-laid at (length room) room ys m k) ∙ length-lay at ys room (omega arith)
-
--- ---- serving, at a place of the run and a place of the room: what is left to serve gives the whole, and the room and the memory are as long as they were
-
-pub record Serving (s : List ℕ) (r₀ : Reader) (room₀ : List ℕ) (r : Reader) (room : List ℕ) (from at : ℕ) : Type 0 where
-  pub inside : from ≤ length s
-  pub fits : at ≤ length room
-  pub same : length room ≡ length room₀
-  pub kept : Kept r₀ r
-  pub calls : ℕ
-  pub enough : length s ≤ calls + from
-  pub left : serveOf (suc (length s)) r₀ s room₀ 0 0 ≡ serveOf (suc calls) r s room from at
-
-pub begins : (s : List ℕ) (r : Reader) (room : List ℕ) → Serving s r room r room 0 0
-begins s r room = record { inside = omega arith; fits = omega arith; same = refl; kept = kept-all r; calls = length s; enough = omega arith; left = refl }
-
-module _ (s : List ℕ) (r₀ : Reader) (room₀ : List ℕ) (r : Reader) (room : List ℕ) (from at : ℕ) (v : Serving s r₀ room₀ r room from at) where
-  -- the room, of which a part was lent and came back as y
-  pub room-kept : (y : List ℕ) → length y ≡ length (take (length room - at) (drop at room)) → length (putMid at (length room - at) room y) ≡ length room₀
-  room-kept y n = room-same room y at (v .fits) n ∙ v .same
-
-  -- what is served then
-  pub used-inside : (o : Served) (x : Settings) → o ≡ served x from at → o .used ≤ length s
-  used-inside o x e = rw e (v .inside)
-
-  pub written-inside : (o : Served) (x : Settings) → o ≡ served x from at → o .written ≤ length room₀
-  written-inside o x e = let h = v .fits in let l = v .same in rw e (omega arith)
-
-  pub room-fits : (n : ℕ) → n ≤ length (take (length room - at) (drop at room)) → length room₀ < wrapsAt → Fits w64 (at + n)
-  room-fits n u w = let h = v .fits in let e = v .same in let l = rest-long at room in omega arith
-
-  -- the next call returned q, and left the memory t, i, n, b, d and the part of the room y
-  module _ (q : Called) (t i n b d y : List ℕ)
-      (h : endedOf q t i n b d y ≡ callOf core r (take (length s - from) (drop from s)) (lentOf (take (length room - at) (drop at room))))
-      (k : length y ≡ length (take (length room - at) (drop at room))) where
-    room-long : length y ≡ length room - at
-    room-long = k ∙ rest-long at room
-
-    abbrev e : Ended
-    e = endedOf q t i n b d y
-
-    pub again : (q .used ≡ 0 → ⊥) → q .used ≤ length (take (length s - from) (drop from s)) → q .length ≤ length (take (length room - at) (drop at room))
-        → length t ≡ length (r .guarded .templates) → length i ≡ length (r .guarded .index) → length n ≡ length (r .guarded .notepad)
-        → length b ≡ length (r .guarded .buffer1 .bytes) → length d ≡ length (r .guarded .buffer2 .bytes)
-        → Serving s r₀ room₀ (readerOf (q .settings) t i n b d) (putMid at (length room - at) room y) (from + q .used) (at + q .length)
-    again o u w lt li ln lb ld =
-        let a = rest-long from s in
-        let one : v .calls ≡ suc (v .calls - 1) = omega (arith, v .enough, v .inside) in
-        record {
-          inside = omega (arith, v .inside);
-          fits = omega (arith, v .fits, rest-long at room, room-same room y at (v .fits) k);
-          same = room-kept y k;
-          kept = kept-on r₀ r (q .settings) t i n b d (v .kept) lt li ln lb ld;
-          calls = v .calls - 1;
-          enough = omega (arith, v .enough);
-          left =
-              v .left
-              ∙ goes-on (v .calls) r s room from at e h (v .fits) room-long (omega arith)
-              ∙ ap (λ (j : ℕ). serveOf j (e .after) s (putMid at (length room - at) room y) (from + q .used) (at + q .length)) one;
-        }
-
-    last : q .used ≡ 0 → service (e .after) from at (putMid at (length room - at) room y) ≡ serveOf (suc (length s)) r₀ s room₀ 0 0
-    last u = sym (v .left ∙ ends (v .calls) r s room from at e h (v .fits) room-long u)
-
--- q was the last
-pub over : (q : Called) (s : List ℕ) (r₀ : Reader) (room₀ : List ℕ) (r : Reader) (room : List ℕ) (from at : ℕ) (t i n b d y : List ℕ) (o : Served)
-    → o ≡ served (q .settings) from at
-    → endedOf q t i n b d y ≡ callOf core r (take (length s - from) (drop from s)) (lentOf (take (length room - at) (drop at room)))
-    → q .used ≡ 0 → length y ≡ length (take (length room - at) (drop at room)) → Serving s r₀ room₀ r room from at
-    → serviceOf o t i n b d (putMid at (length room - at) room y) ≡ serveOf (suc (length s)) r₀ s room₀ 0 0
-over q s r₀ room₀ r room from at t i n b d y o f h u k v = rw f (last s r₀ room₀ r room from at v q t i n b d y h k u)
+  -- and the last
+  pub over : length (x .receiver .held) ≡ 265 → o .told .used ≡ 0 → o .after .receiver .count ≡ x .receiver .count → Drained x₀ piece (o .after)
+  over z u c =
+      let ends : (y : Handed) → y ≡ o → y ≡ receiveOf core x (drop from piece) lent → receiveOf core x (drop from piece) lent .after ≡ drained (x .reader) (bytesIn (x .receiver) ++ drop from piece) .after =
+      λ y p q. all-drained core x (drop from piece) lent z (rw here at e) (rw here at u) (rw here at c)
+      in
+      ap (λ (y : Handed). y .after) here ∙ ends o refl here ∙ sym (k .left)

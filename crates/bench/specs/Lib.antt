@@ -1,1 +1,1 @@
-pub mod Serve
+pub mod Offer

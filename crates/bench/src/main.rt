@@ -1,129 +1,108 @@
 // A reader with 64 zeroed pages on a line: packets come in by standard input, replies go out by standard output.
-mod serve;
+mod offer;
 
 ghost use Prim.Native.Nat.{_≤_};
+ghost use mathlib.Core.Bool.{true};
+ghost use mathlib.Core.Path.{_≡_};
 ghost use lib.ListN.{length};
-ghost use Rattle.bench.specs.Serve.{Received};
+ghost use Rattle.protocol.specs.Receiver.{line};
+ghost use Rattle.protocol.specs.Records.{readerOf};
+ghost use Rattle.bench.specs.Offer.{Drained};
+use libc::STDERR_FILENO;
 use libc::STDIN_FILENO;
 use libc::STDOUT_FILENO;
+use protocol::Receiver;
 use protocol::Settings;
 use protocol::numbers;
+use protocol::refusals;
 use rules::settings;
 
 // The bytes of 64 pages.
 const TEMPLATES: usize = 64 * numbers::PAGE;
 
-// The settings, how many bytes of the line are used or held, and whether the line goes on.
+// The bytes that are read at a time at most, as the boards hand them over.
+const PIECE: usize = 60;
+
+// The receiver and the settings, and whether the line goes on.
 struct Line {
+    receiver: Receiver,
     settings: Settings,
-    bytes: usize,
     is_open: bool,
 }
 
-// Writes the replies to what a run holds, one room after the other. The bytes are those used, and a failed write closes the line.
+// Offers a piece until a call takes nothing and leaves the held count, and writes each reply. A refusal and a failed write close the line.
 fn answer(
+    receiver: Receiver,
     settings: Settings,
     templates: &mut [u8],
     index: &mut [u8],
     notepad: &mut [u8],
     buffer1: &mut [u8],
     buffer2: &mut [u8],
-    run: &[u8],
-    out: &mut [u8],
+    piece: &[u8],
+    reply: &mut [u8],
 ) -> Line
-    ensures { λ r. ⌜ r .bytes ≤ length (now (run .entry)) ⌝ }
+    ensures { λ r. ⌜ (r .is_open ≡ true → Drained (line (readerOf settings (now (templates .entry)) (now (index .entry)) (now (notepad .entry)) (now (buffer1 .entry)) (now (buffer2 .entry))) receiver) (now (piece .entry)) (line (readerOf (r .settings) (now (templates .exit)) (now (index .exit)) (now (notepad .exit)) (now (buffer1 .exit)) (now (buffer2 .exit))) (r .receiver))) ⌝ }
 {
+    let mut held = receiver;
     let mut current = settings;
-    let mut used = 0;
+    let mut from = 0;
     loop {
-        let s = serve::serve(
+        let before = held.count;
+        let r = offer::offer(
+            held,
             current,
             templates,
             index,
             notepad,
             buffer1,
             buffer2,
-            &run[used..],
-            out,
+            &piece[from..],
+            reply,
         );
-        current = s.settings;
-        let n = s.written;
-        let is_written = io::write_all(STDOUT_FILENO, &out[..n]);
+        held = r.receiver;
+        current = r.settings;
+        let n = r.length;
+        let is_written = io::write_all(STDOUT_FILENO, &reply[..n]);
         if !is_written {
             os::fail(b"write");
             return Line {
+                receiver: held,
                 settings: current,
-                bytes: used,
                 is_open: false,
             };
         }
-        if s.used == 0 {
+        if r.refusal != refusals::ACCEPTED {
+            io::write_all(STDERR_FILENO, b"the reader refuses\n");
             return Line {
+                receiver: held,
                 settings: current,
-                bytes: used,
+                is_open: false,
+            };
+        }
+        if r.taken == 0 && held.count == before {
+            return Line {
+                receiver: held,
+                settings: current,
                 is_open: true,
             };
         }
-        used += s.used;
+        from += r.taken;
     }
 }
 
-// Reads once behind the bytes held, and returns how many are held then: as many as before at the end of the input and at a
-// failed read.
-fn receive(line: &mut [u8], held: usize) -> usize
-    requires { ⌜ held ≤ length (now line) ⌝ }
-    ensures { λ r. ⌜ Received held (length (now (line .entry))) r ⌝ }
+// Reads a piece once, and returns its bytes: 0 at the end of the input and at a failed read.
+fn read(piece: &mut [u8]) -> usize
+    ensures { λ r. ⌜ r ≤ length (now (piece .entry)) ⌝ }
 {
-    let got = libc::read(STDIN_FILENO, &mut line[held..]);
+    let got = libc::read(STDIN_FILENO, piece);
     if got < 0 {
         os::fail(b"read");
     }
-    held + io::count(got, &line[held..])
+    io::count(got, piece)
 }
 
-// Reads once, answers, and holds what is unfinished. A read that brings nothing closes the line.
-fn turn(
-    settings: Settings,
-    templates: &mut [u8],
-    index: &mut [u8],
-    notepad: &mut [u8],
-    buffer1: &mut [u8],
-    buffer2: &mut [u8],
-    line: &mut [u8],
-    held: usize,
-    out: &mut [u8],
-) -> Line
-    requires { ⌜ held ≤ length (now line) ⌝ }
-    ensures { λ r. ⌜ r .bytes ≤ length (now (line .entry)) ⌝ }
-{
-    let to = receive(line, held);
-    if to == held {
-        return Line {
-            settings,
-            bytes: held,
-            is_open: false,
-        };
-    }
-    let a = answer(
-        settings,
-        templates,
-        index,
-        notepad,
-        buffer1,
-        buffer2,
-        &line[..to],
-        out,
-    );
-    let current = a.settings;
-    let kept = serve::keep(line, a.bytes, to);
-    Line {
-        settings: current,
-        bytes: kept,
-        is_open: a.is_open,
-    }
-}
-
-// Takes turns until the line closes. A proved loop has to end, and nothing says that an input does, so the turns are counted
+// Reads and answers until the line closes. A proved loop has to end, and nothing says that an input does, so the turns are counted
 // down from a number that no run uses up.
 fn talk(
     templates: &mut [u8],
@@ -131,29 +110,33 @@ fn talk(
     notepad: &mut [u8],
     buffer1: &mut [u8],
     buffer2: &mut [u8],
-    line: &mut [u8],
-    out: &mut [u8],
+    piece: &mut [u8],
+    reply: &mut [u8],
 ) {
+    let mut held = receiver::empty();
     let mut current = settings::fresh();
-    let mut held = 0;
     let mut turns = u64::MAX;
     while turns > 0 {
-        let t = turn(
+        let n = read(piece);
+        if n == 0 {
+            return;
+        }
+        let a = answer(
+            held,
             current,
             templates,
             index,
             notepad,
             buffer1,
             buffer2,
-            line,
-            held,
-            out,
+            &piece[..n],
+            reply,
         );
-        if !t.is_open {
+        if !a.is_open {
             return;
         }
-        current = t.settings;
-        held = t.bytes;
+        held = a.receiver;
+        current = a.settings;
         turns -= 1;
     }
 }
@@ -164,16 +147,15 @@ fn main() {
     let mut notepad = [0u8; numbers::NOTEPAD];
     let mut buffer1 = [0u8; numbers::PAGE];
     let mut buffer2 = [0u8; numbers::PAGE];
-    // An unfinished packet has at most 264 bytes and a reply at most 700, so both rooms are large enough.
-    let mut line = io::buffer();
-    let mut out = io::buffer();
+    let mut piece = [0u8; PIECE];
+    let mut reply = [0u8; numbers::REPLY_ROOM];
     talk(
         &mut templates,
         &mut index,
         &mut notepad,
         &mut buffer1,
         &mut buffer2,
-        &mut line,
-        &mut out,
+        &mut piece,
+        &mut reply,
     );
 }

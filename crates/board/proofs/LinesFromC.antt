@@ -84,20 +84,20 @@ emptied-clear k = go (switchRefusal (k .reader .reader .guarded))
 
 -- ---- one result
 
-pub one-line : (x y : StoredLine) (t i n b c t′ i′ n′ b′ c′ : List ℕ) → storedLineOf x t i n b c ≡ storedLineOf y t′ i′ n′ b′ c′
+pub one-stored-line : (x y : StoredLine) (t i n b c t′ i′ n′ b′ c′ : List ℕ) → storedLineOf x t i n b c ≡ storedLineOf y t′ i′ n′ b′ c′
     → (x ≡ y) × OneReader (settingsOf (x .settings)) (settingsOf (y .settings)) t i n b c t′ i′ n′ b′ c′
-one-line x y t i n b c t′ i′ n′ b′ c′ e =
+one-stored-line x y t i n b c t′ i′ n′ b′ c′ e =
     let r = one-stored (x .settings) (y .settings) t i n b c t′ i′ n′ b′ c′ (ap (λ (k : MarkedLine). k .reader) e) in
     (λ j. record { settings = r .0 j; receiver = e j .receiver }, r .1)
 
-pub one-receive : (x y : StoredReceived) (t i n b c o t′ i′ n′ b′ c′ o′ : List ℕ) → storedReceivedOf x t i n b c o ≡ storedReceivedOf y t′ i′ n′ b′ c′ o′
+pub one-stored-receive : (x y : StoredReceived) (t i n b c o t′ i′ n′ b′ c′ o′ : List ℕ) → storedReceivedOf x t i n b c o ≡ storedReceivedOf y t′ i′ n′ b′ c′ o′
     → (x ≡ y) × (OneReader (settingsOf (x .line .settings)) (settingsOf (y .line .settings)) t i n b c t′ i′ n′ b′ c′ × (o ≡ o′))
-one-receive x y t i n b c o t′ i′ n′ b′ c′ o′ e =
-    let r = one-line (x .line) (y .line) t i n b c t′ i′ n′ b′ c′ (ap (λ (k : MarkedEnd). k .after) e) in
+one-stored-receive x y t i n b c o t′ i′ n′ b′ c′ o′ e =
+    let r = one-stored-line (x .line) (y .line) t i n b c t′ i′ n′ b′ c′ (ap (λ (k : MarkedEnd). k .after) e) in
     (λ j. record { line = r .0 j; refusal = e j .told .refusal; taken = e j .told .used; length = e j .told .length }, (r .1, ap (λ (k : MarkedEnd). k .told .room) e))
 
-pub one-empty : (x y : StoredEmptied) (t i n b c t′ i′ n′ b′ c′ : List ℕ) → storedEmptiedOf x t i n b c ≡ storedEmptiedOf y t′ i′ n′ b′ c′
+pub one-stored-emptied : (x y : StoredEmptied) (t i n b c t′ i′ n′ b′ c′ : List ℕ) → storedEmptiedOf x t i n b c ≡ storedEmptiedOf y t′ i′ n′ b′ c′
     → (x ≡ y) × OneReader (settingsOf (x .line .settings)) (settingsOf (y .line .settings)) t i n b c t′ i′ n′ b′ c′
-one-empty x y t i n b c t′ i′ n′ b′ c′ e =
-    let r = one-line (x .line) (y .line) t i n b c t′ i′ n′ b′ c′ (ap (λ (k : MarkedEnd). k .after) e) in
+one-stored-emptied x y t i n b c t′ i′ n′ b′ c′ e =
+    let r = one-stored-line (x .line) (y .line) t i n b c t′ i′ n′ b′ c′ (ap (λ (k : MarkedEnd). k .after) e) in
     (λ j. record { line = r .0 j; refusal = e j .told .refusal }, r .1)

@@ -13,9 +13,10 @@ use Rattle.protocol.specs.declared.Received.{Received}
 use Rattle.protocol.specs.declared.Emptied.{Emptied}
 use Rattle.protocol.specs.Numbers.{holds, badLength, badRoom, badSetting}
 use Rattle.protocol.specs.Tests.{verdict, within}
-use Rattle.protocol.specs.Call.{core, fitLengths, Lent, fitLent, fitPlain, sound, refused, switchOf}
-use Rattle.protocol.specs.Receiver.{Line, line, Handed, declined, handed, receiveRefusal, receiveAs, receiveOf, lineSwitchAs, lineSwitchOf}
+use Rattle.protocol.specs.Call.{core, fitLengths, Lent, fitLent, fitPlain, sound, refused}
+use Rattle.protocol.specs.Receiver.{Line, line, Handed, declined, handed, receiveRefusal, receiveAs, receiveOf, lineSwitchOf}
 use Rattle.protocol.specs.Records.{readerOf, receivedOf, emptiedOf}
+use Rattle.protocol.proofs.Laws.Holding.{receive-kinds, switch-tells, switch-kinds}
 use Rattle.board.specs.declared.stored.StoredSettings.{StoredSettings}
 use Rattle.board.specs.declared.lines.StoredLine.{StoredLine}
 use Rattle.board.specs.Stored.{fitMarks, marksOf, settingsAt, settingsOf, storedReaderOf, StoredReader, marksRefusal}
@@ -26,20 +27,12 @@ use Rattle.board.proofs.Storing.{stored-read}
 -- ---- a refused call leaves the line as it was, and so does a refused line switch
 
 pub receive-stays : (x : Line) (piece : List ℕ) (lent : Lent) → receiveOf core x piece lent .told .refusal ≢ 0 → receiveOf core x piece lent .after ≡ x
-unfolding receiveOf receiveAs handed
-receive-stays x piece lent = go (receiveRefusal core x lent)
-  where
-    go : (n : ℕ) → receiveAs core x piece lent n .told .refusal ≢ 0 → receiveAs core x piece lent n .after ≡ x
-    go zero d = absurd (d refl)
-    go (suc n) d = refl
+unfolding handed
+receive-stays x piece lent =
+    receive-kinds core x piece lent (λ (o : Handed). o .told .refusal ≢ 0 → o .after ≡ x) (λ k d. refl) (λ t u l d. absurd (d refl))
 
 pub empty-stays : (x : Line) → lineSwitchOf x .told .refusal ≢ 0 → lineSwitchOf x .after ≡ x
-unfolding lineSwitchOf lineSwitchAs refused
-empty-stays x = go (switchOf (x .reader) .told .refusal) refl
-  where
-    go : (n : ℕ) → switchOf (x .reader) .told .refusal ≡ n → lineSwitchAs x (switchOf (x .reader)) n .told .refusal ≢ 0 → lineSwitchAs x (switchOf (x .reader)) n .after ≡ x
-    go zero e d = absurd (d e)
-    go (suc n) e d = refl
+empty-stays x = switch-kinds x (λ (o : Handed). o .told .refusal ≢ 0 → o .after ≡ x) (λ k z d. refl) (λ z d. absurd (d (switch-tells (x .reader) ∙ z)))
 
 -- ---- what lies there after a call: the old line where it was refused, else the new one
 

@@ -1,6 +1,8 @@
 -- The fixed bytes of a frame in and of a frame out (docs/EVIDENCE.md). Numbers are high byte first.
 use mathlib.Core.List.{List, [], _∷_}
 use Prim.Native.Nat.{ℕ, _+_, _*_, _/_, _%_}
+use lib.ListN.{drop}
+use Rattle.protocol.specs.declared.Receiver.{Receiver}
 use Rattle.protocol.specs.Bytes.{byteAt, wordAt}
 use Rattle.board.specs.declared.stored.StoredSettings.{StoredSettings}
 use Rattle.board.specs.declared.stored.StoredCalled.{StoredCalled}
@@ -25,6 +27,13 @@ settingsOf f =
       filled2 = byteAt f 19;
       spare = 0;
     }
+
+-- the held count, and the cells
+abbrev pub receiverOf : List ℕ → Receiver
+receiverOf f = record { held = drop 2 f; count = wordAt f 0 }
+
+abbrev pub heldOf : Receiver → List ℕ
+heldOf r = r .count / 256 ∷ r .count % 256 ∷ r .held
 
 -- the refusal, the bytes used, the reply's length, and the settings
 abbrev pub headOf : StoredCalled → List ℕ

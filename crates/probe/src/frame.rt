@@ -3,10 +3,16 @@ ghost use mathlib.Core.Path.{_≡_};
 ghost use Prim.Native.Nat.{_+_, _≤_};
 ghost use lib.ListN.{length};
 ghost use Rattle.protocol.specs.Bytes.{wordAt};
-ghost use Rattle.probe.specs.Frame.{lengthAt, settingsOf, headOf};
+ghost use Rattle.protocol.specs.Numbers.{holds};
+ghost use Rattle.probe.specs.Frame.{lengthAt, settingsOf, receiverOf, headOf, heldOf};
 use board::stored::StoredCalled;
 use board::stored::StoredSettings;
+use protocol::Receiver;
+use protocol::numbers;
 use wire::bytes;
+
+// The bytes of a receiver in a frame: its count, and its cells.
+pub(crate) const HELD: usize = 2 + numbers::HOLDS;
 
 fn word_at(head: &[u8], at: usize) -> usize
     requires { ⌜ at + 2 ≤ length (now head) ⌝ }
@@ -42,6 +48,31 @@ pub(crate) fn settings_of(head: &[u8]) -> StoredSettings
         filled2: head[19],
         spare: 0,
     }
+}
+
+// The receiver of a frame in.
+pub(crate) fn receiver_of(held: &[u8]) -> Receiver
+    requires { ⌜ length (now held) ≡ 2 + holds ⌝ }
+    ensures { λ r. ⌜ r ≡ receiverOf (now (held .entry)) ⌝ }
+{
+    let mut cells = [0u8; numbers::HOLDS];
+    bytes::put(&mut cells, &held[2..]);
+    Receiver {
+        held: cells,
+        count: word_at(held, 0) as u16,
+    }
+}
+
+// The receiver of a frame out.
+pub(crate) fn held_of(r: Receiver) -> [u8; HELD]
+    ensures { λ x. ⌜ x ≡ heldOf r ⌝ }
+{
+    let cells = r.held;
+    let mut held = [0u8; HELD];
+    held[0] = (r.count / 256) as u8;
+    held[1] = (r.count % 256) as u8;
+    bytes::put(&mut held[2..], &cells);
+    held
 }
 
 // The head of a frame out: the refusal, the bytes used, the reply's length, and the settings.

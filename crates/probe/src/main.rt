@@ -1,8 +1,10 @@
-// Single calls of the reader, on memory that is handed over whole: a frame in by standard input, a frame out by standard output, again and
+// Single calls of the reader, with a receiver or without, on memory that is handed over whole: a frame in by standard input, a frame out by standard output, again and
 // again. Nothing is kept between frames. docs/EVIDENCE.md has the frames; tests hold the reader to other readers by them.
 mod frame;
 mod once;
 
+use board::lines::StoredLine;
+use board::stored::StoredCalled;
 use board::stored::StoredSettings;
 use libc::STDERR_FILENO;
 use libc::STDIN_FILENO;
@@ -110,6 +112,48 @@ fn exchange(
     send_all(&head, templates, index, notepad, buffer1, buffer2, reply)
 }
 
+// The same of a frame with a receiver, whose bytes stand before the memory.
+fn exchange_line(
+    op: u8,
+    settings: StoredSettings,
+    templates: &mut [u8],
+    index: &mut [u8],
+    notepad: &mut [u8],
+    buffer1: &mut [u8],
+    buffer2: &mut [u8],
+    piece: &mut [u8],
+    reply: &mut [u8],
+) -> bool {
+    let mut held = [0u8; frame::HELD];
+    let is_held = fill(&mut held);
+    let is_whole = fill_all(templates, index, notepad, buffer1, buffer2, piece, reply);
+    if !is_held || !is_whole {
+        return complain(b"probe: the input ends inside a frame\n");
+    }
+    let receiver = frame::receiver_of(&held);
+    let received = once::once_line(
+        op,
+        StoredLine { settings, receiver },
+        templates,
+        index,
+        notepad,
+        buffer1,
+        buffer2,
+        piece,
+        reply,
+    );
+    let after = received.line;
+    let left = after.settings;
+    let head = frame::head_of(StoredCalled {
+        settings: left,
+        refusal: received.refusal,
+        used: received.taken,
+        length: received.length,
+    });
+    let kept = frame::held_of(after.receiver);
+    send(&head) && send_all(&kept, templates, index, notepad, buffer1, buffer2, reply)
+}
+
 // Reads a frame's head, and answers the frame. It says whether another frame may come.
 fn answer(
     head: &mut [u8],
@@ -129,8 +173,8 @@ fn answer(
         return complain(b"probe: the input ends inside a frame\n");
     }
     let op = head[0];
-    if 1 < op {
-        return complain(b"probe: a frame starts with 0 or 1\n");
+    if 3 < op {
+        return complain(b"probe: a frame starts with 0, 1, 2 or 3\n");
     }
     let t = frame::length_at(head, 20);
     let i = frame::length_at(head, 24);
@@ -159,6 +203,19 @@ fn answer(
     }
     if reply.len() < r {
         return complain(b"probe: too many bytes of reply room\n");
+    }
+    if 1 < op {
+        return exchange_line(
+            op,
+            frame::settings_of(head),
+            &mut templates[..t],
+            &mut index[..i],
+            &mut notepad[..n],
+            &mut buffer1[..b],
+            &mut buffer2[..c],
+            &mut run[..s],
+            &mut reply[..r],
+        );
     }
     exchange(
         op,

@@ -10,5 +10,8 @@ pub mod Commands
 pub mod Answers
 pub mod Legal
 pub mod Locked
+pub mod Growth
+pub mod Drain
+pub mod Holding
 pub mod History
 pub mod Sizes

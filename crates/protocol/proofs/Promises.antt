@@ -24,6 +24,12 @@ pub mod StaysLegal
 pub mod ReplyFits
 pub mod ValidCount
 pub mod Lock
+pub mod Receiver
+pub mod Cuts
+pub mod ComesToRest
+pub mod ReceiverLock
+pub mod ReceiverCalls
+pub mod ReceiverExample
 pub mod Met
 pub mod Examples
 pub mod Services

@@ -1,42 +1,37 @@
 -- A call of the receiver by the reader's call that it makes, and its line switch by the reader's.
 use mathlib.Core.Bool.{Bool, true, false, cond}
-use mathlib.Core.Path.{_≡_, refl, sym, ap, _∙_, subst}
+use mathlib.Core.Path.{_≡_, refl, sym, ap, _∙_}
 use mathlib.Core.Logic.{_≢_}
-use mathlib.Core.List.{List, [], _∷_}
-use Prim.Native.Nat.{ℕ, zero, suc, _+_, _-_, _≤_, _<_, min}
+use mathlib.Core.List.{List, []}
+use Prim.Native.Nat.{ℕ, zero, suc, _≤_, _<_}
 use native.Mathlib.Omega.{arith}
 use lib.Dec.{leb}
-use lib.ListN.{length, take, drop, length-take, length-drop}
+use lib.ListN.{length, take, drop, length-take}
 use borrow.Author.Tests.{le-leb, lt-leb}
-use borrow.Rule.Slice.PartMut.{putMid}
 use Rattle.protocol.specs.declared.Settings.{Settings}
-use Rattle.protocol.specs.declared.Called.{Called}
 use Rattle.protocol.specs.declared.Switched.{Switched}
 use Rattle.protocol.specs.declared.Receiver.{Receiver}
 use Rattle.protocol.specs.declared.Received.{Received}
 use Rattle.protocol.specs.declared.Emptied.{Emptied}
 use Rattle.protocol.specs.Numbers.{holds, replyRoom, badLength, badRoom, badSetting}
-use Rattle.protocol.specs.Bytes.{part, zeros, lay}
 use Rattle.protocol.specs.Tests.{verdict}
 use Rattle.protocol.specs.Reader.{Reader}
 use Rattle.protocol.specs.Step.{stepOf}
-use Rattle.protocol.specs.Call.{Shape, core, fitLengths, fitRoom, sound, Lent, Ended, refusalOf, refused, carried, callAs, callOf, switchRefusal, switchAs, switchOf}
-use Rattle.protocol.specs.Receiver.{bytesIn, holding, Line, line, Handed, fitting, runOf, handed, declined, receiveRefusal, receiveAs, receiveOf, lineSwitchAs, lineSwitchOf}
-use Rattle.protocol.specs.Records.{readerOf, lentOf, endedOf, switchedOf, receivedOf, emptiedOf}
+use Rattle.protocol.specs.Call.{core, fitLengths, fitRoom, sound, Lent, Ended, refusalOf, refused, carried, callAs, callOf, switchRefusal, switchAs, switchOf}
+use Rattle.protocol.specs.Receiver.{holding, Line, line, fitting, runOf, handed, declined, receiveRefusal, receiveAs, receiveOf, lineSwitchAs, lineSwitchOf}
+use Rattle.protocol.specs.Records.{readerOf, lentOf, switchedOf, receivedOf, emptiedOf}
 use Rattle.protocol.proofs.Laws.Answers.{call-kinds}
 use Rattle.protocol.proofs.Laws.Finder.{used-in}
-use Rattle.wire.specs.Laying.{layFront}
 use Rattle.reader.proofs.Calls.{lengths-are}
 use Rattle.receiver.specs.Full.{fullRefusal}
 use Rattle.receiver.specs.Made.{received, emptied}
-use Rattle.receiver.proofs.Cells.{cells-run, rest-held}
 
 -- a call uses no more than its run has
-pub used-within : (y : Called) (t i n b d room : List ℕ) (r : Reader) (m : ℕ) (s : List ℕ) (lent : Lent) → endedOf y t i n b d room ≡ callOf core r (take m s) lent → y .used ≤ m
+pub used-within : (r : Reader) (n : ℕ) (s : List ℕ) (lent : Lent) (e : Ended) → e ≡ callOf core r (take n s) lent → e .told .used ≤ n
 unfolding refused carried stepOf
-used-within y t i n b d room r m s lent q =
-    let u : y .used ≤ length (take m s) = subst (λ (e : Ended). e .told .used ≤ length (take m s)) (sym q) (call-kinds core r (take m s) lent (λ (e : Ended). e .told .used ≤ length (take m s)) (λ k. omega arith) (λ t u. used-in (take m s))) in
-    omega (arith, length-take m s)
+used-within r n s lent e q =
+    let u : e .told .used ≤ length (take n s) = rw q (call-kinds core r (take n s) lent (λ (y : Ended). y .told .used ≤ length (take n s)) (λ k. omega arith) (λ t v. used-in (take n s))) in
+    omega (arith, length-take n s)
 
 -- ---- a count above what a receiver holds: refused by the lengths alone
 
@@ -57,53 +52,39 @@ full h s t i n b d piece room k r l e q =
 
 -- ---- a count that it holds: its refusal is that of the reader's call on all held bytes
 
-module _ (x : Line) (piece : List ℕ) (lent : Lent) (l : x .receiver .count ≤ holds) where
+module _ (x : Line) (piece : List ℕ) (lent : Lent) (few : x .receiver .count ≤ holds) where
   refusal-is : receiveRefusal core x lent ≡ refusalOf core (x .reader) lent
   unfolding receiveRefusal refusalOf verdict
-  refusal-is = rw (le-leb _ _ l) refl
+  refusal-is = rw (le-leb _ _ few) refl
 
-  module _ (e : Ended) (q : e ≡ callOf core (x .reader) (runOf (x .receiver) piece) lent) where
-    ends : (k : ℕ) → refusalOf core (x .reader) lent ≡ k → e ≡ callAs (x .reader) (runOf (x .receiver) piece) lent k
+  module _ (run : List ℕ) (w : run ≡ runOf (x .receiver) piece) (e : Ended) (q : e ≡ callOf core (x .reader) run lent) where
+    ends : (k : ℕ) → refusalOf core (x .reader) lent ≡ k → e ≡ callAs (x .reader) run lent k
     unfolding callOf
-    ends k z = q ∙ ap (callAs (x .reader) (runOf (x .receiver) piece) lent) z
+    ends k f = q ∙ ap (callAs (x .reader) run lent) f
 
-    accepted : e .told .refusal ≡ 0 → handed (x .receiver) piece e ≡ receiveOf core x piece lent
-    unfolding receiveOf receiveAs callAs refused
-    accepted z = rw refusal-is (go (refusalOf core (x .reader) lent) refl)
-      where
-        go : (k : ℕ) → refusalOf core (x .reader) lent ≡ k → handed (x .receiver) piece e ≡ receiveAs core x piece lent k
-        go zero f = ap (handed (x .receiver) piece) q
-        go (suc k) f = let n : suc k ≡ 0 = sym (ap (λ (y : Ended). y .told .refusal) (ends (suc k) f)) ∙ z in absurd (omega arith)
-
-    refuses : e .told .refusal ≢ 0
+    pub stops : e .told .refusal ≢ 0
         → record { told = record { refusal = e .told .refusal; used = 0; length = 0; room = e .told .room }; after = line (e .after) (x .receiver) } ≡ receiveOf core x piece lent
     unfolding receiveOf receiveAs callAs refused carried
-    refuses d = rw refusal-is (go (refusalOf core (x .reader) lent) refl)
+    stops z = rw refusal-is (go (refusalOf core (x .reader) lent) refl)
       where
         go : (k : ℕ) → refusalOf core (x .reader) lent ≡ k
             → record { told = record { refusal = e .told .refusal; used = 0; length = 0; room = e .told .room }; after = line (e .after) (x .receiver) } ≡ receiveAs core x piece lent k
-        go zero f = absurd (d (ap (λ (y : Ended). y .told .refusal) (ends zero f)))
+        go zero f = absurd (z (ap (λ (y : Ended). y .told .refusal) (ends zero f)))
         go (suc k) f = rw (ends (suc k) f) refl
 
--- what fits of the piece is put behind the held bytes, and the reader is called on them all
-module _ (h : Receiver) (s : Settings) (t i n b d piece room : List ℕ) (l : length (h .held) ≡ holds) (m : h .count ≤ holds) (taken : ℕ) (f : taken ≡ min (holds - h .count) (length piece)) (ys : List ℕ) (p : ys ≡ layFront (take taken piece) (take (h .count + taken - h .count) (drop (h .count) (h .held)))) (y : Called) (t′ i′ n′ b′ d′ room′ : List ℕ) (q : endedOf y t′ i′ n′ b′ d′ room′ ≡ callOf core (readerOf s t i n b d) (take (h .count + taken) (putMid (h .count) (h .count + taken - h .count) (h .held) ys)) (lentOf room)) where
-  run : endedOf y t′ i′ n′ b′ d′ room′ ≡ callOf core (readerOf s t i n b d) (runOf h piece) (lentOf room)
-  unfolding runOf bytesIn fitting
-  run = q ∙ ap (λ (x : List ℕ). callOf core (readerOf s t i n b d) x (lentOf room)) (cells-run (h .count) taken (h .held) piece f l m ys p)
+    -- the receiver h holds what was not used
+    pub goes : (taken : ℕ) (h : Receiver) → e .told .refusal ≡ 0 → taken ≡ length (fitting (x .receiver) piece) → h ≡ holding (drop (e .told .used) run)
+        → record { told = record { refusal = 0; used = taken; length = e .told .length; room = e .told .room }; after = line (e .after) h } ≡ receiveOf core x piece lent
+    unfolding receiveOf receiveAs callAs refused handed
+    goes taken h z n k = rw (n, k, refusal-is) (go (refusalOf core (x .reader) lent) refl)
+      where
+        all : e ≡ callOf core (x .reader) (runOf (x .receiver) piece) lent
+        all = q ∙ ap (λ (s : List ℕ). callOf core (x .reader) s lent) w
 
-  pub stops : (r : Received) → y .refusal ≢ 0 → r ≡ received h (y .settings) (y .refusal) 0 0
-      → receivedOf r t′ i′ n′ b′ d′ room′ ≡ receiveOf core (line (readerOf s t i n b d) h) piece (lentOf room)
-  stops r z e = rw e (refuses (line (readerOf s t i n b d) h) piece (lentOf room) m (endedOf y t′ i′ n′ b′ d′ room′) run z)
-
-  pub goes : (rest : List ℕ) → y .refusal ≡ 0 → rest ≡ layFront (part (y .used) (h .count + taken - y .used) (putMid (h .count) (h .count + taken - h .count) (h .held) ys)) (zeros holds)
-      → receivedOf (received record { held = rest; count = h .count + taken - y .used } (y .settings) 0 taken (y .length)) t′ i′ n′ b′ d′ room′
-      ≡ receiveOf core (line (readerOf s t i n b d) h) piece (lentOf room)
-  unfolding handed runOf bytesIn fitting
-  goes rest z e =
-      let k : taken ≡ length (fitting h piece) = f ∙ sym (length-take (holds - h .count) piece) in
-      let u : y .used ≤ h .count + taken = used-within y t′ i′ n′ b′ d′ room′ (readerOf s t i n b d) (h .count + taken) _ (lentOf room) q in
-      rw (rest-held (h .count) taken (h .held) piece f l m ys p (y .used) u rest e, k)
-      (accepted (line (readerOf s t i n b d) h) piece (lentOf room) m (endedOf y t′ i′ n′ b′ d′ room′) run z)
+        go : (k : ℕ) → refusalOf core (x .reader) lent ≡ k
+            → record { told = record { refusal = 0; used = length (fitting (x .receiver) piece); length = e .told .length; room = e .told .room }; after = line (e .after) (holding (drop (e .told .used) run)) } ≡ receiveAs core x piece lent k
+        go zero f = rw w (ap (handed (x .receiver) piece) all)
+        go (suc k) f = let d : suc k ≡ 0 = sym (ap (λ (y : Ended). y .told .refusal) (ends (suc k) f)) ∙ z in absurd (omega arith)
 
 -- ---- the line switch
 

@@ -7,10 +7,9 @@ use lib.ListN.{length, take, drop, length-take, length-drop, length-replicate}
 use lib.Seq.{take-all, take-take, take-add, drop-at, length-take-le}
 use borrow.Author.Tests.{le-leb}
 use borrow.Rule.Slice.PartMut.{putMid}
-use Rattle.protocol.specs.declared.Receiver.{Receiver}
 use Rattle.protocol.specs.Numbers.{holds}
 use Rattle.protocol.specs.Bytes.{part, zeros, lay}
-use Rattle.protocol.specs.Receiver.{bytesIn, holding, fitting, runOf}
+use Rattle.protocol.specs.Receiver.{holding}
 use Rattle.protocol.proofs.Laws.Lists.{length-lay, head-lay}
 use Rattle.wire.specs.Laying.{layFront}
 use Rattle.library.proofs.Parts.{part-put}
@@ -32,14 +31,17 @@ over-zeros s rest n e l f =
     rw (e, f, le-leb _ _ m) refl
 
 -- k bytes of the piece s fit behind the first n of the cells xs
-module _ (n k : ℕ) (xs s : List ℕ) (f : k ≡ min (holds - n) (length s)) where
+module _ (n k : ℕ) (s : List ℕ) (f : k ≡ min (holds - n) (length s)) where
   pub fits-long : k ≡ length (take k s)
   fits-long = sym (length-take-le k s (omega arith))
+
+  pub fits-many : k ≡ length (take (holds - n) s)
+  fits-many = f ∙ sym (length-take (holds - n) s)
 
   fits-are : take k s ≡ take (holds - n) s
   fits-are = sym (take-take k (holds - n) s (omega arith)) ∙ take-all k (take (holds - n) s) (omega (arith, length-take (holds - n) s))
 
-  module _ (l : length xs ≡ holds) (m : n ≤ holds) where
+  module _ (xs : List ℕ) (l : length xs ≡ holds) (m : n ≤ holds) where
     pub fits-within : n + k ≤ length xs
     fits-within = omega arith
 
@@ -67,8 +69,8 @@ module _ (n k : ℕ) (xs s : List ℕ) (f : k ≡ min (holds - n) (length s)) wh
 
       -- those that are not used
       pub rest-held : (used : ℕ) → used ≤ n + k → (rest : List ℕ) → rest ≡ layFront (part used (n + k - used) cells) (zeros holds)
-          → record { held = rest; count = n + k - used } ≡ holding (drop used (take n xs ++ take (holds - n) s))
+          → record { held = rest; count = n + k - used } ≡ holding (drop used (take (n + k) cells))
       rest-held used u rest e =
           let left : List ℕ = part used (n + k - used) cells in
           let j : n + k - used ≡ length left = sym (length-take-le _ _ (omega (arith, length-drop used cells, in-cells))) in
-          over-zeros left rest _ j (omega (arith, j)) e ∙ ap holding (part-drop used (n + k) cells u in-cells ∙ ap (drop used) cells-run)
+          over-zeros left rest _ j (omega (arith, j)) e ∙ ap holding (part-drop used (n + k) cells u in-cells)

@@ -1,4 +1,4 @@
-//! The bench program with the independent reader, and the conditions that the stored dialogue has to meet.
+//! The bench program with the independent reader and receiver, and the conditions that the stored dialogue has to meet.
 
 use crate::chance::Chance;
 use crate::coverage::Coverage;
@@ -8,6 +8,7 @@ use crate::frame::Request;
 use crate::host::Exchange;
 use crate::reader::*;
 use crate::readers::fresh_reader;
+use crate::receiver::{given_whole, Receiver, Rest};
 use crate::report::hex;
 use crate::tally::{Tally, CODES, ON_A_LINE};
 
@@ -18,45 +19,57 @@ const MOST_LEFT: usize = 264;
 /// The stored input stays below so many bytes.
 const MOST_SENT: usize = 12_000;
 /// The lengths of the pieces that the input is cut into, beside the whole of it and pieces by chance.
-const PIECES: [usize; 8] = [1, 2, 3, 7, 264, 265, 700, 4096];
+const PIECES: [usize; 11] = [1, 2, 3, 7, 16, 60, 264, 265, 266, 700, 4096];
 /// So many ways of pieces by chance.
 const SEEDS: u64 = 3;
 
-/// A reader on a line.
+/// A reader and its receiver on a line.
 struct Bench {
     reader: Reader,
-    /// The bytes that came in and are not used.
-    left: Vec<u8>,
+    receiver: Option<Receiver>,
     tally: Tally,
     coverage: Coverage,
 }
 
 impl Bench {
     fn fresh() -> Bench {
-        Bench { reader: fresh_reader(PAGES), left: Vec::new(), tally: Tally::default(), coverage: Coverage::default() }
+        Bench {
+            reader: fresh_reader(PAGES),
+            receiver: Some(Receiver::empty()),
+            tally: Tally::default(),
+            coverage: Coverage::default(),
+        }
     }
 
-    /// The replies to a piece that comes in: one call after the other until one uses nothing.
+    /// The replies to a piece that comes in: it is offered, then its rest, then an empty piece, until a call takes
+    /// nothing, answers nothing and leaves the held bytes as they are.
     fn take(&mut self, piece: &[u8]) -> Result<Vec<u8>, Vec<String>> {
-        self.left.extend(piece);
+        let mut rest = piece;
         let mut replies = Vec::new();
         loop {
-            let (reader, run) = (self.reader.clone(), self.left.clone());
-            let request = Request { line_switch: false, reader, run, room: vec![0; ROOM] };
+            let (receiver, reader) = (self.receiver.clone(), self.reader.clone());
+            let request = Request { line_switch: false, receiver, reader, run: rest.to_vec(), room: vec![0; ROOM] };
             let outcome = request.carried_out();
             self.tally.add(&request, &outcome);
             self.coverage.add(&request, &outcome);
+            let at_rest = outcome.at_rest(&request);
             let Answer { refusal, used, length } = outcome.answer;
             demand(refusal == 0, "a call is refused")?;
             replies.extend(&outcome.room[..length]);
+            rest = &rest[used..];
             self.reader = outcome.reader;
-            self.left.drain(..used);
-            if used == 0 {
-                let waits = length == 0 && self.left.len() <= MOST_LEFT;
-                demand(waits, "a call that uses nothing does not wait for more")?;
+            self.receiver = outcome.receiver;
+            if at_rest {
+                let waits = rest.is_empty() && self.left().len() <= MOST_LEFT;
+                demand(waits, "a call that takes and drops nothing does not wait for more")?;
                 return Ok(replies);
             }
         }
+    }
+
+    /// The bytes that wait for more.
+    fn left(&self) -> &[u8] {
+        self.receiver.as_ref().map_or(&[], Receiver::held)
     }
 }
 
@@ -74,12 +87,13 @@ pub fn stored() -> Result<Stored, Vec<String>> {
     let bench = held(&exchanges)?;
     let sent = exchanges.iter().flat_map(|exchange| exchange.sent.clone()).collect::<Vec<u8>>();
     let replies = exchanges.iter().flat_map(|exchange| exchange.expected.clone()).collect::<Vec<u8>>();
-    let ways = cut(&sent, &replies, &bench.left)?;
+    let rest = Rest { reader: bench.reader.clone(), replies: replies.clone(), left: bench.left().to_vec() };
+    let ways = cut(&sent, &rest)?;
     let packets = read_back(&replies)?;
 
     let example = bytes(&format!("{FINE} {}", count(0)));
     demand(replies.starts_with(&example), "it does not begin with the replies to P1 and P8")?;
-    demand(bench.left.len() == MOST_LEFT, "it does not end with the longest unfinished packet")?;
+    demand(rest.left.len() == MOST_LEFT, "it does not end with the longest unfinished packet")?;
     demand(sent.len() < MOST_SENT, "it is too long")?;
     let gaps = [bench.tally.gaps(ON_A_LINE), bench.coverage.gaps()].concat();
     demand(gaps.is_empty(), &format!("it does not show:\n  {}", gaps.join("\n  ")))?;
@@ -109,19 +123,20 @@ fn held(exchanges: &[Exchange]) -> Result<Bench, Vec<String>> {
     Ok(bench)
 }
 
-/// Demands the same replies and bytes left however the input is cut; tells the number of ways.
-fn cut(sent: &[u8], replies: &[u8], left: &[u8]) -> Result<usize, Vec<String>> {
+/// Demands the same rest however the input is cut, and of document 01's calls on all of it; tells the number of ways.
+fn cut(sent: &[u8], rest: &Rest) -> Result<usize, Vec<String>> {
+    demand(given_whole(fresh_reader(PAGES), sent) == *rest, "another rest without a receiver")?;
     let mut ways: Vec<Vec<&[u8]>> = vec![vec![sent]];
     ways.extend(PIECES.map(|length| sent.chunks(length).collect()));
     ways.extend((0..SEEDS).map(|seed| pieces_by_chance(Chance::new(seed, 0), sent)));
     for pieces in &ways {
         let mut bench = Bench::fresh();
-        let mut got = Vec::new();
+        let mut replies = Vec::new();
         for piece in pieces {
-            got.extend(bench.take(piece)?);
+            replies.extend(bench.take(piece)?);
         }
-        let same = got == replies && bench.left == left;
-        demand(same, &format!("other replies in pieces, the first of {} bytes", pieces[0].len()))?;
+        let same = Rest { left: bench.left().to_vec(), reader: bench.reader, replies } == *rest;
+        demand(same, &format!("another rest in pieces, the first of {} bytes", pieces[0].len()))?;
     }
     Ok(ways.len())
 }

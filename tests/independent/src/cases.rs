@@ -3,11 +3,11 @@
 use crate::chance::Chance;
 use crate::frame::{Outcome, Request, MOST_RUN};
 use crate::reader::*;
-use crate::readers::{address, capacity, fresh_reader, legal_reader, password, size, spoil};
+use crate::readers::{address, any_legal_reader, capacity, password, size, spoiled_reader};
 use std::collections::VecDeque;
 
 /// What happens to a reader in a dialogue.
-enum Event {
+pub enum Event {
     /// Bytes come in behind those that are left.
     Bytes(Vec<u8>),
     LineSwitch,
@@ -28,7 +28,7 @@ pub struct Dialogue {
 impl Dialogue {
     pub fn new(mut chance: Chance) -> Dialogue {
         let capacity = capacity(&mut chance);
-        let reader = if chance.percent(25) { fresh_reader(capacity) } else { legal_reader(&mut chance, capacity) };
+        let reader = any_legal_reader(&mut chance, capacity);
         let scenes = chance.within(4, 14);
         Dialogue { chance, reader, left: Vec::new(), waiting: true, events: VecDeque::new(), scenes }
     }
@@ -47,7 +47,7 @@ impl Dialogue {
         }
         let room = ROOM + self.chance.pick(&[0, 0, 1, 20]);
         let room = self.chance.bytes(room);
-        Some(Request { line_switch, reader: self.reader.clone(), run: self.left.clone(), room })
+        Some(Request { line_switch, receiver: None, reader: self.reader.clone(), run: self.left.clone(), room })
     }
 
     /// Goes on from where the answer left the reader.
@@ -67,27 +67,22 @@ impl Dialogue {
     }
 }
 
-/// One call or line switch of a reader that is legal or spoiled in up to three ways.
+/// One call or line switch of a reader that is legal or spoiled.
 pub fn single(mut chance: Chance) -> Request {
-    let capacity = capacity(&mut chance);
-    let mut reader = legal_reader(&mut chance, capacity);
-    let mut room = chance.pick(&[ROOM, ROOM, ROOM + 1, 4096]);
-    for _ in 0..chance.below(4) {
-        spoil(&mut chance, &mut reader, &mut room);
-    }
+    let (reader, room) = spoiled_reader(&mut chance);
     let run = Author { chance: &mut chance, reader: &reader }.run();
-    Request { line_switch: chance.percent(12), reader, run, room: chance.bytes(room) }
+    Request { line_switch: chance.percent(12), receiver: None, reader, run, room }
 }
 
 /// Writes what is sent to a reader, knowing how the reader stands.
-struct Author<'a> {
-    chance: &'a mut Chance,
-    reader: &'a Reader,
+pub struct Author<'a> {
+    pub chance: &'a mut Chance,
+    pub reader: &'a Reader,
 }
 
 impl Author<'_> {
     /// One run of any kind.
-    fn run(&mut self) -> Vec<u8> {
+    pub fn run(&mut self) -> Vec<u8> {
         let mut run = Vec::new();
         for event in self.scene() {
             match event {
@@ -103,7 +98,7 @@ impl Author<'_> {
     }
 
     /// A few events that belong together.
-    fn scene(&mut self) -> Vec<Event> {
+    pub fn scene(&mut self) -> Vec<Event> {
         if self.reader.settings.locked() && self.chance.percent(40) {
             return vec![Event::Bytes(self.right_password())];
         }
@@ -160,7 +155,7 @@ impl Author<'_> {
     }
 
     /// A packet with the reader's address.
-    fn packet(&self, identifier: u8, content: &[u8]) -> Vec<u8> {
+    pub fn packet(&self, identifier: u8, content: &[u8]) -> Vec<u8> {
         packet(self.reader.settings.address, identifier, content)
     }
 
@@ -253,7 +248,7 @@ impl Author<'_> {
     }
 
     /// Bytes by chance, at times with a whole command inside.
-    fn data(&mut self, length: usize) -> Vec<u8> {
+    pub fn data(&mut self, length: usize) -> Vec<u8> {
         let mut data = self.chance.bytes(length);
         let inside = self.packet(COMMAND, &[HAND_SHAKE]);
         if length >= inside.len() && self.chance.percent(15) {
@@ -312,7 +307,7 @@ impl Author<'_> {
     }
 
     /// A packet of any identifier and length, mostly one that no reader knows.
-    fn header(&mut self) -> Vec<u8> {
+    pub fn header(&mut self) -> Vec<u8> {
         let identifier = self.chance.pick(&[0, 1, 1, 2, 3, 7, 8, 9, 255]);
         let length: u16 = self.chance.pick(&[0, 1, 2, 3, 255, 256, 257, 0x0103, 0x0203, 0xFFFF]);
         let content = self.data(usize::from(length).saturating_sub(2).min(300));

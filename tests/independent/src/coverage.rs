@@ -36,7 +36,8 @@ pub struct Coverage(BTreeSet<Shown>);
 impl Coverage {
     pub fn add(&mut self, request: &Request, outcome: &Outcome) {
         let command = |packet: &Packet| packet.identifier == COMMAND && packet.sum_right && outcome.answer.length > 0;
-        if let Some(packet) = find(&request.run).1.filter(command) {
+        let run = request.whole_run();
+        if let Some(packet) = find(&run).1.filter(command) {
             if let Some((command, length, _)) = ROWS.iter().find(|row| row.0 == packet.content[0]) {
                 self.0.insert((*command, packet.content.len() + 2 == *length, outcome.room[9]));
             }

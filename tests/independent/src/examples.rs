@@ -1,19 +1,25 @@
-//! The table of examples P1 to P12.
+//! The table of examples P1 to P12, and examples of the receiver.
 
 use crate::reader::Reader;
 use crate::readers::fresh_reader;
+use crate::receiver::Receiver;
 
 /// A reader and what it is sent, step by step.
 pub struct Example {
     pub name: &'static str,
+    pub receiver: Option<Receiver>,
     pub reader: Reader,
     pub steps: Vec<Step>,
 }
 
 pub struct Step {
+    /// The run, or the piece that the receiver is offered.
     pub run: Vec<u8>,
+    /// The bytes used of the run, or those taken of the piece.
     pub used: usize,
     pub reply: Vec<u8>,
+    /// The receiver after the step.
+    pub receiver: Option<Receiver>,
 }
 
 pub const HAND_SHAKE: &str = "EF 01 A 01 00 03 40 00 44";
@@ -22,8 +28,13 @@ const DELETE_9_1: &str = "EF 01 A 01 00 07 0C 00 09 00 01 00 1E";
 const DELETE_9_2: &str = "EF 01 A 01 00 07 0C 00 09 00 02 00 1F";
 const DELETE_0_0: &str = "EF 01 A 01 00 07 0C 00 00 00 00 00 14";
 pub const FINE: &str = "EF 01 A 07 00 03 00 00 0A";
+const UNKNOWN: &str = "EF 01 A 07 00 03 19 00 23";
 
 pub fn all() -> Vec<Example> {
+    [of_document_01(), of_receiver()].into_iter().flatten().collect()
+}
+
+fn of_document_01() -> Vec<Example> {
     let fresh = fresh_reader(10);
     let mut locked = fresh.clone();
     locked.settings.password = [0, 0, 0, 5];
@@ -31,8 +42,13 @@ pub fn all() -> Vec<Example> {
     two_stored.index[..2].copy_from_slice(&[0x01, 0x02]);
 
     let example = |name, reader: &Reader, steps: &[(&str, usize, &str)]| {
-        let step = |&(run, used, reply): &(&str, usize, &str)| Step { run: bytes(run), used, reply: bytes(reply) };
-        Example { name, reader: reader.clone(), steps: steps.iter().map(step).collect() }
+        let step = |&(run, used, reply): &(&str, usize, &str)| Step {
+            run: bytes(run),
+            used,
+            reply: bytes(reply),
+            receiver: None,
+        };
+        Example { name, receiver: None, reader: reader.clone(), steps: steps.iter().map(step).collect() }
     };
     vec![
         example("P1", &fresh, &[(HAND_SHAKE, 12, FINE)]),
@@ -50,6 +66,47 @@ pub fn all() -> Vec<Example> {
             "P12",
             &two_stored,
             &[(DELETE_9_2, 16, "EF 01 A 07 00 03 10 00 1A"), (DELETE_0_0, 16, FINE), (COUNT, 12, &count(2))],
+        ),
+    ]
+}
+
+/// A fresh reader with an empty receiver: a piece, the bytes taken of it, the reply, and the bytes held afterwards.
+fn of_receiver() -> Vec<Example> {
+    let longest = format!("EF 01 A 01 01 00{} 00 02", " 00".repeat(254));
+    let (cut, last) = longest.split_at(longest.len() - 3);
+    let example = |name, steps: &[(&str, usize, &str, &str)]| {
+        let step = |&(piece, taken, reply, held): &(&str, usize, &str, &str)| Step {
+            run: bytes(piece),
+            used: taken,
+            reply: bytes(reply),
+            receiver: Some(Receiver::holding(&bytes(held))),
+        };
+        let steps = steps.iter().map(step).collect();
+        Example { name, receiver: Some(Receiver::empty()), reader: fresh_reader(10), steps }
+    };
+    vec![
+        example("an empty piece", &[("", 0, "", "")]),
+        example(
+            "P1 in three pieces",
+            &[("EF", 1, "", "EF"), ("01 A 01 00", 7, "", "EF 01 A 01 00"), ("03 40 00 44", 4, FINE, "")],
+        ),
+        example(
+            "P1 and P8 in one piece",
+            &[(&format!("{HAND_SHAKE} {COUNT}"), 24, FINE, COUNT), ("", 0, &count(0), ""), ("", 0, "", "")],
+        ),
+        example("noise", &[(&"41".repeat(300), 265, "", ""), ("41 EF", 2, "", "EF"), ("41", 1, "", "")]),
+        example("P6 in one piece", &[("EF 01 A 01 00 02 40", 10, "", "A 01 00 02 40"), ("", 0, "", "")]),
+        example(
+            "the longest packet, code 00h, and P1",
+            &[(&format!("{longest} {HAND_SHAKE}"), 265, UNKNOWN, ""), (HAND_SHAKE, 12, FINE, "")],
+        ),
+        example(
+            "the longest unfinished packet, then its last byte and P1",
+            &[(cut, 264, "", cut), ("", 0, "", cut), (&format!("{last} {HAND_SHAKE}"), 1, UNKNOWN, "")],
+        ),
+        example(
+            "noise before the longest packet",
+            &[(&format!("41 {longest}"), 265, "", cut), ("", 0, "", cut), (last, 1, UNKNOWN, "")],
         ),
     ]
 }

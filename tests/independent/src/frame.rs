@@ -1,14 +1,18 @@
 //! The frames that a probe takes and gives. All numbers are high byte first.
 
 use crate::reader::{self, Answer, Mark, Reader, Settings};
+use crate::receiver::{self, Receiver};
 use std::io::{Error, ErrorKind, Read, Result};
 
 /// What a frame in asks for.
 #[derive(Clone, PartialEq, Eq)]
 pub struct Request {
-    /// A line switch, else a call of the reader.
+    /// A line switch, else a call.
     pub line_switch: bool,
+    /// The receiver before the reader, if there is one.
+    pub receiver: Option<Receiver>,
     pub reader: Reader,
+    /// The run, or the piece that a receiver is offered.
     pub run: Vec<u8>,
     pub room: Vec<u8>,
 }
@@ -17,6 +21,7 @@ pub struct Request {
 #[derive(PartialEq, Eq)]
 pub struct Outcome {
     pub answer: Answer,
+    pub receiver: Option<Receiver>,
     pub reader: Reader,
     pub room: Vec<u8>,
 }
@@ -36,25 +41,36 @@ pub const MOST_RUN: usize = 4096;
 impl Request {
     /// What the independent reader makes of it.
     pub fn carried_out(&self) -> Outcome {
+        let mut receiver = self.receiver.clone();
         let mut reader = self.reader.clone();
         let mut room = self.room.clone();
-        let answer = if self.line_switch {
-            reader::line_switch(&mut reader)
-        } else {
-            reader::call(&mut reader, &self.run, &mut room)
+        let answer = match (&mut receiver, self.line_switch) {
+            (None, false) => reader::call(&mut reader, &self.run, &mut room),
+            (None, true) => reader::line_switch(&mut reader),
+            (Some(receiver), false) => receiver::call(receiver, &mut reader, &self.run, &mut room),
+            (Some(receiver), true) => receiver::line_switch(receiver, &mut reader),
         };
-        Outcome { answer, reader, room }
+        Outcome { answer, receiver, reader, room }
+    }
+
+    /// The run that document 01's call is on: with a receiver the held bytes and what fits of the piece.
+    pub fn whole_run(&self) -> Vec<u8> {
+        match &self.receiver {
+            Some(receiver) => receiver.joined(&self.run),
+            None => self.run.clone(),
+        }
     }
 
     /// The frame in.
     pub fn frame(&self) -> Vec<u8> {
         let Reader { settings, templates, index, notepad, buffers } = &self.reader;
         let memories = [templates, index, notepad, &buffers[0], &buffers[1], &self.run, &self.room];
-        let mut frame = vec![u8::from(self.line_switch)];
+        let mut frame = vec![u8::from(self.line_switch) + 2 * u8::from(self.receiver.is_some())];
         frame.extend(settings_to_bytes(settings));
         for memory in memories {
             frame.extend(four_bytes(memory.len()));
         }
+        frame.extend(receiver_to_bytes(&self.receiver));
         for memory in memories {
             frame.extend(memory);
         }
@@ -63,10 +79,9 @@ impl Request {
 
     /// Reads a frame in; none if the input ends before it.
     pub fn read(input: &mut impl Read) -> Result<Option<Request>> {
-        let line_switch = match input.by_ref().bytes().next().transpose()? {
+        let (line_switch, received) = match input.by_ref().bytes().next().transpose()? {
             None => return Ok(None),
-            Some(0) => false,
-            Some(1) => true,
+            Some(kind @ 0..=3) => (kind % 2 == 1, kind >= 2),
             Some(other) => return Err(broken(format!("a frame begins with {other}"))),
         };
         let settings = read_settings(input)?;
@@ -78,13 +93,14 @@ impl Request {
             }
             memories.push(vec![0; length]);
         }
+        let receiver = read_receiver(input, received)?;
         for memory in &mut memories {
             input.read_exact(memory)?;
         }
         let mut memories = memories.into_iter();
         let mut next = || memories.next().unwrap_or_default();
         let reader = Reader { settings, templates: next(), index: next(), notepad: next(), buffers: [next(), next()] };
-        Ok(Some(Request { line_switch, reader, run: next(), room: next() }))
+        Ok(Some(Request { line_switch, receiver, reader, run: next(), room: next() }))
     }
 }
 
@@ -96,6 +112,7 @@ impl Outcome {
         frame.extend(four_bytes(self.answer.used));
         frame.extend(four_bytes(self.answer.length));
         frame.extend(settings_to_bytes(settings));
+        frame.extend(receiver_to_bytes(&self.receiver));
         for memory in [templates, index, notepad, &buffers[0], &buffers[1], &self.room] {
             frame.extend(memory);
         }
@@ -112,12 +129,33 @@ impl Outcome {
         let mut reader = request.reader.clone();
         let mut room = request.room.clone();
         reader.settings = read_settings(input)?;
+        let receiver = read_receiver(input, request.receiver.is_some())?;
         let Reader { templates, index, notepad, buffers: [one, two], .. } = &mut reader;
         for memory in [templates, index, notepad, one, two, &mut room] {
             input.read_exact(memory)?;
         }
-        Ok(Outcome { answer, reader, room })
+        Ok(Outcome { answer, receiver, reader, room })
     }
+
+    /// Whether a receiver's call took nothing, answered nothing and left the held bytes as they are.
+    pub fn at_rest(&self, request: &Request) -> bool {
+        let held = |receiver: &Option<Receiver>| receiver.as_ref().map(|receiver| receiver.held().to_vec());
+        self.answer.used == 0 && self.answer.length == 0 && held(&self.receiver) == held(&request.receiver)
+    }
+}
+
+/// The held count and the cells, or nothing where there is no receiver.
+fn receiver_to_bytes(receiver: &Option<Receiver>) -> Vec<u8> {
+    let bytes = |receiver: &Receiver| [&receiver.count.to_be_bytes()[..], &receiver.cells].concat();
+    receiver.as_ref().map_or_else(Vec::new, bytes)
+}
+
+fn read_receiver(input: &mut impl Read, received: bool) -> Result<Option<Receiver>> {
+    if !received {
+        return Ok(None);
+    }
+    let count = u16::from_be_bytes(read_bytes(input)?);
+    Ok(Some(Receiver { count, cells: read_bytes(input)? }))
 }
 
 fn settings_to_bytes(settings: &Settings) -> Vec<u8> {

@@ -1,5 +1,5 @@
-//! Pits a reader written from document 01 alone against another implementation of the paper, and writes the stored
-//! dialogue of the bench program with it.
+//! Pits a reader and a receiver, written from document 01 and document 02's request [1] alone, against another
+//! implementation of the papers, and writes the stored dialogue of the bench program with them.
 
 mod bench;
 mod cases;
@@ -12,6 +12,8 @@ mod host;
 mod probe;
 mod reader;
 mod readers;
+mod receiver;
+mod receivers;
 mod report;
 mod shrink;
 mod tally;
@@ -22,11 +24,12 @@ use cases::Dialogue;
 use chance::Chance;
 use frame::{Outcome, Request};
 use probe::Probe;
+use receivers::Caller;
 use std::fs;
 use std::io::{self, Write};
 use std::process::ExitCode;
 use std::time::{Duration, Instant};
-use tally::{Tally, ALL};
+use tally::{Tally, ALL, RECEIVED};
 
 const USAGE: &str = "usage: independent [--cases N] [--seed S] [--quiet] -- PROGRAM ARGS...
        independent --answer [ERROR]    be a probe, with a deliberate error if named
@@ -35,9 +38,10 @@ const USAGE: &str = "usage: independent [--cases N] [--seed S] [--quiet] -- PROG
 
 const DEFAULT_CASES: u64 = 10_000;
 /// So many cases or more must reach all that is counted; the examples do not count.
-const COVERING_CASES: u64 = 1000;
-/// One case in so many is a dialogue, the others are single readers.
-const DIALOGUE_EVERY: u64 = 4;
+const COVERING_CASES: u64 = 2000;
+/// In so many cases there are one dialogue with a reader, one caller of a receiver and two single receivers; the others
+/// are single readers.
+const TURN: u64 = 7;
 /// How often a long run tells how far it is.
 const PROGRESS: Duration = Duration::from_secs(10);
 
@@ -117,13 +121,17 @@ fn list_errors() -> Result<(), End> {
 
 /// Acts as a probe with the independent reader, or with a wrong one.
 fn answer(arguments: &[String]) -> Result<(), End> {
-    let carry_out = match arguments {
-        [] => Request::carried_out,
+    let wrong = match arguments {
+        [] => None,
         [name] => match wrong::ERRORS.iter().find(|(error, _)| error == name) {
-            Some(&(_, wrong)) => wrong,
+            Some((_, wrong)) => Some(wrong),
             None => return Err(End::Trouble(format!("unknown error {name}\n{USAGE}"))),
         },
         _ => return Err(End::Trouble(format!("--answer takes one error\n{USAGE}"))),
+    };
+    let carry_out = |request: &Request| match wrong {
+        Some(wrong) => wrong.carried_out(request),
+        None => request.carried_out(),
     };
     let (mut input, mut output) = (io::stdin().lock(), io::stdout().lock());
     let mut answer_all = || -> io::Result<()> {
@@ -152,76 +160,113 @@ fn write_dialogue(folder: &str) -> Result<(), End> {
 
 /// Sends the examples and the cases to the program, and tells whether it agrees.
 fn compare(options: Options) -> Result<(), End> {
+    let Options { cases, seed, quiet, program, arguments } = options;
     let mut comparer = Comparer {
-        probe: Probe::start(&options.program, &options.arguments)?,
-        tally: Tally::default(),
+        probe: Probe::start(&program, &arguments)?,
+        readers: Tally::default(),
+        receivers: Tally::default(),
         case: String::new(),
     };
     comparer.examples()?;
-    comparer.tally = Tally::default();
+    (comparer.readers, comparer.receivers) = Default::default();
     let mut told = Instant::now();
-    for case in 0..options.cases {
-        comparer.case = format!("case {case} of seed {}", options.seed);
-        let chance = Chance::new(options.seed, case);
-        if case % DIALOGUE_EVERY == 0 {
-            comparer.dialogue(Dialogue::new(chance))?;
-        } else {
-            comparer.agreed(&cases::single(chance))?;
+    for case in 0..cases {
+        comparer.case = format!("case {case} of seed {seed}");
+        let chance = Chance::new(seed, case);
+        match case % TURN {
+            0 => comparer.dialogue(Dialogue::new(chance))?,
+            1 => comparer.caller(Caller::new(chance))?,
+            2 | 3 => drop(comparer.agreed(&receivers::single(chance))?),
+            _ => drop(comparer.agreed(&cases::single(chance))?),
         }
-        if !options.quiet && told.elapsed() > PROGRESS {
-            eprintln!("independent: {case} of {} cases", options.cases);
+        if !quiet && told.elapsed() > PROGRESS {
+            eprintln!("independent: {case} of {cases} cases");
             told = Instant::now();
         }
     }
+    comparer.receivers_in_turn(seed)?;
     comparer.probe.finish()?;
 
-    let gaps = comparer.tally.gaps(ALL);
-    if !gaps.is_empty() && options.cases >= COVERING_CASES {
+    let kinds = [ALL, RECEIVED].concat();
+    let mut gaps = comparer.readers.gaps(ALL);
+    gaps.extend(comparer.receivers.gaps(&kinds).iter().map(|gap| format!("with a receiver, {gap}")));
+    if !gaps.is_empty() && cases >= COVERING_CASES {
         let heading = "the cases are too weak, these did not occur:".to_string();
         return Err(End::Disagreement([vec![heading], gaps].concat()));
     }
-    let dialogues = (options.cases + DIALOGUE_EVERY - 1) / DIALOGUE_EVERY;
-    println!(
-        "independent: {} calls in {dialogues} dialogues and {} readers agree (seed {})",
-        comparer.tally.calls,
-        options.cases - dialogues,
-        options.seed
-    );
-    if !options.quiet {
-        println!("  {}", comparer.tally.lines(ALL).join("\n  "));
+    for (who, tally, kinds) in [("reader", &comparer.readers, ALL), ("receiver", &comparer.receivers, &kinds)] {
+        println!("independent: {} calls of the {who} agree ({cases} cases of seed {seed})", tally.calls);
+        if !quiet {
+            println!("  {}", tally.lines(kinds).join("\n  "));
+        }
     }
     Ok(())
 }
 
 struct Comparer {
     probe: Probe,
-    tally: Tally,
+    /// The calls without a receiver.
+    readers: Tally,
+    /// The calls with one.
+    receivers: Tally,
     /// What the case at hand is called.
     case: String,
 }
 
 impl Comparer {
-    /// The examples of the paper, which also bind the independent reader.
+    /// The examples, which also bind the independent reader and receiver.
     fn examples(&mut self) -> Result<(), End> {
         for example in examples::all() {
-            self.case = format!("example {}", example.name);
-            let mut reader = example.reader;
+            self.case = format!("the example {}", example.name);
+            let (mut receiver, mut reader) = (example.receiver, example.reader);
             for step in example.steps {
-                let request = Request { line_switch: false, reader, run: step.run, room: vec![0x5A; reader::ROOM] };
+                let room = vec![0x5A; reader::ROOM];
+                let request = Request { line_switch: false, receiver, reader, run: step.run, room };
                 let outcome = self.agreed(&request)?;
                 let answer = &outcome.answer;
-                if answer.used != step.used || outcome.room[..answer.length] != step.reply {
-                    return Err(End::Trouble(format!("the independent reader breaks {}", self.case)));
-                }
-                reader = outcome.reader;
+                let answered = answer.used == step.used && outcome.room[..answer.length] == step.reply;
+                self.demand(answered && outcome.receiver == step.receiver, "gives another answer")?;
+                (receiver, reader) = (outcome.receiver, outcome.reader);
             }
         }
         Ok(())
     }
 
+    /// A demand of the papers on the independent reader, in the case at hand.
+    fn demand(&self, holds: bool, failure: &str) -> Result<(), String> {
+        if holds {
+            Ok(())
+        } else {
+            Err(format!("the independent reader {failure} in {}", self.case))
+        }
+    }
+
     fn dialogue(&mut self, mut dialogue: Dialogue) -> Result<(), End> {
         while let Some(request) = dialogue.next() {
             dialogue.go_on(self.agreed(&request)?);
+        }
+        Ok(())
+    }
+
+    /// The request's caller; each time it is at rest it must be where the same run leads when it is given whole.
+    fn caller(&mut self, mut caller: Caller) -> Result<(), End> {
+        while let Some(request) = caller.next() {
+            let outcome = self.agreed(&request)?;
+            caller.go_on(&request, outcome);
+            self.demand(caller.as_given_whole(), "depends on where a run is cut,")?;
+        }
+        Ok(())
+    }
+
+    /// Every length of a piece and every held count, and transfers cut at every place.
+    fn receivers_in_turn(&mut self, seed: u64) -> Result<(), End> {
+        for (place, request) in receivers::every_length(seed).enumerate() {
+            self.case = format!("piece {place} of seed {seed}");
+            self.agreed(&request)?;
+        }
+        for (place, caller) in receivers::cut_transfers(seed).enumerate() {
+            self.case = format!("cut transfer {place} of seed {seed}");
+            self.caller(caller)?;
         }
         Ok(())
     }
@@ -236,7 +281,8 @@ impl Comparer {
         if probe != paper {
             return Err(self.disagreement(request, probe));
         }
-        self.tally.add(request, &paper);
+        let tally = if request.receiver.is_some() { &mut self.receivers } else { &mut self.readers };
+        tally.add(request, &paper);
         Ok(paper)
     }
 

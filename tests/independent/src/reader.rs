@@ -114,7 +114,7 @@ pub struct Reader {
 pub struct Answer {
     /// The number of the refusal, or 0.
     pub refusal: u8,
-    /// The bytes used of the run.
+    /// The bytes used of the run; in a receiver's call, those taken of the piece.
     pub used: usize,
     /// The reply's length; 0 is silence.
     pub length: usize,
@@ -232,7 +232,7 @@ impl Reader {
             && self.buffers_fit()
     }
 
-    fn refusal(&self, room: usize) -> u8 {
+    pub fn refusal(&self, room: usize) -> u8 {
         if !self.lengths_fit() {
             1
         } else if room < ROOM {

@@ -4,6 +4,26 @@ use crate::chance::Chance;
 use crate::reader::*;
 use std::ops::RangeInclusive;
 
+/// A legal reader, at times a fresh one.
+pub fn any_legal_reader(chance: &mut Chance, capacity: usize) -> Reader {
+    if chance.percent(25) {
+        fresh_reader(capacity)
+    } else {
+        legal_reader(chance, capacity)
+    }
+}
+
+/// A reader and a reply room, legal or spoiled in up to three ways.
+pub fn spoiled_reader(chance: &mut Chance) -> (Reader, Vec<u8>) {
+    let capacity = capacity(chance);
+    let mut reader = legal_reader(chance, capacity);
+    let mut room = chance.pick(&[ROOM, ROOM, ROOM + 1, 4096]);
+    for _ in 0..chance.below(4) {
+        spoil(chance, &mut reader, &mut room);
+    }
+    (reader, chance.bytes(room))
+}
+
 /// C: mostly small, at times beside a multiple of 8, anywhere, or at the end.
 pub fn capacity(chance: &mut Chance) -> usize {
     match chance.below(100) {
@@ -105,7 +125,7 @@ pub fn size(settings: &Settings) -> usize {
 }
 
 /// Makes something wrong that a refusal is for.
-pub fn spoil(chance: &mut Chance, reader: &mut Reader, room: &mut usize) {
+fn spoil(chance: &mut Chance, reader: &mut Reader, room: &mut usize) {
     let settings = &mut reader.settings;
     match chance.below(19) {
         0 | 1 => {

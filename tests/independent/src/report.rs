@@ -8,8 +8,10 @@ pub fn case(request: &Request) -> Vec<String> {
     let reader = &request.reader;
     let fields: Vec<String> =
         settings(&reader.settings).iter().map(|(name, value)| format!("{name} {value}")).collect();
+    let what = if request.line_switch { "a line switch" } else { "a call" };
+    let whose = if request.receiver.is_some() { "receiver" } else { "reader" };
     let mut lines = vec![
-        if request.line_switch { "a line switch".into() } else { "a call of the reader".into() },
+        format!("{what} of the {whose}"),
         fields[..5].join(", "),
         fields[5..].join(", "),
         format!("C = {}, {}", reader.capacity(), memory("templates", &reader.templates)),
@@ -19,7 +21,14 @@ pub fn case(request: &Request) -> Vec<String> {
     lines.push(memory("buffer 1", &reader.buffers[0]));
     lines.push(memory("buffer 2", &reader.buffers[1]));
     lines.push(memory("reply room", &request.room));
-    lines.push(format!("run of {} bytes: {}", request.run.len(), hex(&request.run)));
+    if let Some(receiver) = &request.receiver {
+        lines.push(format!("held count {}, {}", receiver.count, memory("cells", &receiver.cells)));
+        if receiver.legal() {
+            lines.push(format!("held bytes: {}", hex(receiver.held())));
+        }
+    }
+    let run = if request.receiver.is_some() { "piece" } else { "run" };
+    lines.push(format!("{run} of {} bytes: {}", request.run.len(), hex(&request.run)));
     lines
 }
 
@@ -49,10 +58,11 @@ fn fields(outcome: &Outcome) -> Vec<(&'static str, String)> {
     let answer = &outcome.answer;
     let mut fields = vec![
         ("refusal", answer.refusal.to_string()),
-        ("bytes used", answer.used.to_string()),
+        ("bytes used or taken", answer.used.to_string()),
         ("reply length", answer.length.to_string()),
     ];
     fields.extend(settings(&outcome.reader.settings));
+    fields.extend(outcome.receiver.iter().map(|receiver| ("held count", receiver.count.to_string())));
     fields
 }
 
@@ -80,16 +90,18 @@ fn settings(settings: &Settings) -> [(&'static str, String); 10] {
     ]
 }
 
-fn memories(outcome: &Outcome) -> [(&'static str, &[u8]); 6] {
+fn memories(outcome: &Outcome) -> Vec<(&'static str, &[u8])> {
     let reader = &outcome.reader;
-    [
+    let mut memories: Vec<(&str, &[u8])> = vec![
         ("templates", &reader.templates),
         ("index", &reader.index),
         ("notepad", &reader.notepad),
         ("buffer 1", &reader.buffers[0]),
         ("buffer 2", &reader.buffers[1]),
         ("reply room", &outcome.room),
-    ]
+    ];
+    memories.extend(outcome.receiver.iter().map(|receiver| ("cells", &receiver.cells[..])));
+    memories
 }
 
 fn answer(outcome: &Outcome) -> String {
@@ -99,7 +111,8 @@ fn answer(outcome: &Outcome) -> String {
         Some(reply) => format!("reply {}", hex(reply)),
         None => format!("reply of {} bytes, more than the room", answer.length),
     };
-    format!("refusal {}, used {}, {reply}", answer.refusal, answer.used)
+    let used = if outcome.receiver.is_some() { "taken" } else { "used" };
+    format!("refusal {}, {used} {}, {reply}", answer.refusal, answer.used)
 }
 
 /// The length of a memory, and the first of its bytes that are not zero.

@@ -2,6 +2,7 @@
 
 use crate::frame::{Outcome, Request};
 use crate::reader::*;
+use crate::receiver::{Receiver, HOLDS};
 
 /// The most cases that are tried.
 const TRIES: usize = 4000;
@@ -46,6 +47,7 @@ pub fn shrink(
     loop {
         let before = shrinker.case.clone();
         shrinker.shorten_run();
+        shrinker.empty_receiver();
         shrinker.reduce_capacity();
         shrinker.freshen_settings();
         for memory in 0..MEMORIES {
@@ -96,6 +98,28 @@ impl<F: FnMut(&Request) -> Result<Outcome, String>> Shrinker<F> {
         }
     }
 
+    /// Lets the receiver hold less, and zeroes the cells that do not matter.
+    fn empty_receiver(&mut self) {
+        let mut piece = self.held().len();
+        while piece > 0 {
+            let mut start = 0;
+            while start < self.held().len() {
+                let end = self.held().len().min(start + piece);
+                if !self.attempt(|case| change_held(case, |held| drop(held.drain(start..end)))) {
+                    start = end;
+                }
+            }
+            piece /= 2;
+        }
+        for cell in 0..HOLDS {
+            self.attempt(|case| case.receiver.iter_mut().for_each(|receiver| receiver.cells[cell] = 0));
+        }
+    }
+
+    fn held(&self) -> &[u8] {
+        self.case.receiver.as_ref().map_or(&[], Receiver::held)
+    }
+
     fn reduce_capacity(&mut self) {
         let capacity = self.case.reader.capacity();
         for pages in 1..capacity {
@@ -140,16 +164,30 @@ impl<F: FnMut(&Request) -> Result<Outcome, String>> Shrinker<F> {
     }
 }
 
-/// Gives the reader the fresh address, and the packets in the run with it.
+/// Changes the held bytes of a receiver with a legal count; the cells past them keep their bytes as far as they can.
+fn change_held(case: &mut Request, change: impl FnOnce(&mut Vec<u8>)) {
+    if let Some(receiver) = case.receiver.as_mut().filter(|receiver| receiver.legal()) {
+        let mut held = receiver.held().to_vec();
+        change(&mut held);
+        receiver.count = held.len() as u16;
+        receiver.cells[..held.len()].copy_from_slice(&held);
+    }
+}
+
+/// Gives the reader the fresh address, and the packets in the run and among the held bytes with it.
 fn readdress(case: &mut Request) {
     let old = case.reader.settings.address;
     let new = Settings::fresh().address;
-    case.reader.settings.address = new;
-    for place in 2..case.run.len().saturating_sub(3) {
-        if case.run[place..].starts_with(&old) && case.run[..place].ends_with(&[0xEF, 0x01]) {
-            case.run[place..place + 4].copy_from_slice(&new);
+    let renew = |run: &mut Vec<u8>| {
+        for place in 2..run.len().saturating_sub(3) {
+            if run[place..].starts_with(&old) && run[..place].ends_with(&[0xEF, 0x01]) {
+                run[place..place + 4].copy_from_slice(&new);
+            }
         }
-    }
+    };
+    case.reader.settings.address = new;
+    renew(&mut case.run);
+    change_held(case, renew);
 }
 
 fn memory(case: &mut Request, which: usize) -> &mut Vec<u8> {

@@ -1,31 +1,71 @@
-//! Readers with one deliberate error each, made by changing what the good reader is asked or what it answers.
+//! Readers and receivers with one deliberate error each, made by changing what the good one is asked or what it
+//! answers.
 
 use crate::frame::{Outcome, Request};
 use crate::reader::*;
+use crate::receiver::{Receiver, HOLDS};
+use Error::{OfReader, OfReceiver};
 
-type Wrong = fn(&Request) -> Outcome;
+pub enum Error {
+    /// The error shows where there is no receiver.
+    OfReader(fn(&Request) -> Outcome),
+    /// The error shows where there is a receiver, which is handed in too.
+    OfReceiver(fn(&Request, &Receiver) -> Outcome),
+}
 
-pub const ERRORS: [(&str, Wrong); 20] = [
-    ("lock-before-sum", lock_before_sum),
-    ("delete-keeps-templates", delete_keeps_templates),
-    ("sum-in-16-bits", sum_in_16_bits),
-    ("two-ends-transfer", two_ends_transfer),
-    ("rescans-bad-sum", rescans_bad_sum),
-    ("first-packet-only", first_packet_only),
-    ("reply-room-past", reply_room_past),
-    ("settings-before-room", settings_before_room),
-    ("always-silent", always_silent),
-    ("always-unknown", always_unknown),
-    ("always-fine", always_fine),
-    ("store-moves-nothing", store_moves_nothing),
-    ("invents-count", invents_count),
-    ("keeps-mark", keeps_mark),
-    ("old-address", old_address),
-    ("foreign-ends-transfer", foreign_ends_transfer),
-    ("eats-last-ef", eats_last_ef),
-    ("switch-keeps-buffers", switch_keeps_buffers),
-    ("takes-any-mark", takes_any_mark),
-    ("switch-keeps-unfit-marks", switch_keeps_unfit_marks),
+impl Error {
+    /// What the wrong one makes of a request.
+    pub fn carried_out(&self, request: &Request) -> Outcome {
+        match (self, &request.receiver) {
+            (OfReader(wrong), None) => wrong(request),
+            (OfReceiver(wrong), Some(receiver)) => wrong(request, receiver),
+            _ => request.carried_out(),
+        }
+    }
+}
+
+pub const ERRORS: [(&str, Error); 41] = [
+    ("lock-before-sum", OfReader(lock_before_sum)),
+    ("delete-keeps-templates", OfReader(delete_keeps_templates)),
+    ("sum-in-16-bits", OfReader(sum_in_16_bits)),
+    ("two-ends-transfer", OfReader(two_ends_transfer)),
+    ("rescans-bad-sum", OfReader(rescans_bad_sum)),
+    ("first-packet-only", OfReader(first_packet_only)),
+    ("reply-room-past", OfReader(reply_room_past)),
+    ("settings-before-room", OfReader(settings_before_room)),
+    ("always-silent", OfReader(always_silent)),
+    ("always-unknown", OfReader(always_unknown)),
+    ("always-fine", OfReader(always_fine)),
+    ("store-moves-nothing", OfReader(store_moves_nothing)),
+    ("invents-count", OfReader(invents_count)),
+    ("keeps-mark", OfReader(keeps_mark)),
+    ("old-address", OfReader(old_address)),
+    ("foreign-ends-transfer", OfReader(foreign_ends_transfer)),
+    ("eats-last-ef", OfReader(eats_last_ef)),
+    ("switch-keeps-buffers", OfReader(switch_keeps_buffers)),
+    ("takes-any-mark", OfReader(takes_any_mark)),
+    ("switch-keeps-unfit-marks", OfReader(switch_keeps_unfit_marks)),
+    ("holds-264", OfReceiver(holds_264)),
+    ("holds-266", OfReceiver(holds_266)),
+    ("drops-one-more", OfReceiver(drops_one_more)),
+    ("keeps-used", OfReceiver(keeps_used)),
+    ("used-byte-past-count", OfReceiver(used_byte_past_count)),
+    ("keeps-cells-past-count", OfReceiver(keeps_cells_past_count)),
+    ("keeps-cells-past-bytes", OfReceiver(keeps_cells_past_bytes)),
+    ("says-used-for-taken", OfReceiver(says_used_for_taken)),
+    ("answers-two", OfReceiver(answers_two)),
+    ("refuses-265", OfReceiver(refuses_265)),
+    ("takes-any-count", OfReceiver(takes_any_count)),
+    ("count-before-lengths", OfReceiver(count_before_lengths)),
+    ("count-before-room", OfReceiver(count_before_room)),
+    ("room-before-lengths", OfReceiver(room_before_lengths)),
+    ("refused-takes-piece", OfReceiver(refused_takes_piece)),
+    ("refused-empties", OfReceiver(refused_empties)),
+    ("refused-zeroes-past-count", OfReceiver(refused_zeroes_past_count)),
+    ("refused-switch-empties", OfReceiver(refused_switch_empties)),
+    ("switch-keeps-held", OfReceiver(switch_keeps_held)),
+    ("switch-keeps-cells", OfReceiver(switch_keeps_cells)),
+    ("switch-refuses-count", OfReceiver(switch_refuses_count)),
 ];
 
 /// A locked reader gives 21h to a command with a wrong sum.
@@ -247,6 +287,240 @@ fn switch_keeps_unfit_marks(request: &Request) -> Outcome {
         after.verified = before.verified;
     }
     outcome
+}
+
+/// Takes bytes until 264 are held.
+fn holds_264(request: &Request, receiver: &Receiver) -> Outcome {
+    takes_up_to(264, request, receiver)
+}
+
+/// Takes bytes until 266 are held.
+fn holds_266(request: &Request, receiver: &Receiver) -> Outcome {
+    takes_up_to(266, request, receiver)
+}
+
+fn takes_up_to(most: usize, request: &Request, receiver: &Receiver) -> Outcome {
+    let mut outcome = request.carried_out();
+    if carried_out(request, &outcome) {
+        let fits = request.run.len().min(most.saturating_sub(receiver.held().len()));
+        let run = [receiver.held(), &request.run[..fits]].concat();
+        outcome = Request { receiver: None, run: run.clone(), ..request.clone() }.carried_out();
+        outcome.receiver = Some(Receiver::holding(&run[outcome.answer.used..]));
+        outcome.answer.used = fits;
+    }
+    outcome
+}
+
+/// A call that drops held bytes, but not all, drops one more.
+fn drops_one_more(request: &Request, _: &Receiver) -> Outcome {
+    let mut outcome = request.carried_out();
+    let left = left(&outcome);
+    if carried_out(request, &outcome) && !left.is_empty() && left.len() < request.whole_run().len() {
+        outcome.receiver = Some(Receiver::holding(&left[1..]));
+    }
+    outcome
+}
+
+/// Drops nothing.
+fn keeps_used(request: &Request, _: &Receiver) -> Outcome {
+    let mut outcome = request.carried_out();
+    if carried_out(request, &outcome) {
+        outcome.receiver = Some(Receiver::holding(&request.whole_run()));
+    }
+    outcome
+}
+
+/// The last of the bytes stays in its cell when bytes before it were dropped.
+fn used_byte_past_count(request: &Request, _: &Receiver) -> Outcome {
+    let mut outcome = request.carried_out();
+    let run = request.whole_run();
+    if carried_out(request, &outcome) && left(&outcome).len() < run.len() {
+        if let Some(receiver) = &mut outcome.receiver {
+            receiver.cells[run.len() - 1] = run[run.len() - 1];
+        }
+    }
+    outcome
+}
+
+/// When nothing is dropped, the cells past the count stay as they were.
+fn keeps_cells_past_count(request: &Request, receiver: &Receiver) -> Outcome {
+    keeps_cells(false, request, receiver)
+}
+
+/// When something is dropped, only cells that bytes were in are zeroed.
+fn keeps_cells_past_bytes(request: &Request, receiver: &Receiver) -> Outcome {
+    keeps_cells(true, request, receiver)
+}
+
+/// The cells past all bytes stay as they were if some are dropped, or if none is.
+fn keeps_cells(dropped: bool, request: &Request, before: &Receiver) -> Outcome {
+    let mut outcome = request.carried_out();
+    let end = request.whole_run().len();
+    if carried_out(request, &outcome) && dropped == (left(&outcome).len() < end) {
+        if let Some(receiver) = &mut outcome.receiver {
+            receiver.cells[end..].copy_from_slice(&before.cells[end..]);
+        }
+    }
+    outcome
+}
+
+/// Tells the bytes that were dropped for those that were taken.
+fn says_used_for_taken(request: &Request, _: &Receiver) -> Outcome {
+    let mut outcome = request.carried_out();
+    if carried_out(request, &outcome) {
+        outcome.answer.used = request.whole_run().len() - left(&outcome).len();
+    }
+    outcome
+}
+
+/// Answers the next packet that it holds too, if the room allows it.
+fn answers_two(request: &Request, _: &Receiver) -> Outcome {
+    let mut first = request.carried_out();
+    let Answer { used, length, .. } = first.answer;
+    let (receiver, reader) = (first.receiver.clone(), first.reader.clone());
+    let again = Request { line_switch: false, receiver, reader, run: Vec::new(), room: vec![0; ROOM] };
+    let mut second = again.carried_out();
+    let both = length + second.answer.length;
+    if length == 0 || length == both || both > first.room.len() {
+        return first;
+    }
+    first.room[length..both].copy_from_slice(&second.room[..both - length]);
+    second.room = first.room;
+    second.answer = Answer { refusal: 0, used, length: both };
+    second
+}
+
+/// A held count of 265 gets refusal 3.
+fn refuses_265(request: &Request, receiver: &Receiver) -> Outcome {
+    let mut asked = request.clone();
+    if !request.line_switch && usize::from(receiver.count) == HOLDS {
+        asked.receiver = Some(Receiver { count: receiver.count + 1, ..receiver.clone() });
+    }
+    let mut outcome = asked.carried_out();
+    if outcome.answer.refusal != 0 {
+        outcome.receiver = request.receiver.clone();
+    }
+    outcome
+}
+
+/// A held count above 265 is taken for 265.
+fn takes_any_count(request: &Request, receiver: &Receiver) -> Outcome {
+    let mut asked = request.clone();
+    asked.receiver = Some(Receiver { count: receiver.count.min(HOLDS as u16), ..receiver.clone() });
+    let mut outcome = asked.carried_out();
+    if outcome.answer.refusal != 0 {
+        outcome.receiver = request.receiver.clone();
+    }
+    outcome
+}
+
+/// Refusal 3 for the held count comes before refusal 1.
+fn count_before_lengths(request: &Request, receiver: &Receiver) -> Outcome {
+    count_before(1, request, receiver)
+}
+
+/// Refusal 3 for the held count comes before refusal 2.
+fn count_before_room(request: &Request, receiver: &Receiver) -> Outcome {
+    count_before(2, request, receiver)
+}
+
+fn count_before(refusal: u8, request: &Request, receiver: &Receiver) -> Outcome {
+    let mut outcome = request.carried_out();
+    if !request.line_switch && !receiver.legal() && outcome.answer.refusal == refusal {
+        outcome.answer.refusal = 3;
+    }
+    outcome
+}
+
+/// Refusal 2 comes before refusal 1.
+fn room_before_lengths(request: &Request, _: &Receiver) -> Outcome {
+    let mut outcome = request.carried_out();
+    if refused(request, &outcome) && request.room.len() < ROOM {
+        outcome.answer.refusal = 2;
+    }
+    outcome
+}
+
+/// A refused call takes what fits of the piece.
+fn refused_takes_piece(request: &Request, receiver: &Receiver) -> Outcome {
+    let mut outcome = request.carried_out();
+    if refused(request, &outcome) && receiver.legal() {
+        let run = request.whole_run();
+        outcome.answer.used = run.len() - receiver.held().len();
+        outcome.receiver = Some(Receiver::holding(&run));
+    }
+    outcome
+}
+
+/// A refused call drops all held bytes.
+fn refused_empties(request: &Request, _: &Receiver) -> Outcome {
+    let mut outcome = request.carried_out();
+    if refused(request, &outcome) {
+        outcome.receiver = Some(Receiver::empty());
+    }
+    outcome
+}
+
+/// A refused call zeroes the cells past the count.
+fn refused_zeroes_past_count(request: &Request, receiver: &Receiver) -> Outcome {
+    let mut outcome = request.carried_out();
+    if refused(request, &outcome) && receiver.legal() {
+        outcome.receiver = Some(Receiver::holding(receiver.held()));
+    }
+    outcome
+}
+
+/// A refused line switch empties the held bytes.
+fn refused_switch_empties(request: &Request, _: &Receiver) -> Outcome {
+    let mut outcome = request.carried_out();
+    if request.line_switch && outcome.answer.refusal != 0 {
+        outcome.receiver = Some(Receiver::empty());
+    }
+    outcome
+}
+
+/// The line switch keeps the held bytes.
+fn switch_keeps_held(request: &Request, receiver: &Receiver) -> Outcome {
+    let mut outcome = request.carried_out();
+    if request.line_switch {
+        outcome.receiver = Some(receiver.clone());
+    }
+    outcome
+}
+
+/// The line switch makes the count 0 and keeps the cells.
+fn switch_keeps_cells(request: &Request, receiver: &Receiver) -> Outcome {
+    let mut outcome = request.carried_out();
+    if request.line_switch && outcome.answer.refusal == 0 {
+        outcome.receiver = Some(Receiver { count: 0, ..receiver.clone() });
+    }
+    outcome
+}
+
+/// The line switch refuses a held count above 265.
+fn switch_refuses_count(request: &Request, receiver: &Receiver) -> Outcome {
+    let mut outcome = request.carried_out();
+    if request.line_switch && outcome.answer.refusal == 0 && !receiver.legal() {
+        outcome.answer.refusal = 3;
+        outcome.receiver = Some(receiver.clone());
+        outcome.reader = request.reader.clone();
+    }
+    outcome
+}
+
+/// Whether the request is a receiver's call that was carried out.
+fn carried_out(request: &Request, outcome: &Outcome) -> bool {
+    !request.line_switch && outcome.answer.refusal == 0
+}
+
+/// Whether the request is a receiver's call that was refused.
+fn refused(request: &Request, outcome: &Outcome) -> bool {
+    !request.line_switch && outcome.answer.refusal != 0
+}
+
+/// The bytes that a receiver holds afterwards.
+fn left(outcome: &Outcome) -> Vec<u8> {
+    outcome.receiver.as_ref().map_or_else(Vec::new, |receiver| receiver.held().to_vec())
 }
 
 /// The packet of a request, if it was a command that got a reply.

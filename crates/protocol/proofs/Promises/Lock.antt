@@ -74,7 +74,7 @@ module _ (r : Reader) (key : T (keyed (r .plain))) (z : r .plain .transfer ≡ c
       let quiet : (b : Bool) → takeIn (mark b r) last right content (r .plain .transfer) ≡ silence (mark b r) = λ b. ap (takeIn (mark b r) last right content) z in
       rw (quiet false, quiet true) (equally refl (λ b. refl))
 
-  marked-legal : (σ : Shape) (b : Bool) → T (legal σ r) → T (legal σ (mark b r))
+  pub marked-legal : (σ : Shape) (b : Bool) → T (legal σ r) → T (legal σ (mark b r))
   unfolding legal sound fitPlain withMark
   marked-legal σ b t =
       let m = fit-closed (withMark b (r .plain)) (r .guarded) (r .plain .transfer) z in

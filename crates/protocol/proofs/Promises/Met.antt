@@ -1,19 +1,22 @@
 -- The premises of demand 3 can be met: two legal locked readers of ten pages, one empty and one full, with the same settings but for the
 -- filled marks.
 use mathlib.Core.Path.{_≡_, refl}
-use mathlib.Core.List.{_∷_}
+use mathlib.Core.List.{[], _∷_}
+use native.Mathlib.Omega.{arith}
 use lib.Dec.{T}
 use lib.ListN.{replicate}
-use Rattle.protocol.specs.Numbers.{pageBytes, highestSize}
-use Rattle.protocol.specs.Bytes.{zeros, four, same}
+use Rattle.protocol.specs.Numbers.{pageBytes, highestSize, longest, holds}
+use Rattle.protocol.specs.Bytes.{zeros, four, same, lay}
 use Rattle.protocol.specs.Tests.{within, every}
 use Rattle.protocol.specs.Index.{bit, stored, clearFrom}
 use Rattle.protocol.specs.Reader.{closed, Reader, capacity, keyed, locked, bufferOf, emptied, filledWith, withPassword, fresh, zeroed, contents, reader}
 use Rattle.protocol.specs.Call.{core, fitLibrary, fitBuffers, fitLengths, fitPlain, fitTransfer, sound, legal}
+use Rattle.protocol.specs.Receiver.{holding, line}
 use Rattle.protocol.proofs.Laws.Index.{fine-zeros}
 use Rattle.protocol.proofs.Promises.Examples.{keyed10, fresh10}
 use Rattle.protocol.proofs.Promises.LegalMeans.{core-holds}
 use Rattle.protocol.proofs.Promises.StaysLegal.{Legal}
+use Rattle.protocol.proofs.Promises.ComesToRest.{Ready}
 
 -- P9's reader with every page stored and both buffers filled
 pub full10 : Reader
@@ -38,3 +41,8 @@ premises-met = record { one = tt; other = tt; locks = tt; keys = tt; still = ref
 pub fresh-legal : Legal core core-holds fresh10
 unfolding fresh10 fresh zeroed emptied four same within every bit stored clearFrom capacity keyed locked core fitLibrary fitBuffers fitLengths fitPlain fitTransfer sound legal highestSize
 fresh-legal = record { typed = record { password = refl; address = refl; index = fine-zeros 32 .bytes }; legal = tt }
+
+-- and with an empty receiver it is ready for pieces
+pub fresh-ready : Ready core core-holds (line fresh10 (holding []))
+unfolding holding lay holds longest
+fresh-ready = record { legal = fresh-legal; cells = refl; few = omega arith }

@@ -8,10 +8,13 @@ use Rattle.protocol.specs.declared.Settings.{Settings}
 use Rattle.protocol.specs.declared.Called.{Called}
 use Rattle.protocol.specs.declared.Switched.{Switched}
 use Rattle.protocol.specs.declared.Built.{Built}
+use Rattle.protocol.specs.declared.Received.{Received}
+use Rattle.protocol.specs.declared.Emptied.{Emptied}
 use Rattle.protocol.specs.Packet.{Made}
 use Rattle.protocol.specs.Reader.{Transfer, closed, opened, unfit, Reader}
 use Rattle.protocol.specs.Call.{Ended}
-use Rattle.protocol.specs.Records.{transferOf, readerOf, endedOf, switchedOf, madeOf}
+use Rattle.protocol.specs.Receiver.{Handed}
+use Rattle.protocol.specs.Records.{transferOf, readerOf, endedOf, switchedOf, receivedOf, emptiedOf, madeOf}
 
 -- a transfer's two numbers
 numbers : Transfer → ℕ × ℕ
@@ -82,6 +85,27 @@ one-switch x y t i n b c t′ i′ n′ b′ c′ e =
     one-reader (x .settings) (y .settings) t i n b c t′ i′ n′ b′ c′ (ap (λ (z : Ended). z .after) e)
     in
     (λ j. record { settings = r .settings j; refusal = e j .told .refusal }, r)
+
+-- a receiver's call: every cell too
+pub one-receive : (x y : Received) (t i n b c o t′ i′ n′ b′ c′ o′ : List ℕ) → receivedOf x t i n b c o ≡ receivedOf y t′ i′ n′ b′ c′ o′
+    → (x ≡ y) × (OneReader (x .settings) (y .settings) t i n b c t′ i′ n′ b′ c′ × (o ≡ o′))
+one-receive x y t i n b c o t′ i′ n′ b′ c′ o′ e =
+    let r : OneReader (x .settings) (y .settings) t i n b c t′ i′ n′ b′ c′ =
+    one-reader (x .settings) (y .settings) t i n b c t′ i′ n′ b′ c′ (ap (λ (z : Handed). z .after .reader) e)
+    in (
+      λ j.
+          record { receiver = e j .after .receiver; settings = r .settings j; refusal = e j .told .refusal; taken = e j .told .used; length = e j .told .length },
+      (r, ap (λ (z : Handed). z .told .room) e),
+    )
+
+-- a receiver's line switch
+pub one-emptied : (x y : Emptied) (t i n b c t′ i′ n′ b′ c′ : List ℕ) → emptiedOf x t i n b c ≡ emptiedOf y t′ i′ n′ b′ c′
+    → (x ≡ y) × OneReader (x .settings) (y .settings) t i n b c t′ i′ n′ b′ c′
+one-emptied x y t i n b c t′ i′ n′ b′ c′ e =
+    let r : OneReader (x .settings) (y .settings) t i n b c t′ i′ n′ b′ c′ =
+    one-reader (x .settings) (y .settings) t i n b c t′ i′ n′ b′ c′ (ap (λ (z : Handed). z .after .reader) e)
+    in
+    (λ j. record { receiver = e j .after .receiver; settings = r .settings j; refusal = e j .told .refusal }, r)
 
 -- the builder's record and its room
 pub one-build : (x y : Built) (o o′ : List ℕ) → madeOf x o ≡ madeOf y o′ → (x ≡ y) × (o ≡ o′)

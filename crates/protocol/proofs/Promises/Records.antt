@@ -1,5 +1,5 @@
--- How the code's records and the lent memory are read: which field and which list is which part of the reader, of what a call, a line switch
--- and the builder tell, and of what they leave.
+-- How the code's records and the lent memory are read: which field and which list is which part of the reader, of what a call, a line switch,
+-- a receiver and the builder tell, and of what they leave.
 use mathlib.Core.Path.{_≡_, refl}
 use mathlib.Core.List.{List, []}
 use Prim.Native.Nat.{ℕ}
@@ -7,7 +7,9 @@ use Rattle.protocol.specs.declared.Settings.{Settings}
 use Rattle.protocol.specs.declared.Called.{Called}
 use Rattle.protocol.specs.declared.Switched.{Switched}
 use Rattle.protocol.specs.declared.Built.{Built}
-use Rattle.protocol.specs.Records.{transferOf, readerOf, endedOf, switchedOf, madeOf}
+use Rattle.protocol.specs.declared.Received.{Received}
+use Rattle.protocol.specs.declared.Emptied.{Emptied}
+use Rattle.protocol.specs.Records.{transferOf, readerOf, endedOf, switchedOf, receivedOf, emptiedOf, madeOf}
 
 -- settings; templates, index, notepad, buffers 1 and 2. `transferOf` is in Words
 pub reader-is : (s : Settings) (t i n b d : List ℕ) → readerOf s t i n b d
@@ -36,6 +38,19 @@ call-is c t i n b d room = refl
 pub switch-is : (c : Switched) (t i n b d : List ℕ) → switchedOf c t i n b d
     ≡ record { told = record { refusal = c .refusal; used = 0; length = 0; room = [] }; after = readerOf (c .settings) t i n b d }
 switch-is c t i n b d = refl
+
+-- a receiver's call: the bytes taken of the piece are told as used
+pub receive-is : (c : Received) (t i n b d room : List ℕ) → receivedOf c t i n b d room
+    ≡ record {
+      told = record { refusal = c .refusal; used = c .taken; length = c .length; room = room };
+      after = record { reader = readerOf (c .settings) t i n b d; receiver = c .receiver };
+    }
+receive-is c t i n b d room = refl
+
+-- a receiver's line switch
+pub emptied-is : (c : Emptied) (t i n b d : List ℕ) → emptiedOf c t i n b d
+    ≡ record { told = record { refusal = c .refusal; used = 0; length = 0; room = [] }; after = record { reader = readerOf (c .settings) t i n b d; receiver = c .receiver } }
+emptied-is c t i n b d = refl
 
 -- the builder
 pub build-is : (m : Built) (room : List ℕ) → madeOf m room ≡ record { refusal = m .refusal; length = m .length; room = room }

@@ -72,7 +72,7 @@ abbrev pub switch-lines : Reader → List Line
 switch-lines r = unless ((length (r .guarded .buffer1 .bytes) ≡ 512) × (length (r .guarded .buffer2 .bytes) ≡ 512)) 1 ∷ []
 
 module _ (r : Reader) where
-  buffers : T (fitBuffers (r .guarded)) ↔ ((length (r .guarded .buffer1 .bytes) ≡ 512) × (length (r .guarded .buffer2 .bytes) ≡ 512))
+  pub buffers : T (fitBuffers (r .guarded)) ↔ ((length (r .guarded .buffer1 .bytes) ≡ 512) × (length (r .guarded .buffer2 .bytes) ≡ 512))
   unfolding fitBuffers
   buffers = (
     λ t. (eqb→eq (length (r .guarded .buffer1 .bytes)) 512 (search (and-l)), eqb→eq (length (r .guarded .buffer2 .bytes)) 512 (search (and-r))),

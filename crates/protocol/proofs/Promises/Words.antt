@@ -8,7 +8,7 @@ use native.Mathlib.Omega.{arith}
 use lib.Dec.{T, eqb, T-not, not-T}
 use borrow.Author.Tests.{eqb-true, eq-eqb}
 use lib.ListN.{length, getD, take, replicate}
-use Rattle.protocol.specs.Numbers.{pageBytes, leastPages, mostPages, indexBytes, indexPageBytes, notepadBytes, noteBytes, replyRoom, fourBytes, lowestLevel, highestLevel, lowestBaud, highestBaud, highestSize, baudParameter, levelParameter, sizeParameter, verifiedStatus, firstMark, secondMark, headBytes, frameBytes, commandPacket, dataPacket, acknowledgePacket, lastPacket, shortest, longest, done, badPacket, badPage, nothingThere, nothingToSend, transferFailed, badRange, wrongPassword, unknownCommand, badParameter, badValue, badNotePage, passwordFirst, badLength, badRoom, badSetting, badContent, noCount}
+use Rattle.protocol.specs.Numbers.{pageBytes, leastPages, mostPages, indexBytes, indexPageBytes, notepadBytes, noteBytes, replyRoom, fourBytes, lowestLevel, highestLevel, lowestBaud, highestBaud, highestSize, baudParameter, levelParameter, sizeParameter, verifiedStatus, firstMark, secondMark, headBytes, frameBytes, commandPacket, dataPacket, acknowledgePacket, lastPacket, shortest, longest, holds, done, badPacket, badPage, nothingThere, nothingToSend, transferFailed, badRange, wrongPassword, unknownCommand, badParameter, badValue, badNotePage, passwordFirst, badLength, badRoom, badSetting, badContent, noCount}
 use Rattle.protocol.specs.Bytes.{Bytes, two, four, same, lay, joined}
 use Rattle.protocol.specs.Index.{bit, stored, setBits}
 use Rattle.protocol.specs.Reader.{closed, opened, unfit, Plain, Guarded, capacity, sizeOf, keyed, locked, bufferOf, emptied, filledWith, fresh, zeroed}
@@ -30,14 +30,15 @@ pub record Numbers : Type 0 where
   pub ranges : (lowestLevel ∷ highestLevel ∷ lowestBaud ∷ highestBaud ∷ highestSize ∷ []) ≡ (1 ∷ 5 ∷ 1 ∷ 12 ∷ 2 ∷ [])
   pub parameters : (baudParameter ∷ levelParameter ∷ sizeParameter ∷ verifiedStatus ∷ []) ≡ (4 ∷ 5 ∷ 6 ∷ 4 ∷ [])
   pub refusals : (badLength ∷ badRoom ∷ badSetting ∷ badContent ∷ noCount ∷ []) ≡ (1 ∷ 2 ∷ 3 ∷ 4 ∷ 0xffff ∷ [])
-  pub packets : (firstMark ∷ secondMark ∷ headBytes ∷ frameBytes ∷ shortest ∷ longest ∷ []) ≡ (0xef ∷ 0x01 ∷ 9 ∷ 11 ∷ 3 ∷ 256 ∷ [])
+  -- the last is what a receiver holds
+  pub packets : (firstMark ∷ secondMark ∷ headBytes ∷ frameBytes ∷ shortest ∷ longest ∷ holds ∷ []) ≡ (0xef ∷ 0x01 ∷ 9 ∷ 11 ∷ 3 ∷ 256 ∷ 265 ∷ [])
   pub identifiers : (commandPacket ∷ dataPacket ∷ acknowledgePacket ∷ lastPacket ∷ []) ≡ (1 ∷ 2 ∷ 7 ∷ 8 ∷ [])
   pub codes :
       (done ∷ badPacket ∷ badPage ∷ nothingThere ∷ nothingToSend ∷ transferFailed ∷ badRange ∷ wrongPassword ∷ unknownCommand ∷ badParameter ∷ badValue ∷ badNotePage ∷ passwordFirst ∷ [])
       ≡ (0x00 ∷ 0x01 ∷ 0x0b ∷ 0x0c ∷ 0x0d ∷ 0x0e ∷ 0x10 ∷ 0x13 ∷ 0x19 ∷ 0x1a ∷ 0x1b ∷ 0x1c ∷ 0x21 ∷ [])
 
 pub numbers : Numbers
-unfolding highestSize longest
+unfolding highestSize longest holds
 numbers = record { memory = refl; ranges = refl; parameters = refl; refusals = refl; packets = refl; identifiers = refl; codes = refl }
 
 -- ---- lent memory

@@ -24,7 +24,7 @@ pub record UnfinishedPacket (s : List ℕ) : Type 0 where
 abbrev pub Waiting : List ℕ → Type 0
 Waiting s = (s ≡ []) ⊎ (s ≡ 0xef ∷ []) ⊎ UnfinishedPacket s
 
-empty-run : (s : List ℕ) → length s ≡ 0 → s ≡ []
+pub empty-run : (s : List ℕ) → length s ≡ 0 → s ≡ []
 empty-run [] e = refl
 empty-run (b ∷ s) e = absurd (omega arith)
 
@@ -42,13 +42,16 @@ waits (unfinished f l a m) e =
     inr (inr record { starts = rw e at (f .here); short = inr (rw e at a, rw e at m); few = omega (arith, a .most) })
 waits (whole w) e = absurd (omega arith)
 
+pub found-waits : (s : List ℕ) → usedOf (findOf s) ≡ 0 → Waiting s
+found-waits s z = waits (finds s) z
+
 -- 0 bytes used: refused, or one of the three runs
 pub zero-used : (σ : Shape) (r : Reader) (s : List ℕ) (lent : Lent) → callOf σ r s lent .told .used ≡ 0 → (callOf σ r s lent .told .refusal ≢ 0) ⊎ Waiting s
 unfolding callOf callAs refused carried stepOf
 zero-used σ r s lent = go (refusalOf σ r lent)
   where
     go : (k : ℕ) → callAs r s lent k .told .used ≡ 0 → (callAs r s lent k .told .refusal ≢ 0) ⊎ Waiting s
-    go zero z = inr (waits (finds s) z)
+    go zero z = inr (found-waits s z)
     go (suc k) z = inl (λ e. absurd (omega arith))
 
 -- ---- and of those three runs a call that is not refused uses nothing

@@ -1,14 +1,16 @@
--- (why the function is right)
+-- A count above what is held is refused by the lengths alone. Else the reader is called on all held bytes, and refused, or what it left is held.
 use mathlib.Core.Path.{_≡_}
 use lib.ListN.{length}
 use borrow.Author.Needs.{needs}
 use Rattle.protocol.specs.Numbers.{holds, longest}
-use Rattle.receiver.proofs.Cells.{fits-within, fits-long, in-cells, in-run}
+use Rattle.protocol.specs.Receiver.{bytesIn, fitting, runOf}
+use Rattle.receiver.proofs.Cells.{fits-within, fits-long, in-cells, in-run, cells-run, fits-many, rest-held}
 use Rattle.receiver.proofs.Calls.{full, stops, goes, used-within}
 use Rattle.receiver.proofs.receive.Statement.{statement}
 use Rattle.receiver.proofs.receive.Tie as tie
 
-held-long : (s : tie.Start) → length (s .args .receiver .held) ≡ 265
+held-long : (s : tie.Start) → length (s .args .receiver .held) ≡ holds
+unfolding holds longest
 held-long s = search needs
 
 -- places that are far back from the later needs
@@ -20,12 +22,6 @@ laid c = search
 
 unfoldable fitted : tie.After-step → tie.After-lesser
 fitted c = search
-
-unfoldable passed : tie.After-step → tie.Else1
-passed c = search
-
-unfoldable start : tie.After-lesser → tie.Start
-start c = search
 
 cast-count : tie.Need-cast-count
 cast-count c = search needs
@@ -96,28 +92,30 @@ same-length-6 : tie.Need-same-length-6
 same-length-6 c = search needs
 
 returns-2 : tie.Need-returns-2
-unfolding holds longest called fitted passed laid start
+unfolding runOf bytesIn fitting holds longest called laid fitted
 returns-2 c =
-    let f = (let p : tie.After-lesser = search (fitted, called) in p .lesser .ensures) in
-    let m = (let p : tie.Else1 = search (passed, called) in p .if1 .left) in
-    let l = (let p : tie.Start = search (start, fitted, called) in held-long p) in
     let p = (let p : tie.After-put = search (laid, called) in p .put .ensures) in
     let q = (let p : tie.After-step = search called in p .step .ensures) in
     let z = (let p : tie.Then2 = search in p .if2 .taken) in
     let e = (let p : tie.After-received-of2 = search in p .received-of2 .ensures) in
-    stops _ _ _ _ _ _ _ _ _ l m _ f _ p _ _ _ _ _ _ _ q _ z e
+    let a : tie.After-lesser = search (fitted, called) in
+    let f = a .lesser .ensures in
+    let m = (let p : tie.Else1 = search in p .if1 .left) in
+    let l = (let p : tie.Start = search in held-long p) in
+    rw e (stops _ _ _ m _ (cells-run _ _ _ f _ l m _ p) _ q z)
 
 sub-left : tie.Need-sub-left
 unfolding called
 sub-left c =
-    let e = (let p : tie.After-step = search called in p .step .ensures) in
-    used-within _ _ _ _ _ _ _ _ _ _ _ e
+    let q = (let p : tie.After-step = search called in p .step .ensures) in
+    used-within _ _ _ _ _ q
 
 cast-kept : tie.Need-cast-kept
-unfolding called fitted passed
+unfolding called fitted
 cast-kept c =
-    let f = (let p : tie.After-lesser = search (fitted, called) in p .lesser .ensures) in
-    let m = (let p : tie.Else1 = search (passed, called) in p .if1 .left) in
+    let a : tie.After-lesser = search (fitted, called) in
+    let f = a .lesser .ensures in
+    let m = (let p : tie.Else1 = search in p .if1 .left) in
     search needs
 
 slice-aggregate-put-2 : tie.Need-slice-aggregate-put-2
@@ -126,23 +124,24 @@ slice-aggregate-put-2 c = search needs
 sub-put-2 : tie.Need-sub-put-2
 unfolding called
 sub-put-2 c =
-    let e = (let p : tie.After-step = search called in p .step .ensures) in
-    used-within _ _ _ _ _ _ _ _ _ _ _ e
+    let q = (let p : tie.After-step = search called in p .step .ensures) in
+    used-within _ _ _ _ _ q
 
 part-put-start : tie.Need-part-put-start
 unfolding called
 part-put-start c =
-    let e = (let p : tie.After-step = search called in p .step .ensures) in
-    used-within _ _ _ _ _ _ _ _ _ _ _ e
+    let q = (let p : tie.After-step = search called in p .step .ensures) in
+    used-within _ _ _ _ _ q
 
 part-put-end : tie.Need-part-put-end
-unfolding holds longest called fitted passed laid start
+unfolding holds longest called laid fitted
 part-put-end c =
-    let f = (let p : tie.After-lesser = search (fitted, called) in p .lesser .ensures) in
-    let m = (let p : tie.Else1 = search (passed, called) in p .if1 .left) in
-    let l = (let p : tie.Start = search (start, fitted, called) in held-long p) in
     let p = (let p : tie.After-put = search (laid, called) in p .put .ensures) in
-    in-cells _ _ _ _ f l m _ p
+    let a : tie.After-lesser = search (fitted, called) in
+    let f = a .lesser .ensures in
+    let m = (let p : tie.Else1 = search in p .if1 .left) in
+    let l = (let p : tie.Start = search in held-long p) in
+    in-cells _ _ _ f _ l m _ p
 
 put-requires-2 : tie.Need-put-requires-2
 put-requires-2 c κs = search needs
@@ -166,16 +165,18 @@ same-length-12 : tie.Need-same-length-12
 same-length-12 c = search needs
 
 returns-3 : tie.Need-returns-3
-unfolding holds longest called fitted passed laid start
+unfolding runOf bytesIn fitting holds longest called laid fitted
 returns-3 c =
-    let f = (let p : tie.After-lesser = search (fitted, called) in p .lesser .ensures) in
-    let m = (let p : tie.Else1 = search (passed, called) in p .if1 .left) in
-    let l = (let p : tie.Start = search (start, fitted, called) in held-long p) in
     let p = (let p : tie.After-put = search (laid, called) in p .put .ensures) in
     let q = (let p : tie.After-step = search called in p .step .ensures) in
     let z = (let p : tie.Else2 = search in p .if2 .left) in
     let e = (let p : tie.After-put2 = search in p .put2 .ensures) in
-    goes _ _ _ _ _ _ _ _ _ l m _ f _ p _ _ _ _ _ _ _ q _ z e
+    let a : tie.After-lesser = search (fitted, called) in
+    let f = a .lesser .ensures in
+    let m = (let p : tie.Else1 = search in p .if1 .left) in
+    let l = (let p : tie.Start = search in held-long p) in
+    let u = used-within _ _ _ _ _ q in
+    goes _ _ _ m _ (cells-run _ _ _ f _ l m _ p) _ q _ _ z (fits-many _ _ _ f) (rest-held _ _ _ f _ l m _ p _ u _ e)
 
 pub receive-spec : {M : Type 1} → statement M
 receive-spec =

@@ -1,0 +1,35 @@
+// One call of the receiver, with what its caller's loop needs to know of it.
+ghost use Rattle.protocol.specs.Receiver.{line};
+ghost use Rattle.protocol.specs.Records.{readerOf, lentOf, receivedOf};
+ghost use Rattle.bench.specs.Offer.{Offered};
+use protocol::Received;
+use protocol::Receiver;
+use protocol::Settings;
+
+// It takes no more than the piece and writes no more than the room; and a call that is not refused, unless it takes nothing and leaves the held
+// count, brings the end of the piece nearer.
+pub(crate) fn offer(
+    receiver: Receiver,
+    settings: Settings,
+    templates: &mut [u8],
+    index: &mut [u8],
+    notepad: &mut [u8],
+    buffer1: &mut [u8],
+    buffer2: &mut [u8],
+    piece: &[u8],
+    reply: &mut [u8],
+) -> Received
+    ensures { λ r. ⌜ Offered (line (readerOf settings (now (templates .entry)) (now (index .entry)) (now (notepad .entry)) (now (buffer1 .entry)) (now (buffer2 .entry))) receiver) (now (piece .entry)) (lentOf (now (reply .entry))) (receivedOf r (now (templates .exit)) (now (index .exit)) (now (notepad .exit)) (now (buffer1 .exit)) (now (buffer2 .exit)) (now (reply .exit))) ⌝ }
+{
+    receiver::receive(
+        receiver,
+        settings,
+        templates,
+        index,
+        notepad,
+        buffer1,
+        buffer2,
+        piece,
+        reply,
+    )
+}

@@ -1,0 +1,222 @@
+-- Request [1], its caller: "the caller offers the rest, then an empty piece, until a call takes nothing, answers nothing and leaves the held
+-- bytes as they are. After that, the replies in order, the end state and the held bytes must not depend on where a run was cut, as long as
+-- no call is refused and no line switch falls inside it."
+use mathlib.Core.Bool.{Bool}
+use mathlib.Core.Path.{_≡_, refl, sym, ap, _∙_}
+use mathlib.Core.Logic.{inl, inr}
+use mathlib.Core.List.{List, [], _∷_, _++_, append-assoc, append-nil}
+use Prim.Native.Nat.{ℕ, zero, suc, _+_, _-_, _≤_, _<_}
+use native.Mathlib.Omega.{arith}
+use native.Mathlib.Decide.{decLe}
+use lib.Dec.{T, eqb, eqb→eq}
+use lib.ListN.{length, take, drop, length-drop, length-take}
+use lib.Seq.{take-nil}
+use Rattle.protocol.specs.declared.Receiver.{Receiver}
+use Rattle.protocol.specs.Numbers.{holds, longest}
+use Rattle.protocol.specs.Finder.{findOf, usedOf}
+use Rattle.protocol.specs.Reader.{Reader}
+use Rattle.protocol.specs.Step.{stepOf}
+use Rattle.protocol.specs.Call.{Shape, Lent, fitLent, legal, replyOf, carried, callOf}
+use Rattle.protocol.specs.Receiver.{bytesIn, holding, Line, line, Handed, fitting, runOf, handed, receiveOf}
+use Rattle.protocol.specs.Caller.{Try, Ran, replied, offers, served, Rests, resting, atRest, drained}
+use Rattle.protocol.proofs.Laws.Logic.{and-l, and-r}
+use Rattle.protocol.proofs.Laws.Lists.{take-lay, lay-nothing}
+use Rattle.protocol.proofs.Laws.Answers.{call-legal}
+use Rattle.protocol.proofs.Laws.Finder.{used-in}
+use Rattle.protocol.proofs.Laws.Drain.{drained-rest, drained-more, step-rest}
+use Rattle.protocol.proofs.Laws.Holding.{in-holding, all-in, few-fit, length-run, reply-taken, receive-legal, Carried, accepted}
+use Rattle.protocol.proofs.Promises.ZeroUsed.{Waiting, empty-run, found-waits}
+
+-- ---- one call
+
+-- what is taken of a piece, and then all that is left of the run, is the run
+prefix : (k n : ℕ) (s : List ℕ) → take k (take n s) ++ drop (length (take k (take n s))) s ≡ s
+prefix zero n s = refl
+prefix (suc k) zero s = refl
+prefix (suc k) (suc n) [] = refl
+prefix (suc k) (suc n) (x ∷ s) = ap (λ (t : List ℕ). x ∷ t) (prefix k n s)
+
+-- the run of a call, and then all that is left, is the held bytes and the run
+pub run-left : (h : Receiver) (n : ℕ) (s : List ℕ) → runOf h (take n s) ++ drop (length (fitting h (take n s))) s ≡ bytesIn h ++ s
+unfolding runOf fitting
+run-left h n s =
+    let c : List ℕ = take (holds - h .count) (take n s) in
+    append-assoc (bytesIn h) c (drop (length c) s) ∙ ap (λ (z : List ℕ). bytesIn h ++ z) (prefix (holds - h .count) n s)
+
+pub fits-nil : (h : Receiver) → fitting h [] ≡ []
+unfolding fitting
+fits-nil h = take-nil (holds - h .count)
+
+-- of a piece of which nothing fits, nothing is new: the held bytes are the run
+pub run-same : (h : Receiver) (piece : List ℕ) → fitting h piece ≡ [] → runOf h piece ≡ bytesIn h
+unfolding runOf
+run-same h piece e = rw e (append-nil (bytesIn h))
+
+module _ (σ : Shape) (x : Line) (piece : List ℕ) (lent : Lent) where
+  -- where nothing fits and nothing is used, nothing happens, but that cells past the count are zeroed
+  pub idle : T (legal σ (x .reader)) → T (fitLent lent) → x .receiver .count ≤ holds → fitting (x .receiver) piece ≡ [] → usedOf (findOf (bytesIn (x .receiver))) ≡ 0
+      → receiveOf σ x piece lent ≡ record { told = record { refusal = 0; used = 0; length = 0; room = lent .room }; after = line (x .reader) (holding (bytesIn (x .receiver))) }
+  unfolding handed carried
+  idle t u l e z =
+      rw (receive-legal σ x piece lent t u l, run-same (x .receiver) piece e, step-rest (x .reader) (bytesIn (x .receiver)) z, e, lay-nothing 0 (lent .room)) refl
+
+  module _ (e : receiveOf σ x piece lent .told .refusal ≡ 0) where
+    -- what a call leaves of the held bytes
+    pub count-after : receiveOf σ x piece lent .after .receiver .count ≡ length (runOf (x .receiver) piece) - usedOf (findOf (runOf (x .receiver) piece))
+    unfolding handed carried stepOf holding
+    count-after = rw (accepted σ x piece lent e .does) (length-drop (usedOf (findOf (runOf (x .receiver) piece))) (runOf (x .receiver) piece))
+
+    pub took-is : receiveOf σ x piece lent .told .used ≡ length (fitting (x .receiver) piece)
+    unfolding handed
+    took-is = ap (λ (o : Handed). o .told .used) (accepted σ x piece lent e .does)
+
+    pub bytes-after : bytesIn (receiveOf σ x piece lent .after .receiver) ≡ drop (usedOf (findOf (runOf (x .receiver) piece))) (runOf (x .receiver) piece)
+    unfolding handed carried stepOf
+    bytes-after = rw (accepted σ x piece lent e .does) (in-holding (drop (usedOf (findOf (runOf (x .receiver) piece))) (runOf (x .receiver) piece)))
+
+-- ---- the calls of a caller are the drain of the held bytes and the run
+
+-- the replies so far, and then what is still to come
+ends : Ran → Ran
+ends d =
+    let e = drained (d .after .reader) (bytesIn (d .after .receiver) ++ d .left) in
+    record { replies = d .replies ++ e .replies; after = e .after; left = e .left }
+
+replied-ends : (a : List ℕ) (d : Ran) → replied a (ends d) ≡ ends (replied a d)
+unfolding replied ends
+replied-ends [] d = refl
+replied-ends (b ∷ a) d = refl
+
+module _ (σ : Shape) where
+  -- one call, not refused
+  pub offered : (x : Line) (n : ℕ) (s : List ℕ) (lent : Lent) → receiveOf σ x (take n s) lent .told .refusal ≡ 0
+      → drained (x .reader) (bytesIn (x .receiver) ++ s)
+      ≡ replied (replyOf (receiveOf σ x (take n s) lent .told))
+      (drained (receiveOf σ x (take n s) lent .after .reader) (bytesIn (receiveOf σ x (take n s) lent .after .receiver) ++ drop (receiveOf σ x (take n s) lent .told .used) s))
+  unfolding handed carried stepOf
+  offered x n s lent e =
+      let r : Reader = x .reader in
+      let c : List ℕ = fitting (x .receiver) (take n s) in
+      let run : List ℕ = runOf (x .receiver) (take n s) in
+      rw (accepted σ x (take n s) lent e .does, reply-taken x (take n s) lent, in-holding (drop (usedOf (findOf run)) run))
+      (ap (drained r) (sym (run-left (x .receiver) n s)) ∙ drained-more r run (drop (length c) s))
+
+  offers-drain : (ts : List Try) (x : Line) (s : List ℕ) → T (served σ ts x s) → drained (x .reader) (bytesIn (x .receiver) ++ s) ≡ ends (offers σ ts x s)
+  unfolding offers served ends
+  offers-drain [] x s t = refl
+  offers-drain (c ∷ ts) x s t =
+      let o : Handed = receiveOf σ x (take (c .size) s) (c .lent) in
+      let more : Bool = served σ ts (o .after) (drop (o .told .used) s) in
+      offered x (c .size) s (c .lent) (eqb→eq (o .told .refusal) 0 (and-l (eqb (o .told .refusal) 0) more t))
+      ∙ ap (replied (replyOf (o .told))) (offers-drain ts (o .after) (drop (o .told .used) s) (and-r (eqb (o .told .refusal) 0) more t))
+      ∙ replied-ends (replyOf (o .told)) (offers σ ts (o .after) (drop (o .told .used) s))
+
+  -- held bytes that stay as they are: none of them were used
+  unused : (u : ℕ) (h : List ℕ) → u ≤ length h → drop u h ≡ h → u ≡ 0
+  unused u h l e = let d : length (drop u h) ≡ length h = ap (λ (y : List ℕ). length y) e in omega (arith, length-drop u h)
+
+  rest-used : (x : Line) (lent : Lent) → receiveOf σ x [] lent .told .refusal ≡ 0 → bytesIn (receiveOf σ x [] lent .after .receiver) ≡ bytesIn (x .receiver)
+      → usedOf (findOf (bytesIn (x .receiver))) ≡ 0
+  rest-used x lent e k =
+      let b : List ℕ = bytesIn (x .receiver) in
+      let same : runOf (x .receiver) [] ≡ b = run-same (x .receiver) [] (fits-nil (x .receiver)) in
+      let k′ : drop (usedOf (findOf (runOf (x .receiver) []))) (runOf (x .receiver) []) ≡ b = sym (bytes-after σ x [] lent e) ∙ k in
+      unused (usedOf (findOf b)) b (used-in b) (rw same at k′)
+
+  rests-ends : (d : Ran) (lent : Lent) → Rests σ d lent → resting σ d lent ≡ ends d
+  unfolding resting ends atRest
+  rests-ends d lent f =
+      let x : Line = d .after in
+      let c : Carried σ x [] lent = accepted σ x [] lent (f .accepted) in
+      let z : usedOf (findOf (bytesIn (x .receiver))) ≡ 0 = rest-used x lent (f .accepted) (f .leaves) in
+      rw (idle σ x [] lent (c .legal) (c .roomy) (c .few) (fits-nil (x .receiver)) z, f .all, append-nil (bytesIn (x .receiver)), drained-rest (x .reader) (bytesIn (x .receiver)) z, append-nil (d .replies))
+      refl
+
+  -- what any caller comes to: document 01's call, again and again, on the held bytes and the run joined
+  pub rests-drained : (ts : List Try) (x : Line) (s : List ℕ) (lent : Lent) → T (served σ ts x s) → Rests σ (offers σ ts x s) lent
+      → resting σ (offers σ ts x s) lent ≡ drained (x .reader) (bytesIn (x .receiver) ++ s)
+  rests-drained ts x s lent t f = rests-ends (offers σ ts x s) lent f ∙ sym (offers-drain ts x s t)
+
+  -- each step of the drain is that call: its bytes used, its reply and its reader after it
+  pub drains-by-call : (r : Reader) (s : List ℕ) (lent : Lent) → T (legal σ r) → T (fitLent lent)
+      → (callOf σ r s lent .told .used ≡ usedOf (findOf s)) × ((replyOf (callOf σ r s lent .told) ≡ stepOf r s .reply) × (callOf σ r s lent .after ≡ stepOf r s .after))
+  unfolding carried replyOf stepOf
+  drains-by-call r s lent f u = rw (call-legal σ r s lent f u) (refl, (take-lay (stepOf r s .reply) (lent .room), refl))
+
+  -- WHERE A RUN WAS CUT DOES NOT MATTER: two ways to offer it, no call refused, both through to rest; the same replies in order, the same reader,
+  -- the same held bytes, and the same cells
+  pub cut-free : (x : Line) (s : List ℕ) (ts us : List Try) (one other : Lent) → T (served σ ts x s) → T (served σ us x s)
+      → Rests σ (offers σ ts x s) one → Rests σ (offers σ us x s) other → resting σ (offers σ ts x s) one ≡ resting σ (offers σ us x s) other
+  cut-free x s ts us one other t u f g = rests-drained ts x s one t f ∙ sym (rests-drained us x s other u g)
+
+  -- ---- 265 cells are enough: a full receiver drops something, and a call that is offered a byte takes or drops one
+
+  waits-few : (s : List ℕ) → usedOf (findOf s) ≡ 0 → length s < 265
+  waits-few s z = go (found-waits s z)
+    where
+      go : Waiting s → length s < 265
+      go (inl e) = let m : length s ≡ 0 = ap (λ (y : List ℕ). length y) e in omega arith
+      go (inr (inl e)) = let m : length s ≡ 1 = ap (λ (y : List ℕ). length y) e in omega arith
+      go (inr (inr w)) = omega (arith, w .few)
+
+  -- of a piece that has a byte, nothing fits: the receiver is full
+  pub none-fits : (h : Receiver) (piece : List ℕ) → h .count ≤ 265 → 1 ≤ length piece → length (fitting h piece) ≡ 0 → h .count ≡ 265
+  unfolding fitting holds longest
+  none-fits h piece l m e = omega (arith, length-take (265 - h .count) piece)
+
+  module _ (x : Line) (piece : List ℕ) (lent : Lent) (z : length (x .receiver .held) ≡ 265) (e : receiveOf σ x piece lent .told .refusal ≡ 0) where
+    few : x .receiver .count ≤ 265
+    unfolding holds longest
+    few = accepted σ x piece lent e .few
+
+    pub length-held : length (runOf (x .receiver) piece) ≡ x .receiver .count + length (fitting (x .receiver) piece)
+    unfolding holds longest
+    length-held = omega (arith, length-run (x .receiver) piece, all-in (x .receiver) z few)
+
+    -- a full receiver always drops something
+    pub full-drops : x .receiver .count ≡ 265 → receiveOf σ x piece lent .after .receiver .count < 265
+    unfolding holds longest
+    full-drops full =
+        let long : length (runOf (x .receiver) piece) ≡ 265 = omega (arith, length-held, few-fit (x .receiver) piece) in
+        go (decLe 1 (usedOf (findOf (runOf (x .receiver) piece)))) long
+      where
+        go : Dec (1 ≤ usedOf (findOf (runOf (x .receiver) piece))) → length (runOf (x .receiver) piece) ≡ 265 → receiveOf σ x piece lent .after .receiver .count < 265
+        go (yes h) long = omega (arith, count-after σ x piece lent e)
+        go (no h) long = let u : usedOf (findOf (runOf (x .receiver) piece)) ≡ 0 = omega arith in absurd (omega (arith, waits-few (runOf (x .receiver) piece) u))
+
+    -- how a caller sees the end by two numbers: a call that takes nothing and leaves the held count
+    module _ (k : receiveOf σ x piece lent .told .used ≡ 0) (same : receiveOf σ x piece lent .after .receiver .count ≡ x .receiver .count) where
+      none : fitting (x .receiver) piece ≡ []
+      none = empty-run (fitting (x .receiver) piece) (sym (took-is σ x piece lent e) ∙ k)
+
+      still : usedOf (findOf (bytesIn (x .receiver))) ≡ 0
+      still =
+          let run : List ℕ = runOf (x .receiver) piece in
+          let f : length (fitting (x .receiver) piece) ≡ 0 = ap (λ (y : List ℕ). length y) none in
+          let z : usedOf (findOf run) ≡ 0 = omega (arith, count-after σ x piece lent e, length-held, same, used-in run) in
+          ap (λ (y : List ℕ). usedOf (findOf y)) (sym (run-same (x .receiver) piece none)) ∙ z
+
+      does : receiveOf σ x piece lent ≡ record { told = record { refusal = 0; used = 0; length = 0; room = lent .room }; after = line (x .reader) (holding (bytesIn (x .receiver))) }
+      does = let c : Carried σ x piece lent = accepted σ x piece lent e in idle σ x piece lent (c .legal) (c .roomy) (c .few) none still
+
+      -- it was offered nothing
+      pub offers-nothing : piece ≡ []
+      offers-nothing = empty-run piece (go (decLe 1 (length piece)))
+        where
+          go : Dec (1 ≤ length piece) → length piece ≡ 0
+          go (yes h) =
+              let full : x .receiver .count ≡ 265 = none-fits (x .receiver) piece few h (ap (λ (y : List ℕ). length y) none) in
+              absurd (omega (arith, full-drops full))
+          go (no h) = omega arith
+
+      -- answers nothing, and leaves the held bytes
+      pub answers-nothing : receiveOf σ x piece lent .told .length ≡ 0
+      answers-nothing = ap (λ (o : Handed). o .told .length) does
+
+      pub leaves-held : bytesIn (receiveOf σ x piece lent .after .receiver) ≡ bytesIn (x .receiver)
+      leaves-held = ap (λ (o : Handed). bytesIn (o .after .receiver)) does ∙ in-holding (bytesIn (x .receiver))
+
+      -- so it is the last call
+      pub all-drained : receiveOf σ x piece lent .after ≡ drained (x .reader) (bytesIn (x .receiver) ++ piece) .after
+      unfolding atRest
+      all-drained = rw (does, offers-nothing, append-nil (bytesIn (x .receiver)), drained-rest (x .reader) (bytesIn (x .receiver)) still) refl

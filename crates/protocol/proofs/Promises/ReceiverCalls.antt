@@ -1,0 +1,130 @@
+-- A receiver's pieces are document 01's calls on its held bytes: so what is promised of any sequence of calls is promised of pieces.
+use mathlib.Core.Bool.{Bool, true, false, cond}
+use mathlib.Core.Path.{_≡_, refl, sym, ap, _∙_, subst}
+use mathlib.Core.List.{List, [], _∷_}
+use Prim.Native.Nat.{ℕ, zero, suc, _*_, _≤_}
+use native.Mathlib.Omega.{arith}
+use lib.Dec.{leb, le→leb}
+use lib.ListN.{length, length-drop}
+use Rattle.protocol.specs.Numbers.{holds, longest}
+use Rattle.protocol.specs.Bytes.{zeros}
+use Rattle.protocol.specs.Index.{setBits}
+use Rattle.protocol.specs.Reader.{Reader}
+use Rattle.protocol.specs.Step.{stepOf}
+use Rattle.protocol.specs.Call.{Shape, Lent, Ended, carried, callOf, switchOf}
+use Rattle.protocol.specs.Dialogue.{Event, received, switch, on, finally, Dialogue, over, first, dialogue}
+use Rattle.protocol.specs.Receiver.{holding, Line, Handed, runOf, handed, receiveOf, lineSwitchOf}
+use Rattle.protocol.specs.Caller.{onLine, finallyOn, runs, Talk, endsAt, begins, talk}
+use Rattle.protocol.proofs.Laws.Logic.{T→true}
+use Rattle.protocol.proofs.Laws.Answers.{switch-stays}
+use Rattle.protocol.proofs.Laws.Holding.{few-held, handedBy, receive-kinds, receive-call, switch-tells, switch-kinds}
+use Rattle.protocol.proofs.Promises.StaysLegal.{Legal}
+use Rattle.protocol.proofs.Promises.ReplyFits.{reply-fits}
+use Rattle.protocol.proofs.Promises.ValidCount.{livePages, valid-count}
+
+-- ---- one call
+
+-- a receiver's call o has the refusal, the reply, its room and the reader after it of document 01's call e on all held bytes, refused or not
+pub record AsCall (e : Ended) (o : Handed) : Type 0 where
+  pub refusal : o .told .refusal ≡ e .told .refusal
+  pub length : o .told .length ≡ e .told .length
+  pub room : o .told .room ≡ e .told .room
+  pub reader : o .after .reader ≡ e .after
+
+as-handed : (x : Line) (piece : List ℕ) (e : Ended) (k : ℕ) → e .told .refusal ≡ k → AsCall e (handedBy x piece e k)
+unfolding handed
+as-handed x piece e zero z = record { refusal = sym z; length = refl; room = refl; reader = refl }
+as-handed x piece e (suc k) z = record { refusal = refl; length = refl; room = refl; reader = refl }
+
+module _ (σ : Shape) (x : Line) (few : x .receiver .count ≤ 265) (piece : List ℕ) (lent : Lent) where
+  pub as-call : AsCall (callOf σ (x .reader) (runOf (x .receiver) piece) lent) (receiveOf σ x piece lent)
+  unfolding holds longest
+  as-call =
+      let e : Ended = callOf σ (x .reader) (runOf (x .receiver) piece) lent in
+      rw (receive-call σ x piece lent (T→true (leb (x .receiver .count) 265) (le→leb (x .receiver .count) 265 few))) (as-handed x piece e (e .told .refusal) refl)
+
+  -- and no more is held than the cells have
+  pub stays-few : receiveOf σ x piece lent .after .receiver .count ≤ 265
+  unfolding handed carried holding holds longest
+  stays-few =
+      receive-kinds σ x piece lent (λ (o : Handed). o .after .receiver .count ≤ 265) (λ k. few)
+      (λ t u l.
+      let run : List ℕ = runOf (x .receiver) piece in
+      omega (arith, length-drop (stepOf (x .reader) run .used) run, few-held (x .receiver) piece l))
+
+module _ (x : Line) where
+  switch-few : x .receiver .count ≤ 265 → lineSwitchOf x .after .receiver .count ≤ 265
+  unfolding holding
+  switch-few few = switch-kinds x (λ (o : Handed). o .after .receiver .count ≤ 265) (λ k e. few) (λ e. omega arith)
+
+  switch-reader : lineSwitchOf x .after .reader ≡ switchOf (x .reader) .after
+  switch-reader =
+      switch-kinds x (λ (o : Handed). o .after .reader ≡ switchOf (x .reader) .after)
+      (λ k e. sym (switch-stays (x .reader) (λ z. let t = switch-tells (x .reader) in absurd (omega arith)))) (λ e. refl)
+
+-- ---- any sequence of pieces and line switches
+
+pub as-calls : (σ : Shape) (es : List Event) (x : Line) → x .receiver .count ≤ 265 → finallyOn σ x es .reader ≡ finally σ (x .reader) (runs σ x es)
+unfolding finallyOn onLine runs finally on
+as-calls σ [] x few = refl
+as-calls σ (received piece lent ∷ es) x few =
+    let y : Line = receiveOf σ x piece lent .after in
+    as-calls σ es y (stays-few σ x few piece lent) ∙ ap (λ (r : Reader). finally σ r (runs σ y es)) (as-call σ x few piece lent .reader)
+as-calls σ (switch ∷ es) x few =
+    let y : Line = lineSwitchOf x .after in
+    as-calls σ es y (switch-few x few) ∙ ap (λ (r : Reader). finally σ r (runs σ y es)) (switch-reader x)
+
+-- up to and including the first accepted password too: a talk goes as far as the dialogue of its runs, so `course` says where it stops
+pub record AsDialogue (σ : Shape) (x : Line) (d : Talk) (e : Dialogue) : Type 0 where
+  pub events : runs σ x (d .events) ≡ e .events
+  pub last : d .last .reader ≡ e .last
+
+pub as-dialogue : (σ : Shape) (es : List Event) (x : Line) → x .receiver .count ≤ 265 → AsDialogue σ x (talk σ x es) (dialogue σ (x .reader) (runs σ x es))
+unfolding talk onLine endsAt begins runs dialogue on over first
+as-dialogue σ [] x few = record { events = refl; last = refl }
+as-dialogue σ (received piece lent ∷ es) x few =
+    subst (AsDialogue σ x (talk σ x (received piece lent ∷ es))) here (go (o .after .reader .plain .verified) (as-dialogue σ es (o .after) (stays-few σ x few piece lent)))
+  where
+    o : Handed
+    o = receiveOf σ x piece lent
+
+    run : Event
+    run = received (runOf (x .receiver) piece) lent
+
+    rest : Bool → Reader → Dialogue
+    rest b r = first run (callOf σ (x .reader) (runOf (x .receiver) piece) lent .told) (cond b (over r) (dialogue σ r (runs σ (o .after) es)))
+
+    here : rest (o .after .reader .plain .verified) (o .after .reader) ≡ dialogue σ (x .reader) (run ∷ runs σ (o .after) es)
+    here = ap (λ (r : Reader). rest (r .plain .verified) r) (as-call σ x few piece lent .reader)
+
+    go : (b : Bool) → AsDialogue σ (o .after) (talk σ (o .after) es) (dialogue σ (o .after .reader) (runs σ (o .after) es))
+        → AsDialogue σ x (begins (received piece lent) (o .told) (cond b (endsAt (o .after)) (talk σ (o .after) es))) (rest b (o .after .reader))
+    go true i = record { events = refl; last = refl }
+    go false i = record { events = ap (λ (y : List Event). run ∷ y) (i .events); last = i .last }
+as-dialogue σ (switch ∷ es) x few =
+    subst (AsDialogue σ x (talk σ x (switch ∷ es))) here (go (o .after .reader .plain .verified) (as-dialogue σ es (o .after) (switch-few x few)))
+  where
+    o : Handed
+    o = lineSwitchOf x
+
+    rest : Bool → Reader → Dialogue
+    rest b r = first switch (switchOf (x .reader) .told) (cond b (over r) (dialogue σ r (runs σ (o .after) es)))
+
+    here : rest (o .after .reader .plain .verified) (o .after .reader) ≡ dialogue σ (x .reader) (switch ∷ runs σ (o .after) es)
+    here = ap (λ (r : Reader). rest (r .plain .verified) r) (switch-reader x)
+
+    go : (b : Bool) → AsDialogue σ (o .after) (talk σ (o .after) es) (dialogue σ (o .after .reader) (runs σ (o .after) es))
+        → AsDialogue σ x (begins switch (o .told) (cond b (endsAt (o .after)) (talk σ (o .after) es))) (rest b (o .after .reader))
+    go true i = record { events = refl; last = refl }
+    go false i = record { events = ap (λ (y : List Event). switch ∷ y) (i .events); last = i .last }
+
+-- demand 2's valid count, of the runs that were held and the replies to them
+pub line-count : (σ : Shape) (ok : σ .most ≤ 8 * σ .indexed) (x : Line) → x .receiver .count ≤ 265 → x .reader .guarded .index ≡ zeros (σ .indexed) → (es : List Event)
+    → setBits (finallyOn σ x es .reader .guarded .index) ≡ livePages σ ok (x .reader) (runs σ x es)
+line-count σ ok x few z es =
+    ap (λ (r : Reader). setBits (r .guarded .index)) (as-calls σ es x few) ∙ valid-count σ ok (x .reader) z (runs σ x es)
+
+-- the reply never exceeds the reply room that is asked for
+pub line-fits : (σ : Shape) (ok : σ .most ≤ 8 * σ .indexed) (x : Line) → x .receiver .count ≤ 265 → Legal σ ok (x .reader) → (piece : List ℕ) (lent : Lent)
+    → receiveOf σ x piece lent .told .length ≤ 700
+line-fits σ ok x few l piece lent = rw (as-call σ x few piece lent .length) (reply-fits σ ok (x .reader) l (runOf (x .receiver) piece) lent)

@@ -1,0 +1,245 @@
+//! Cases of the receiver: single calls, a call for each length of a piece and each held count, and the caller of
+//! document 02's request [1].
+
+use crate::cases::{Author, Event};
+use crate::chance::Chance;
+use crate::frame::{Outcome, Request};
+use crate::reader::*;
+use crate::readers::{any_legal_reader, legal_reader, spoiled_reader};
+use crate::receiver::{given_whole, Receiver, Rest, HOLDS};
+use crate::templates;
+use std::collections::VecDeque;
+
+/// The pieces of the single calls have every length up to this one.
+pub const MOST_PIECE: usize = 300;
+/// So many single calls are made with each length of a piece, and at least so many with each held count.
+const ROUNDS: usize = 3;
+
+/// One call or line switch of a receiver with any held count, and of a reader that is legal or spoiled.
+pub fn single(mut chance: Chance) -> Request {
+    let (reader, room) = spoiled_reader(&mut chance);
+    let count = any_count(&mut chance);
+    let length = chance.within(0, MOST_PIECE);
+    let (receiver, run) = offered(&mut chance, &reader, count, length);
+    Request { line_switch: chance.percent(25), receiver: Some(receiver), reader, run, room }
+}
+
+/// Calls of legal readers, with pieces of every length and with every legal held count.
+pub fn every_length(seed: u64) -> impl Iterator<Item = Request> {
+    (0..ROUNDS * (MOST_PIECE + 1)).map(move |place| {
+        let mut chance = Chance::new(seed, place as u64);
+        let capacity = chance.within(1, 4);
+        let reader = legal_reader(&mut chance, capacity);
+        // 5 and 266 have no factor in common, so that every count has its turn.
+        let (receiver, run) = offered(&mut chance, &reader, 5 * place % (HOLDS + 1), place % (MOST_PIECE + 1));
+        let room = chance.bytes(ROOM);
+        Request { line_switch: false, receiver: Some(receiver), reader, run, room }
+    })
+}
+
+fn any_count(chance: &mut Chance) -> usize {
+    let (few, legal, beyond) = (chance.below(24), chance.within(0, HOLDS), chance.within(HOLDS + 1, 0xFFFF));
+    match chance.below(10) {
+        0..=2 => few,
+        3 | 4 => legal,
+        5 => chance.pick(&[0, 1, HOLDS - 1, HOLDS]),
+        6 => HOLDS,
+        7 | 8 => chance.pick(&[HOLDS + 1, HOLDS + 1, HOLDS + 2, MOST_PIECE, 512, 0x8000, 0xFFFF]),
+        _ => beyond,
+    }
+}
+
+/// A receiver that holds so many bytes, and a piece of this length that goes on behind them.
+fn offered(chance: &mut Chance, reader: &Reader, count: usize, length: usize) -> (Receiver, Vec<u8>) {
+    let held = count.min(HOLDS);
+    let sent = sent(&mut Author { chance, reader }, held + length.max(HOLDS));
+    let past = match chance.below(4) {
+        0 => vec![0; HOLDS - held],
+        1 => vec![chance.byte() | 1; HOLDS - held],
+        2 => chance.bytes(HOLDS - held),
+        _ => sent[held..HOLDS].to_vec(),
+    };
+    let mut receiver = Receiver::holding(&[&sent[..held], &past].concat());
+    receiver.count = count as u16;
+    (receiver, sent[held..held + length].to_vec())
+}
+
+/// So many bytes as a host sends them, at times from a lone EF or from a header at the limits on.
+fn sent(author: &mut Author, length: usize) -> Vec<u8> {
+    let mut sent = match author.chance.below(8) {
+        0 => vec![0xEF],
+        1 => author.header(),
+        2 => longest(author),
+        _ => Vec::new(),
+    };
+    while sent.len() < length {
+        sent.extend(author.run());
+    }
+    sent.truncate(length);
+    sent
+}
+
+/// A packet of as many bytes as a receiver holds, or one byte less.
+fn longest(author: &mut Author) -> Vec<u8> {
+    let length = HOLDS - 11 - author.chance.below(2);
+    let content = author.data(length);
+    let identifier = author.chance.pick(&[COMMAND, DATA, ACKNOWLEDGE, LAST_DATA]);
+    author.packet(identifier, &content)
+}
+
+/// The caller of the request: it offers a piece and then the rest of it, then an empty piece, until a call takes
+/// nothing, answers nothing and leaves the held bytes as they are.
+pub struct Caller {
+    chance: Chance,
+    reader: Reader,
+    receiver: Receiver,
+    /// What comes in, piece by piece.
+    events: VecDeque<Event>,
+    /// What was not taken yet of the piece.
+    rest: Vec<u8>,
+    at_rest: bool,
+    /// Whether the next piece may come in before the caller is at rest.
+    hasty: bool,
+    /// The longest piece.
+    most: usize,
+    scenes: usize,
+    stretch: Stretch,
+}
+
+/// What happened since the start or the last line switch.
+struct Stretch {
+    /// The reader at the start of it.
+    start: Reader,
+    /// All bytes that came in.
+    run: Vec<u8>,
+    /// All replies in order.
+    replies: Vec<u8>,
+}
+
+impl Caller {
+    /// A caller with a legal reader of a few pages and scenes by chance.
+    pub fn new(mut chance: Chance) -> Caller {
+        let capacity = chance.within(1, 12);
+        let reader = any_legal_reader(&mut chance, capacity);
+        let hasty = chance.percent(50);
+        let most = chance.pick(&[12, 60, 60, 60, 60, MOST_PIECE, MOST_PIECE, 1000]);
+        let scenes = chance.within(1, 3);
+        Caller { hasty, most, scenes, ..Caller::with(chance, reader, &[]) }
+    }
+
+    /// A caller with these pieces.
+    fn with(chance: Chance, reader: Reader, pieces: &[&[u8]]) -> Caller {
+        Caller {
+            chance,
+            receiver: Receiver::empty(),
+            events: pieces.iter().map(|piece| Event::Bytes(piece.to_vec())).collect(),
+            rest: Vec::new(),
+            at_rest: true,
+            hasty: false,
+            most: 0,
+            scenes: 0,
+            stretch: Stretch::from(&reader),
+            reader,
+        }
+    }
+
+    /// The next call or line switch; none when all has come in.
+    pub fn next(&mut self) -> Option<Request> {
+        let mut line_switch = false;
+        if self.at_rest || self.hurries() {
+            while self.events.is_empty() {
+                self.next_scene()?;
+            }
+            match self.events.pop_front()? {
+                Event::Bytes(piece) => {
+                    self.stretch.run.extend(&piece);
+                    self.rest = piece;
+                }
+                Event::LineSwitch => line_switch = true,
+            }
+        }
+        let (receiver, reader, run) = (Some(self.receiver.clone()), self.reader.clone(), self.rest.clone());
+        Some(Request { line_switch, receiver, reader, run, room: self.chance.bytes(ROOM) })
+    }
+
+    /// Whether the next piece is offered though the caller is not at rest.
+    fn hurries(&mut self) -> bool {
+        let next = matches!(self.events.front(), Some(Event::Bytes(_)));
+        self.hasty && next && self.rest.is_empty() && self.chance.percent(50)
+    }
+
+    /// Goes on from where the answer left reader and receiver.
+    pub fn go_on(&mut self, request: &Request, outcome: Outcome) {
+        self.at_rest = request.line_switch || outcome.at_rest(request);
+        self.rest.drain(..outcome.answer.used);
+        self.stretch.replies.extend(&outcome.room[..outcome.answer.length]);
+        self.reader = outcome.reader;
+        self.receiver = outcome.receiver.unwrap_or_else(Receiver::empty);
+        if request.line_switch {
+            self.stretch = Stretch::from(&self.reader);
+        }
+    }
+
+    /// Whether the caller, if it is at rest, has come to what the same run comes to when it is given whole.
+    pub fn as_given_whole(&self) -> bool {
+        let Stretch { start, run, replies } = &self.stretch;
+        let left = self.receiver.held().to_vec();
+        let here = Rest { reader: self.reader.clone(), replies: replies.clone(), left };
+        !self.at_rest || here == given_whole(start.clone(), run)
+    }
+
+    fn next_scene(&mut self) -> Option<()> {
+        self.scenes = self.scenes.checked_sub(1)?;
+        for event in (Author { chance: &mut self.chance, reader: &self.reader }).scene() {
+            match event {
+                Event::Bytes(bytes) => self.cut(&bytes),
+                Event::LineSwitch => self.events.push_back(Event::LineSwitch),
+            }
+        }
+        Some(())
+    }
+
+    /// Lets bytes come in by pieces of any length, the empty one too, at times with a line switch behind a piece.
+    fn cut(&mut self, mut bytes: &[u8]) {
+        while !bytes.is_empty() {
+            let (piece, more) = bytes.split_at(self.chance.within(0, self.most).min(bytes.len()));
+            self.events.push_back(Event::Bytes(piece.to_vec()));
+            if self.chance.percent(2) {
+                self.events.push_back(Event::LineSwitch);
+            }
+            bytes = more;
+        }
+    }
+}
+
+impl Stretch {
+    fn from(start: &Reader) -> Stretch {
+        Stretch { start: start.clone(), run: Vec::new(), replies: Vec::new() }
+    }
+}
+
+/// Callers with a download and an upload at each size, in two pieces, cut at every place.
+pub fn cut_transfers(seed: u64) -> impl Iterator<Item = Caller> {
+    let chance = move |size_code: u8| Chance::new(seed, size_code.into());
+    SIZE_CODES.flat_map(move |size_code| {
+        let mut reader = legal_reader(&mut chance(size_code), 1);
+        reader.settings = Settings { size_code, ..Settings::fresh() };
+        let run = transfer(&Author { chance: &mut chance(size_code), reader: &reader });
+        (0..=run.len()).map(move |place| {
+            let (one, other) = run.split_at(place);
+            Caller::with(chance(size_code), reader.clone(), &[one, other])
+        })
+    })
+}
+
+/// DownChar, the data packets, and UpChar of the same buffer.
+fn transfer(author: &Author) -> Vec<u8> {
+    let size = author.reader.settings.size();
+    let mut run = author.packet(COMMAND, &[DOWN_CHAR, 1]);
+    for (place, part) in templates::first().chunks(size).enumerate() {
+        let last = (place + 1) * size == PAGE;
+        run.extend(author.packet(if last { LAST_DATA } else { DATA }, part));
+    }
+    run.extend(author.packet(COMMAND, &[UP_CHAR, 1]));
+    run
+}
