@@ -23,6 +23,7 @@
  *     own over what is stored. Fresh settings have no password: do not fall back to them where the memory has templates.
  *   A loop. Read what the port has, a piece of any length, and offer it until a call takes nothing and leaves the held count:
  *     then all is taken, nothing was answered, and there is nothing left to do. How the bytes were cut makes no difference.
+ *     MEMORY stands for the arguments from templates to buffer2_length.
  *         do {
  *             held = line.receiver.count;
  *             r = bystrodol_receive(&line, MEMORY, piece, length, reply, sizeof reply);
