@@ -13,7 +13,7 @@
 
 enum { PAGES = 4, MOST = BYSTRODOL_HELD_MOST, LONGEST_PIECE = 300, RUN_ROOM = 4096, REPLIES_ROOM = 8192 };
 
-/* A reader, and what is behind it: the same for a receiver's call and for one without. */
+/* A reader with its memory and its reply room. */
 struct reader {
     struct bystrodol_line line;
     uint8_t templates[PAGES * BYSTRODOL_PAGE_BYTES];
