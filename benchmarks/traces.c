@@ -91,7 +91,7 @@ enum call {
     NO_CALL
 };
 
-/* The calls that one pair gets before the right password; the next pairs of its kind get others. */
+/* The calls that one pair gets before the right password: six rounds are all calls. */
 enum { CALLS_EACH = (LOCKED_CALLS + 5) / 6 };
 
 static void append_command(struct command command, enum shape shape) {
@@ -213,7 +213,7 @@ static int paths_differ(enum call call) {
     return 0;
 }
 
-/* Some of the calls with a line switch among them, and then the right password. The first call whose paths differ. */
+/* A round's calls with a line switch among them, and then the right password. The first call whose paths differ. */
 static enum call first_difference(size_t round) {
     for (size_t i = 0; i < CALLS_EACH; i++) {
         if (i == CALLS_EACH / 2 && paths_differ(LINE_SWITCH)) return LINE_SWITCH;
@@ -276,19 +276,20 @@ static void put_difference(const char *name, size_t capacity, size_t number, enu
     put_text(", the other to "), put_next(step_trace, step_count, i), put_text("\n");
 }
 
-/* Compares so many pairs of each capacity; whether all is as it must be. */
-static int compare_pairs(const char *name, size_t pairs_each) {
-    size_t pairs = CAPACITIES * pairs_each, differ = 0, unlocked_differ = 0;
+/*
+ * Compares so many pairs, and tells whether all is as it must be. The pairs of a round get the same calls. Kinds and
+ * capacities have no common divisor, so that KINDS * CAPACITIES pairs in a row are of each kind at each capacity.
+ */
+static int compare_pairs(const char *name, size_t pairs, size_t round) {
+    size_t differ = 0, unlocked_differ = 0;
     for (size_t i = 0; i < pairs; i++) {
-        size_t place = i % CAPACITIES, number = i / CAPACITIES;
-        make_pair(capacities[place], number);
-        /* Whole, the pairs of one kind and capacity go through all calls; in pieces, the pairs of one kind do. */
-        size_t round = in_pieces ? CAPACITIES * (number / KINDS) + place : number / KINDS;
-        enum call call = first_difference(round);
+        size_t capacity = capacities[i % CAPACITIES];
+        make_pair(capacity, i);
+        enum call call = first_difference(i / round);
         if (call == NO_CALL)
             unlocked_differ += (size_t)unlocked_paths_differ();
         else if (differ++ == 0)
-            put_difference(name, capacities[place], number, call);
+            put_difference(name, capacity, i, call);
     }
     put_text(name), put_text(", unlocked: "), put_number(pairs - differ), put_text(" pairs, ");
     put_number(unlocked_differ), put_text(" differ (LoadChar of a page that only one has stored: all must)\n");
@@ -301,8 +302,8 @@ int compare_traces(int of_plain) {
     line_switch = of_plain ? plain_line_switch : bystrodol_line_switch;
     receive = of_plain ? plain_receive : bystrodol_receive;
     receiver_switch = of_plain ? plain_receiver_switch : bystrodol_receiver_switch;
-    int is_well = compare_pairs("traces", 40);
+    int is_well = compare_pairs("traces", 200, KINDS * CAPACITIES);
     in_pieces = 1;
-    is_well &= compare_pairs("traces in pieces", 8);
+    is_well &= compare_pairs("traces in pieces", 24, KINDS);
     return !is_well;
 }

@@ -14,7 +14,7 @@ use Rattle.protocol.proofs.Laws.Lists.{length-lay, head-lay}
 use Rattle.wire.specs.Laying.{layFront}
 use Rattle.library.proofs.Parts.{part-put}
 
--- bytes of xs from a to e are what stays of the first e when a are dropped
+-- the bytes from a to e are what stays of the first e when a are dropped
 part-drop : (a e : ℕ) (xs : List ℕ) → a ≤ e → e ≤ length xs → part a (e - a) xs ≡ drop a (take e xs)
 part-drop a e xs h l =
     let k : a + (e - a) ≡ e = omega arith in

@@ -1,59 +1,36 @@
--- The bytes used never pass the run, and each turn but the last uses at least one, so that the loop ends.
-use mathlib.Core.Path.{_≡_, refl}
-use Prim.Native.Nat.{_-_, _≤_, _<_}
-use native.Mathlib.Omega.{arith}
-use lib.ListN.{length}
-use denote.Ref.{now}
+-- (why the function is right)
 use borrow.Author.Needs.{needs}
-use Rattle.protocol.specs.Numbers.{wrapsAt}
-use Rattle.protocol.specs.Records.{readerOf}
-use Rattle.bench.proofs.Lengths.{Kept, kept-all, kept-on, front-in, front-long, further, place-fits, nearer}
 use Rattle.bench.proofs.answer.Statement.{statement}
 use Rattle.bench.proofs.answer.Tie as tie
 
 abbrev Inv-loop : tie.InvT-loop
-Inv-loop templates₀ index₀ notepad₀ buffer1₀ buffer2₀ run out₀ current₀ used₀ t14 templates index notepad buffer1 buffer2 out current used =
-    (used ≤ length run) × (Kept (readerOf current₀ templates₀ index₀ notepad₀ buffer1₀ buffer2₀) (readerOf current templates index notepad buffer1 buffer2) × (length out ≡ length out₀))
+Inv-loop templates₀ index₀ notepad₀ buffer1₀ buffer2₀ piece reply₀ held₀ current₀ from₀ t17 t18 templates index notepad buffer1 buffer2 reply held current from =
+    ?
 
 abbrev μ-loop : tie.MeasureT-loop
-μ-loop templates₀ index₀ notepad₀ buffer1₀ buffer2₀ run out₀ current₀ used₀ t14 templates index notepad buffer1 buffer2 out current used =
-    length run - used
-
--- from behind the call of serve back to it, to the loop's test, and to the start
-unfoldable served : tie.After-current Inv-loop μ-loop → tie.After-serve Inv-loop μ-loop
-served c = search
-
-unfoldable looped : tie.After-serve Inv-loop μ-loop → tie.At-loop Inv-loop μ-loop
-looped c = search
-
-unfoldable start : tie.At-loop Inv-loop μ-loop → tie.Start Inv-loop μ-loop
-start c = search
-
-run-long : (c : tie.Start Inv-loop μ-loop) → length (now (c .args .run)) < wrapsAt
-run-long c = omega arith
+μ-loop templates₀ index₀ notepad₀ buffer1₀ buffer2₀ piece reply₀ held₀ current₀ from₀ t17 t18 templates index notepad buffer1 buffer2 reply held current from =
+    ?
 
 loop-holds : tie.Need-loop-holds Inv-loop μ-loop
-loop-holds c = (omega arith, (search kept-all, refl))
+loop-holds c = ?
 
-sub-serve : tie.Need-sub-serve Inv-loop μ-loop
-sub-serve c = search needs
+sub-offer : tie.Need-sub-offer Inv-loop μ-loop
+sub-offer c = search needs
 
-part-serve-start : tie.Need-part-serve-start Inv-loop μ-loop
-part-serve-start c = search needs
+part-offer-start : tie.Need-part-offer-start Inv-loop μ-loop
+part-offer-start c = search needs
 
-part-serve-end : tie.Need-part-serve-end Inv-loop μ-loop
-part-serve-end c = search needs
+part-offer-end : tie.Need-part-offer-end Inv-loop μ-loop
+part-offer-end c = search needs
 
-serve-requires : tie.Need-serve-requires Inv-loop μ-loop
-serve-requires c κs = search needs
+offer-requires : tie.Need-offer-requires Inv-loop μ-loop
+offer-requires c κs = search needs
 
 slice-reshare-prefix-write-all : tie.Need-slice-reshare-prefix-write-all Inv-loop μ-loop
-unfolding served
-slice-reshare-prefix-write-all c = let o = served c .serve in search front-in
+slice-reshare-prefix-write-all c = search needs
 
 slice-aggregate-write-all : tie.Need-slice-aggregate-write-all Inv-loop μ-loop
-unfolding served
-slice-aggregate-write-all c = let o = served (search) .serve in search front-long
+slice-aggregate-write-all c = search needs
 
 write-all-requires : tie.Need-write-all-requires Inv-loop μ-loop
 write-all-requires c κs = search needs
@@ -65,82 +42,82 @@ fail-requires : tie.Need-fail-requires Inv-loop μ-loop
 fail-requires c κs = search needs
 
 same-length : tie.Need-same-length Inv-loop μ-loop
-unfolding served looped
-same-length c = let o = served (search) .serve in let l = looped (served (search)) .loop in omega arith
+same-length c = search needs
 
 same-length-2 : tie.Need-same-length-2 Inv-loop μ-loop
-unfolding served looped
-same-length-2 c = let o = served (search) .serve in let l = looped (served (search)) .loop in omega arith
+same-length-2 c = search needs
 
 same-length-3 : tie.Need-same-length-3 Inv-loop μ-loop
-unfolding served looped
-same-length-3 c = let o = served (search) .serve in let l = looped (served (search)) .loop in omega arith
+same-length-3 c = search needs
 
 same-length-4 : tie.Need-same-length-4 Inv-loop μ-loop
-unfolding served looped
-same-length-4 c = let o = served (search) .serve in let l = looped (served (search)) .loop in omega arith
+same-length-4 c = search needs
 
 same-length-5 : tie.Need-same-length-5 Inv-loop μ-loop
-unfolding served looped
-same-length-5 c = let o = served (search) .serve in let l = looped (served (search)) .loop in omega arith
+same-length-5 c = search needs
 
 same-length-6 : tie.Need-same-length-6 Inv-loop μ-loop
-unfolding served looped
-same-length-6 c = let o = served (search) .serve in let l = looped (served (search)) .loop in omega arith
+same-length-6 c = search needs
 
 returns : tie.Need-returns Inv-loop μ-loop
-unfolding served looped
-returns c = let l = looped (served (search)) .loop .inv in search
+returns c = ?
+
+slice-aggregate-write-all-2 : tie.Need-slice-aggregate-write-all-2 Inv-loop μ-loop
+slice-aggregate-write-all-2 c = search needs
+
+write-all-requires-2 : tie.Need-write-all-requires-2 Inv-loop μ-loop
+write-all-requires-2 c κs = search needs
 
 same-length-7 : tie.Need-same-length-7 Inv-loop μ-loop
-unfolding served looped
-same-length-7 c = let o = served (search) .serve in let l = looped (served (search)) .loop in omega arith
+same-length-7 c = search needs
 
 same-length-8 : tie.Need-same-length-8 Inv-loop μ-loop
-unfolding served looped
-same-length-8 c = let o = served (search) .serve in let l = looped (served (search)) .loop in omega arith
+same-length-8 c = search needs
 
 same-length-9 : tie.Need-same-length-9 Inv-loop μ-loop
-unfolding served looped
-same-length-9 c = let o = served (search) .serve in let l = looped (served (search)) .loop in omega arith
+same-length-9 c = search needs
 
 same-length-10 : tie.Need-same-length-10 Inv-loop μ-loop
-unfolding served looped
-same-length-10 c = let o = served (search) .serve in let l = looped (served (search)) .loop in omega arith
+same-length-10 c = search needs
 
 same-length-11 : tie.Need-same-length-11 Inv-loop μ-loop
-unfolding served looped
-same-length-11 c = let o = served (search) .serve in let l = looped (served (search)) .loop in omega arith
+same-length-11 c = search needs
 
 same-length-12 : tie.Need-same-length-12 Inv-loop μ-loop
-unfolding served looped
-same-length-12 c = let o = served (search) .serve in let l = looped (served (search)) .loop in omega arith
+same-length-12 c = search needs
 
 returns-2 : tie.Need-returns-2 Inv-loop μ-loop
-unfolding served looped
-returns-2 c = let l = looped (served (search)) .loop .inv in search
+returns-2 c = ?
 
-add-used : tie.Need-add-used Inv-loop μ-loop
-unfolding served looped start
-add-used c =
-    let o = served (search) .serve in
-    let l = looped (served (search)) .loop in
-    let w = run-long (start (looped (served (search)))) in
-    search place-fits
+same-length-13 : tie.Need-same-length-13 Inv-loop μ-loop
+same-length-13 c = search needs
+
+same-length-14 : tie.Need-same-length-14 Inv-loop μ-loop
+same-length-14 c = search needs
+
+same-length-15 : tie.Need-same-length-15 Inv-loop μ-loop
+same-length-15 c = search needs
+
+same-length-16 : tie.Need-same-length-16 Inv-loop μ-loop
+same-length-16 c = search needs
+
+same-length-17 : tie.Need-same-length-17 Inv-loop μ-loop
+same-length-17 c = search needs
+
+same-length-18 : tie.Need-same-length-18 Inv-loop μ-loop
+same-length-18 c = search needs
+
+returns-3 : tie.Need-returns-3 Inv-loop μ-loop
+returns-3 c = ?
+
+add-from : tie.Need-add-from Inv-loop μ-loop
+add-from c = search needs
 
 loop-less : tie.Need-loop-less Inv-loop μ-loop
-unfolding served looped
-loop-less c =
-    let o = served (search) .serve in
-    let l = looped (served (search)) .loop in
-    search nearer
+loop-less c = search needs
 
 loop-again : tie.Need-loop-again Inv-loop μ-loop
-unfolding served looped
-loop-again c =
-    let o = served (search) .serve in
-    let l = looped (served (search)) .loop in
-    (search further, (search kept-on, omega arith))
+loop-again c = ?
 
 pub answer-spec : {M : Type 1} → statement M
 answer-spec =
@@ -149,10 +126,10 @@ answer-spec =
     Inv-loop
     μ-loop
     loop-holds
-    sub-serve
-    part-serve-start
-    part-serve-end
-    serve-requires
+    sub-offer
+    part-offer-start
+    part-offer-end
+    offer-requires
     slice-reshare-prefix-write-all
     slice-aggregate-write-all
     write-all-requires
@@ -165,6 +142,8 @@ answer-spec =
     same-length-5
     same-length-6
     returns
+    slice-aggregate-write-all-2
+    write-all-requires-2
     same-length-7
     same-length-8
     same-length-9
@@ -172,6 +151,13 @@ answer-spec =
     same-length-11
     same-length-12
     returns-2
-    add-used
+    same-length-13
+    same-length-14
+    same-length-15
+    same-length-16
+    same-length-17
+    same-length-18
+    returns-3
+    add-from
     loop-less
     loop-again)

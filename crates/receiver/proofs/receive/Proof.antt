@@ -65,7 +65,7 @@ array-share-prefix-held c = search (in-cells, held-long)
 
 slice-aggregate-step : tie.Need-slice-aggregate-step
 unfolding holds longest
-slice-aggregate-step c = search (in-run, in-cells, held-long)
+slice-aggregate-step c = search (in-run, held-long)
 
 step-requires : tie.Need-step-requires
 step-requires c κs = search needs
