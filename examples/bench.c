@@ -8,24 +8,21 @@
 #define _POSIX_C_SOURCE 200809L /* read, write, ssize_t, dprintf */
 
 #include <stdio.h>
-#include <string.h>
 #include <unistd.h>
 
 #include "bystrodol.h"
 
-enum { PAGES = 64, LINE_BYTES = 4096 };
+enum { PAGES = 64, PIECE_BYTES = 60 };
 
-/* The reader's memory, zeroed at the start. The core keeps nothing beside it and the settings. */
+/* The reader's memory, zeroed at the start. The core keeps nothing beside it and the line. */
 static uint8_t templates[PAGES * BYSTRODOL_PAGE_BYTES];
 static uint8_t stored[BYSTRODOL_INDEX_BYTES];
 static uint8_t notepad[BYSTRODOL_PAGE_BYTES];
 static uint8_t buffer1[BYSTRODOL_PAGE_BYTES];
 static uint8_t buffer2[BYSTRODOL_PAGE_BYTES];
-static struct bystrodol_settings settings;
 
-/* The bytes received and not yet used. An unfinished packet has at most 264, so there is always room for more. */
-static uint8_t line[LINE_BYTES];
-static size_t held;
+/* The settings and the receiver, which holds nothing at the start. */
+static struct bystrodol_line line;
 
 static uint8_t reply[BYSTRODOL_REPLY_BYTES];
 
@@ -40,40 +37,35 @@ static int send_all(const uint8_t *bytes, size_t length) {
     return 1;
 }
 
-/* Answers every whole packet of the line, and keeps what is left at its front. Returns whether it could, and says what not. */
-static int answer_line(void) {
-    size_t from = 0;
-    for (;;) {
-        struct bystrodol_answer answer =
-            bystrodol_step(&settings, templates, sizeof templates, stored, sizeof stored, notepad, sizeof notepad, buffer1,
-                           sizeof buffer1, buffer2, sizeof buffer2, line + from, held - from, reply, sizeof reply);
-        /* A reader that starts fresh stays legal, so this tells of memory that something else has written to. */
-        if (answer.refusal != BYSTRODOL_ACCEPTED) {
-            dprintf(STDERR_FILENO, "the reader refuses with %d\n", answer.refusal);
-            return 0;
-        }
-        if (answer.used == 0) break;
-        from += answer.used;
-        if (!send_all(reply, answer.length)) {
+/* Offers a piece until a call takes nothing and leaves the held count. Returns whether all went well, and says what did not. */
+static int take_piece(const uint8_t *piece, size_t length) {
+    struct bystrodol_received r;
+    size_t held;
+    do {
+        held = line.receiver.count;
+        r = bystrodol_receive(&line, templates, sizeof templates, stored, sizeof stored, notepad, sizeof notepad, buffer1,
+                              sizeof buffer1, buffer2, sizeof buffer2, piece, length, reply, sizeof reply);
+        if (!send_all(reply, r.length)) {
             perror("write");
             return 0;
         }
-    }
-    held -= from;
-    memmove(line, line + from, held);
-    return 1;
+        piece += r.taken, length -= r.taken;
+    } while (r.taken != 0 || line.receiver.count != held);
+    /* A reader that starts fresh stays legal, so this tells of memory that something else has written to. */
+    if (r.refusal != BYSTRODOL_ACCEPTED) dprintf(STDERR_FILENO, "the reader refuses with %d\n", r.refusal);
+    return r.refusal == BYSTRODOL_ACCEPTED;
 }
 
 int main(void) {
-    settings = bystrodol_fresh();
+    uint8_t piece[PIECE_BYTES];
+    line.settings = bystrodol_fresh();
     for (;;) {
-        ssize_t got = read(STDIN_FILENO, line + held, sizeof line - held);
+        ssize_t got = read(STDIN_FILENO, piece, sizeof piece);
         if (got < 0) {
             perror("read");
             return 1;
         }
         if (got == 0) return 0;
-        held += (size_t)got;
-        if (!answer_line()) return 1;
+        if (!take_piece(piece, (size_t)got)) return 1;
     }
 }

@@ -7,29 +7,38 @@
  *
  * Each function has an answer for every number, every length and every byte, bad ones included, and that answer is proved
  * (crates/board/src). What no proof can see is the caller's part:
- *   - A run, a content, a room or a lent memory is two arguments, a pointer and a length in bytes. The pointer leads to that
- *     many bytes, all of which the caller may read; where it is not const, also write. They need no alignment.
+ *   - A piece, a run, a content, a room or a lent memory is two arguments, a pointer and a length in bytes. The pointer leads
+ *     to that many bytes, all of which the caller may read; where it is not const, also write. They need no alignment.
  *   - Where the length is 0 nothing is read or written, and the pointer may be NULL. No other pointer may be NULL.
- *   - The pointer to the settings leads to a whole, aligned struct bystrodol_settings. Any bytes may lie in it.
+ *   - The pointer to the settings, or to the line, leads to a whole, aligned struct. Any bytes may lie in it.
  *   - No two arguments of a call share a byte, but two that are both const.
- *   - No other thread or interrupt handler changes the bytes during the call, nor reads those that are not const. The
- *     settings may be written with what they have, even when the call is refused.
+ *   - No other thread or interrupt handler changes the bytes during the call, nor reads those that are not const. Settings and
+ *     line may be written with what they have, even when the call is refused.
  *
- * How a firmware uses it:
- *   Power-on. Load settings and memory from where they are kept, or start with bystrodol_fresh and zeroed memory. Then, first of
- *     all, the line switch: what was stored may say that a password was given. It takes any bytes. Then one bystrodol_step
- *     with a run of 0 bytes: it changes nothing, and its refusal tells whether the stored settings and index are legal. Any
- *     password and any address are, so keep a sum of your own over what is stored. Fresh settings have no password: do not
- *     fall back to them where the memory has templates.
- *   A loop. Receive bytes behind those that are held. Call bystrodol_step with all of them. If refusal is not 0, stop: the same
- *     call will be refused again. Send length bytes of the reply room, and no more: behind them lie bytes of earlier replies,
- *     templates among them. Drop used bytes from the front. While used is not 0 call again with what is left.
+ * How a firmware uses it. The reader is a struct bystrodol_line, its settings and its receiver, and the memory that is lent.
+ *   Power-on. Load settings and memory from where they are kept, or start with bystrodol_fresh and zeroed memory. The receiver
+ *     starts as zeros: so it holds nothing. Then, first of all, bystrodol_receiver_switch: what was stored may say that a
+ *     password was given. It takes any bytes. Then one bystrodol_receive with a piece of 0 bytes: it changes nothing, and its
+ *     refusal tells whether the stored settings and index are legal. Any password and any address are, so keep a sum of your
+ *     own over what is stored. Fresh settings have no password: do not fall back to them where the memory has templates.
+ *   A loop. Read what the port has, a piece of any length, and offer it until a call takes nothing and leaves the held count:
+ *     then all is taken, nothing was answered, and there is nothing left to do. How the bytes were cut makes no difference.
+ *     MEMORY stands for the arguments from templates to buffer2_length.
+ *         do {
+ *             held = line.receiver.count;
+ *             r = bystrodol_receive(&line, MEMORY, piece, length, reply, sizeof reply);
+ *             send(reply, r.length), piece += r.taken, length -= r.taken;
+ *         } while (r.taken != 0 || line.receiver.count != held);
+ *     At each call send r.length bytes of the reply room, and no more: behind them lie bytes of earlier replies, templates
+ *     among them. A refused call ends the loop, too. If r.refusal is not 0, stop: the same call will be refused again.
  *   Silence. An unfinished packet stays held, and the rest of it is awaited: up to 264 bytes that come next are taken for it.
- *     The core knows no time. After a pause of your own choosing, longer than a host ever makes inside a packet, drop all
- *     bytes that are held, and not some: what is left of a packet could have a command in its data. Nothing is called for
- *     that. A transfer stays open; the host's next command ends it.
- *   Another host. Call the line switch whenever the line goes to another host: without it that one finds the reader as the last
- *     one left it, open and with its buffers.
+ *     The core knows no time. After a pause of your own choosing, longer than a host ever makes inside a packet, go on with an
+ *     empty receiver: memset(&line.receiver, 0, sizeof line.receiver). Nothing is called for that, and nothing else of the
+ *     reader changes. Drop all bytes that are held, and not some: what is left of a packet could have a command in its data.
+ *     A transfer stays open; the host's next command ends it.
+ *   Another host. Call bystrodol_receiver_switch whenever the line goes to another host: without it that one finds the reader
+ *     as the last one left it, open and with its buffers. Do not call bystrodol_line_switch, which knows of no receiver: bytes
+ *     of the last host would stay held, before those of the next.
  *   Saving. The table of commands below says what each one changes.
  */
 #ifndef BYSTRODOL_H
@@ -57,17 +66,19 @@
 /* The least reply room. No reply is longer. */
 #define BYSTRODOL_REPLY_BYTES 700u
 
-/* A packet beside its content, the most content, and an unfinished packet at most. A line needs room for one byte more. */
+/* A packet beside its content, the most content, and an unfinished packet at most. A receiver has room for one byte more. */
 #define BYSTRODOL_FRAME_BYTES 11u
 #define BYSTRODOL_CONTENT_MOST 254u
 #define BYSTRODOL_UNFINISHED_MOST 264u
+#define BYSTRODOL_HELD_MOST 265u
 
-/* ---- why a call was refused, tested in this order; 0 is carried out. Refused, it uses, replies and changes nothing. */
+/* ---- why a call was refused, tested in this order; 0 is carried out. Refused, it takes, uses, replies and changes nothing. */
 
 #define BYSTRODOL_ACCEPTED 0u
 #define BYSTRODOL_BAD_LENGTH 1u  /* a lent length, the reply room's apart, is not as it must be */
 #define BYSTRODOL_BAD_ROOM 2u    /* the reply room is too small */
-#define BYSTRODOL_BAD_SETTING 3u /* a setting or the transfer is not legal, or an index bit at or above the capacity is set */
+#define BYSTRODOL_BAD_SETTING 3u /* a setting or the transfer is not legal, an index bit at or above the capacity is set, or a
+                                    receiver's count is above 265 */
 
 /* ---- a packet: EF 01, address (4), identifier, length (2), content, sum (2); numbers high byte first. The length counts content
  * and sum. The sum is identifier, both length bytes and every content byte added, modulo 65536. */
@@ -87,7 +98,8 @@
  * Over power-off nothing of a buffer, a mark or a transfer is worth keeping, since the line switch clears them. So save templates
  * and index after Store, DeletChar and Empty, settings after SetSysPara, SetPwd and SetAdder, and the notepad after
  * WriteNotepad; or compare them with what was saved. In a call that replied, the packet begins at the first EF 01 of the
- * run, and its code stands 9 bytes further; the reply's code is byte 9 of the reply room.
+ * run, and its code stands 9 bytes further; the reply's code is byte 9 of the reply room. A receiver's run is what it held
+ * before the call, and behind that what the call took.
  */
 #define BYSTRODOL_COMMAND_STORE 0x06u            /* buffer, page: templates and index */
 #define BYSTRODOL_COMMAND_LOAD_CHAR 0x07u        /* buffer, page: that buffer; settings (its filled mark) */
@@ -155,7 +167,36 @@ struct bystrodol_settings {
     uint8_t spare;       /* any byte; no call changes it */
 };
 
-/* What a call answers, 24 bytes. */
+/*
+ * A receiver, 268 bytes: the bytes that came and are not dealt with yet, at the front of held. Between held and count lies one
+ * byte of padding, at offset 265; it means nothing, and a call may change it.
+ *
+ * All zeros is a receiver that holds nothing. Any bytes may lie in held; a count above 265 is refused with 3. After each call
+ * that is carried out, and after a line switch, every byte of held from the count on is 0, whatever it was before: no byte
+ * of a packet stays behind once the packet is dealt with.
+ */
+struct bystrodol_receiver {
+    uint8_t held[BYSTRODOL_HELD_MOST];
+    uint16_t count; /* how many are held, 0 to 265; at rest at most 264 */
+};
+
+/*
+ * A line, 288 bytes: the settings and the receiver of one reader. Settings that were stored go into line.settings as they are.
+ * The receiver is not worth storing: after power-on it starts as zeros.
+ */
+struct bystrodol_line {
+    struct bystrodol_settings settings;
+    struct bystrodol_receiver receiver;
+};
+
+/* What a receiver's call answers, 24 bytes. */
+struct bystrodol_received {
+    uint8_t refusal; /* 0, or why the call was refused */
+    size_t taken;    /* bytes of the piece that were taken; offer the rest again */
+    size_t length;   /* bytes of the reply, at the front of the reply room; 0 is silence */
+};
+
+/* What a call without a receiver answers, 24 bytes. */
 struct bystrodol_answer {
     uint8_t refusal; /* 0, or why the call was refused */
     size_t used;     /* bytes of the run that are dealt with; drop them */
@@ -175,8 +216,39 @@ extern "C" {
 struct bystrodol_settings bystrodol_fresh(void);
 
 /*
+ * The line switch: verified mark and filled marks 0, transfer closed, both buffers and the bytes that are held zeroed, count 0. It
+ * takes any line, whatever bytes it has. Returns 0, or BYSTRODOL_BAD_LENGTH if a buffer is not 512 bytes long; then nothing
+ * changes.
+ */
+uint8_t bystrodol_receiver_switch(struct bystrodol_line *line, uint8_t *buffer1, size_t buffer1_length,
+                                  uint8_t *buffer2, size_t buffer2_length);
+
+/*
+ * A call of the receiver: takes what there is room for of a piece, behind the bytes that are held; finds the first packet in all
+ * of them, carries it out, and writes the reply; and drops the bytes that are dealt with. It deals with at most one packet, so
+ * one call is not enough for a piece: the loop above calls until there is nothing left to do.
+ *
+ *   line                          the reader's settings and its receiver; changed where they lie
+ *   templates, templates_length   512 bytes for each page, 1 to 256 pages; the length says how many
+ *   index, index_length           32 bytes; page p is the bit of weight 2^(p mod 8) in byte p / 8
+ *   notepad, notepad_length       512 bytes
+ *   buffer1, buffer1_length       512 bytes
+ *   buffer2, buffer2_length       512 bytes
+ *   piece, piece_length           the bytes that came and are not taken yet, any number of them
+ *   reply, reply_length           at least 700 bytes; past the reply they keep what they have
+ */
+struct bystrodol_received bystrodol_receive(struct bystrodol_line *line, uint8_t *templates, size_t templates_length,
+                                            uint8_t *index, size_t index_length, uint8_t *notepad,
+                                            size_t notepad_length, uint8_t *buffer1, size_t buffer1_length,
+                                            uint8_t *buffer2, size_t buffer2_length, const uint8_t *piece,
+                                            size_t piece_length, uint8_t *reply, size_t reply_length);
+
+/* ---- the same without a receiver, for a caller that holds the bytes itself */
+
+/*
  * The line switch: verified mark and filled marks 0, transfer closed, both buffers zeroed. It takes any settings, whatever
- * bytes they are. Returns 0, or BYSTRODOL_BAD_LENGTH if a buffer is not 512 bytes long; then nothing changes.
+ * bytes they are. Returns 0, or BYSTRODOL_BAD_LENGTH if a buffer is not 512 bytes long; then nothing changes. The caller
+ * drops the bytes that it holds.
  */
 uint8_t bystrodol_line_switch(struct bystrodol_settings *settings, uint8_t *buffer1, size_t buffer1_length,
                               uint8_t *buffer2, size_t buffer2_length);
@@ -184,15 +256,11 @@ uint8_t bystrodol_line_switch(struct bystrodol_settings *settings, uint8_t *buff
 /*
  * A call of the reader: finds the first packet in a run of received bytes, carries it out, and writes the reply. It deals
  * with at most one packet. Used 0, where it is not refused, means that the run is empty, a lone EFh, or an unfinished packet.
+ * The caller sends the reply, drops used bytes from the front, and while used is not 0 calls again with what is left.
  *
  *   settings                      the reader's; changed where they lie
- *   templates, templates_length   512 bytes for each page, 1 to 256 pages; the length says how many
- *   index, index_length           32 bytes; page p is the bit of weight 2^(p mod 8) in byte p / 8
- *   notepad, notepad_length       512 bytes
- *   buffer1, buffer1_length       512 bytes
- *   buffer2, buffer2_length       512 bytes
  *   run, run_length               the bytes received and not yet dropped
- *   reply, reply_length           at least 700 bytes; past the reply they keep what they have
+ *   the others                    as for bystrodol_receive
  */
 struct bystrodol_answer bystrodol_step(struct bystrodol_settings *settings, uint8_t *templates, size_t templates_length,
                                        uint8_t *index, size_t index_length, uint8_t *notepad, size_t notepad_length,

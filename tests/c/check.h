@@ -2,6 +2,7 @@
 #include <stddef.h>
 #include <stdint.h>
 #include <stdio.h>
+#include <string.h>
 #include <unistd.h>
 
 static unsigned passed, failed;
@@ -20,7 +21,7 @@ static void check(const char *name, size_t got, size_t wanted) { check_of(name, 
 
 /* The first place where two runs of n bytes differ, or n. */
 static size_t differ(const uint8_t *a, const uint8_t *b, size_t n) {
-    size_t i = 0;
+    size_t i = memcmp(a, b, n) == 0 ? n : 0;
     while (i < n && a[i] == b[i]) i++;
     return i;
 }

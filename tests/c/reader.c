@@ -1,7 +1,8 @@
 /*
- * Calls the whole reader from C: the layout of its structs, fresh settings, every code that the header names, and every refusal.
- * Marks of all bytes, and settings of random bytes. All memory, the settings too, lies in one area with guard bytes around
- * each part; after a refusal no byte of the area has changed.
+ * Calls the whole reader from C: fresh settings, every code that the header names, and every refusal. Marks of all bytes, and
+ * settings of random bytes. All of it through three doors: a call without a receiver, a receiver's call that is offered the
+ * whole run, and one that already holds part of it. All memory, the settings too, lies in one area with guard bytes around each
+ * part; after a refusal no byte of the area has changed.
  * tests/c/run builds and runs it. It writes one line, 'reader: N checks passed', and ends with 0; or names each failed check
  * and ends with 1.
  */
@@ -10,66 +11,53 @@
 
 #include <string.h>
 
-/* ---- the structs, as Rattle lays them out */
-
-#define AT(type, field, offset) _Static_assert(offsetof(struct type, field) == (offset), #field)
-
-_Static_assert(sizeof(struct bystrodol_settings) == 20, "the settings");
-AT(bystrodol_settings, password, 0);
-AT(bystrodol_settings, address, 4);
-AT(bystrodol_settings, level, 8);
-AT(bystrodol_settings, size, 9);
-AT(bystrodol_settings, baud, 10);
-AT(bystrodol_settings, transfer, 11);
-AT(bystrodol_settings, sensor, 12);
-AT(bystrodol_settings, got, 14);
-AT(bystrodol_settings, verified, 16);
-AT(bystrodol_settings, filled1, 17);
-AT(bystrodol_settings, filled2, 18);
-AT(bystrodol_settings, spare, 19);
-_Static_assert(_Alignof(struct bystrodol_settings) == 2, "the settings' alignment");
-
-_Static_assert(sizeof(struct bystrodol_answer) == 24, "the answer");
-AT(bystrodol_answer, refusal, 0);
-AT(bystrodol_answer, used, 8);
-AT(bystrodol_answer, length, 16);
-_Static_assert(_Alignof(struct bystrodol_answer) == 8, "the answer's alignment");
-
 /* ---- the area */
 
-enum { TEMPLATES, INDEX, NOTEPAD, BUFFER1, BUFFER2, RUN, REPLY, PARTS };
+enum { INDEX, NOTEPAD, BUFFER1, BUFFER2, RUN, REPLY, TEMPLATES, PARTS };
 enum { GUARD = 64, TEN_PAGES = 10 * BYSTRODOL_PAGE_BYTES, MOST = 257 * BYSTRODOL_PAGE_BYTES };
 
-static const char *const names[PARTS] = {"templates", "index", "notepad", "buffer 1", "buffer 2", "run", "reply room"};
+static const char *const names[PARTS] = {"index", "notepad", "buffer 1", "buffer 2", "run", "reply room", "templates"};
 
 /* Room for each part, one byte more than is right, or a page more. */
-static const size_t rooms[PARTS] = {MOST, 33, 513, 513, 513, 64, 701};
+static const size_t rooms[PARTS] = {33, 513, 513, 513, 64, 701, MOST};
 
 static struct {
-    uint8_t before_settings[GUARD];
-    struct bystrodol_settings settings;
-    uint8_t parts[PARTS * GUARD + MOST + 33 + 3 * 513 + 64 + 701 + GUARD];
-} area, was;
+    uint8_t before_line[GUARD];
+    struct bystrodol_line line;
+    uint8_t parts[PARTS * GUARD + 33 + 3 * 513 + 64 + 701 + MOST + GUARD];
+} area, was, bytes;
 
 static uint8_t *parts[PARTS];
 static size_t lengths[PARTS];
 static struct bystrodol_answer answer;
 
+/* How the reader is called: without a receiver; with one that is offered all of the run; with one that holds half of it. */
+static enum { STEP, OFFERED, HELD, DOORS } door;
+
 static const uint8_t handshake[] = {0xEF, 0x01, 0xFF, 0xFF, 0xFF, 0xFF, 0x01, 0x00, 0x03, 0x40, 0x00, 0x44};
 static const uint8_t done[] = {0xEF, 0x01, 0xFF, 0xFF, 0xFF, 0xFF, 0x07, 0x00, 0x03, 0x00, 0x00, 0x0A};
 
+static void fill_bytes(void) {
+    for (size_t i = 0; i < sizeof bytes; i++) ((uint8_t *)&bytes)[i] = (uint8_t)(0xA5 + 7 * i);
+    area = bytes;
+}
+
+/* How much of the area is used: the templates are its last part, and have a guard behind them. */
+static size_t extent(void) { return (size_t)(parts[TEMPLATES] - (uint8_t *)&area) + lengths[TEMPLATES] + GUARD; }
+
+static void save(void) { memcpy(&was, &area, extent()); }
+
 /* A legal reader of ten pages with fresh settings and bytes in all its memory, a handshake as its run, and a reply room. */
 static void set_up(void) {
-    static const size_t right[PARTS] = {TEN_PAGES, 32, 512, 512, 512, sizeof handshake, 700};
+    static const size_t right[PARTS] = {32, 512, 512, 512, sizeof handshake, 700, TEN_PAGES};
     size_t at = GUARD;
-    uint8_t *bytes = (uint8_t *)&area;
-    for (size_t i = 0; i < sizeof area; i++) bytes[i] = (uint8_t)(0xA5 + 7 * i);
-    area.settings = bystrodol_fresh();
     for (int i = 0; i < PARTS; i++) {
         parts[i] = area.parts + at;
         lengths[i] = right[i];
         at += rooms[i] + GUARD;
     }
+    memcpy(&area, &bytes, extent());
+    area.line.settings = bystrodol_fresh();
     memset(parts[INDEX], 0, rooms[INDEX]);
     memcpy(parts[RUN], handshake, sizeof handshake);
 }
@@ -77,21 +65,49 @@ static void set_up(void) {
 /* A part of no bytes is NULL. */
 static uint8_t *part(int i) { return lengths[i] ? parts[i] : NULL; }
 
+#define MEMORY part(TEMPLATES), lengths[TEMPLATES], part(INDEX), lengths[INDEX], part(NOTEPAD), lengths[NOTEPAD], \
+               part(BUFFER1), lengths[BUFFER1], part(BUFFER2), lengths[BUFFER2]
+
 static void step(void) {
-    was = area;
-    answer = bystrodol_step(&area.settings, part(TEMPLATES), lengths[TEMPLATES], part(INDEX), lengths[INDEX], part(NOTEPAD), lengths[NOTEPAD],
-                            part(BUFFER1), lengths[BUFFER1], part(BUFFER2), lengths[BUFFER2], part(RUN), lengths[RUN], part(REPLY), lengths[REPLY]);
+    save();
+    answer = bystrodol_step(&area.line.settings, MEMORY, part(RUN), lengths[RUN], part(REPLY), lengths[REPLY]);
 }
 
-static size_t unchanged(void) { return differ((const uint8_t *)&area, (const uint8_t *)&was, sizeof area); }
+/* Some bytes of the run are held, and the others are the piece. The bytes used are those that are neither held nor left of it. */
+static void receive(size_t held) {
+    memcpy(area.line.receiver.held, parts[RUN], held);
+    area.line.receiver.count = (uint16_t)held;
+    save();
+    struct bystrodol_received r = bystrodol_receive(&area.line, MEMORY, parts[RUN] + held, lengths[RUN] - held, part(REPLY), lengths[REPLY]);
+    answer.refusal = r.refusal;
+    answer.used = held + r.taken - area.line.receiver.count;
+    answer.length = r.length;
+}
+
+static void call(void) {
+    if (door == STEP) step();
+    else receive(door == HELD ? lengths[RUN] / 2 : 0);
+}
+
+/* The receiver's padding means nothing. */
+static size_t unchanged(void) {
+    size_t padding = offsetof(struct bystrodol_receiver, held) + BYSTRODOL_HELD_MOST;
+    ((uint8_t *)&was.line.receiver)[padding] = ((uint8_t *)&area.line.receiver)[padding];
+    return differ((const uint8_t *)&area, (const uint8_t *)&was, extent());
+}
+
+/* A receiver that was called holds nothing now. */
+static void empty_what_was(void) {
+    if (door != STEP) memset(&was.line.receiver, 0, sizeof was.line.receiver);
+}
 
 /* The call is refused, and not a byte of the area changes. */
 static void refuses(const char *name, size_t which, uint8_t refusal) {
-    step();
+    call();
     check_of(name, which, "refusal", answer.refusal, refusal);
     check_of(name, which, "bytes used", answer.used, 0);
     check_of(name, which, "reply length", answer.length, 0);
-    check_of(name, which, "memory, settings and guards", unchanged(), sizeof area);
+    check_of(name, which, "memory, settings and guards", unchanged(), extent());
 }
 
 /* Where a part lies in the area as it was. */
@@ -104,20 +120,21 @@ static void is_answered(const char *name, size_t which, const uint8_t *reply, si
     check_of(name, which, "reply length", answer.length, length);
     check_of(name, which, "reply", differ(parts[REPLY], reply, length), length);
     memcpy(parts[REPLY], part_was(REPLY), length);
-    check_of(name, which, "memory, settings and guards", unchanged(), sizeof area);
+    empty_what_was();
+    check_of(name, which, "memory, settings and guards", unchanged(), extent());
 }
 
 static void is_done(const char *name, size_t which) { is_answered(name, which, done, sizeof done); }
 
 static void answers(const char *name, size_t which) {
-    step();
+    call();
     is_done(name, which);
 }
 
 /* The same where a transfer into a buffer is open: the handshake ends it. */
 static void answers_and_ends(const char *name, size_t which, int buffer) {
-    step();
-    was.settings.transfer = 0, was.settings.got = 0;
+    call();
+    was.line.settings.transfer = 0, was.line.settings.got = 0;
     memset(part_was(buffer), 0, 512);
     is_done(name, which);
 }
@@ -175,39 +192,39 @@ static void transfers(uint8_t buffer, uint8_t size) {
     int part_of = buffer == 1 ? BUFFER1 : BUFFER2;
     for (unsigned got = 0; got <= 1024; got++) {
         set_up();
-        area.settings.size = size;
-        area.settings.transfer = buffer;
-        area.settings.got = (uint16_t)got;
+        area.line.settings.size = size;
+        area.line.settings.transfer = buffer;
+        area.line.settings.got = (uint16_t)got;
         if (got % bytes || got >= 512) refuses("a transfer's bytes got", got, BYSTRODOL_BAD_SETTING);
         else answers_and_ends("a transfer's bytes got", got, part_of);
     }
     for (int mark = 0; mark < 3; mark++) {
         set_up();
-        area.settings.transfer = buffer;
-        if (mark == 0) area.settings.filled1 = 1;
-        if (mark == 1) area.settings.filled2 = 1;
-        if (mark == 2) area.settings.password[3] = 1;
+        area.line.settings.transfer = buffer;
+        if (mark == 0) area.line.settings.filled1 = 1;
+        if (mark == 1) area.line.settings.filled2 = 1;
+        if (mark == 2) area.line.settings.password[3] = 1;
         if (mark == 2 || mark + 1 == buffer) refuses("a transfer into a filled buffer, or of a locked reader", (size_t)mark, BYSTRODOL_BAD_SETTING);
         else answers_and_ends("a transfer beside a filled buffer", (size_t)mark, part_of);
     }
 }
 
 static void bad_settings(void) {
-    ranges("level", &area.settings.level, 1, 5);
-    ranges("size code", &area.settings.size, 0, 2);
-    ranges("baud factor", &area.settings.baud, 1, 12);
+    ranges("level", &area.line.settings.level, 1, 5);
+    ranges("size code", &area.line.settings.size, 0, 2);
+    ranges("baud factor", &area.line.settings.baud, 1, 12);
     for (uint8_t size = 0; size < 3; size++)
         for (uint8_t buffer = 1; buffer < 3; buffer++) transfers(buffer, size);
     for (unsigned i = 3; i < 256; i++) {
         set_up();
-        area.settings.transfer = (uint8_t)i;
+        area.line.settings.transfer = (uint8_t)i;
         refuses("a transfer into no buffer", i, BYSTRODOL_BAD_SETTING);
     }
     set_up();
-    area.settings.got = 64;
+    area.line.settings.got = 64;
     refuses("bytes got without a transfer", 64, BYSTRODOL_BAD_SETTING);
     set_up();
-    area.settings.sensor = 0xFFFF;
+    area.line.settings.sensor = 0xFFFF;
     answers("sensor type", 0xFFFF);
 }
 
@@ -226,26 +243,29 @@ static void bad_bits(void) {
 /* Order: 1, 2, 3. */
 static void order(void) {
     set_up();
-    lengths[NOTEPAD] = 0, lengths[REPLY] = 0, area.settings.level = 0;
+    lengths[NOTEPAD] = 0, lengths[REPLY] = 0, area.line.settings.level = 0;
     refuses("everything wrong", 0, BYSTRODOL_BAD_LENGTH);
     set_up();
-    lengths[REPLY] = 0, area.settings.level = 0;
+    lengths[REPLY] = 0, area.line.settings.level = 0;
     refuses("room and settings wrong", 0, BYSTRODOL_BAD_ROOM);
 }
 
 /* ---- the line switch */
 
+/* The receiver has what set_up left in it, a count above 265. */
 static uint8_t line_switch(void) {
-    was = area;
-    return bystrodol_line_switch(&area.settings, part(BUFFER1), lengths[BUFFER1], part(BUFFER2), lengths[BUFFER2]);
+    save();
+    if (door == STEP) return bystrodol_line_switch(&area.line.settings, part(BUFFER1), lengths[BUFFER1], part(BUFFER2), lengths[BUFFER2]);
+    return bystrodol_receiver_switch(&area.line, part(BUFFER1), lengths[BUFFER1], part(BUFFER2), lengths[BUFFER2]);
 }
 
 /* What a line switch leaves of the area as it was. */
 static void switch_what_was(void) {
-    was.settings.verified = was.settings.filled1 = was.settings.filled2 = 0;
-    was.settings.transfer = 0, was.settings.got = 0;
+    was.line.settings.verified = was.line.settings.filled1 = was.line.settings.filled2 = 0;
+    was.line.settings.transfer = 0, was.line.settings.got = 0;
     memset(part_was(BUFFER1), 0, 512);
     memset(part_was(BUFFER2), 0, 512);
+    empty_what_was();
 }
 
 static void switches(void) {
@@ -254,14 +274,14 @@ static void switches(void) {
             set_up();
             lengths[i] = wrong == 0 ? 0 : wrong == 1 ? 511 : 513;
             check_of("a line switch", (size_t)i, "refusal", line_switch(), BYSTRODOL_BAD_LENGTH);
-            check_of("a refused line switch", (size_t)i, "memory, settings and guards", unchanged(), sizeof area);
+            check_of("a refused line switch", (size_t)i, "memory, settings and guards", unchanged(), extent());
         }
     /* It takes any settings, illegal ones too, blank flash among them, and keeps those that it does not clear. */
     set_up();
-    memset(&area.settings, 0xFF, sizeof area.settings);
+    memset(&area.line.settings, 0xFF, sizeof area.line.settings);
     check("a line switch", line_switch(), BYSTRODOL_ACCEPTED);
     switch_what_was();
-    check("what a line switch leaves", unchanged(), sizeof area);
+    check("what a line switch leaves", unchanged(), extent());
 }
 
 /* ---- settings change where they lie */
@@ -271,25 +291,25 @@ static void changes(void) {
     static const uint8_t verify[] = {0xEF, 0x01, 0xFF, 0xFF, 0xFF, 0xFF, 0x01, 0x00, 0x07, 0x13, 0x00, 0x00, 0x00, 0x05, 0x00, 0x20};
     set_up();
     memcpy(parts[RUN], password, lengths[RUN] = sizeof password);
-    step();
-    memcpy(was.settings.password, password + 10, 4);
+    call();
+    memcpy(was.line.settings.password, password + 10, 4);
     is_done("SetPwd", 0);
     memcpy(parts[RUN], verify, sizeof verify);
-    step();
-    was.settings.verified = 1;
+    call();
+    was.line.settings.verified = 1;
     is_done("VfyPwd", 0);
 }
 
 /* ---- marks: 0 and 1 are taken, and every other byte is a setting that is not legal */
 
-static uint8_t *const marks[] = {&area.settings.verified, &area.settings.filled1, &area.settings.filled2};
+static uint8_t *const marks[] = {&area.line.settings.verified, &area.line.settings.filled1, &area.line.settings.filled2};
 static const char *const mark_names[] = {"verified mark", "filled mark 1", "filled mark 2"};
 
 static void any_mark(int mark, uint8_t byte) {
     const char *name = mark_names[mark];
     for (int locked = 0; locked < 2; locked++) {
         set_up();
-        area.settings.password[3] = (uint8_t)locked;
+        area.line.settings.password[3] = (uint8_t)locked;
         *marks[mark] = byte;
         if (byte < 2) answers(name, byte);
         else refuses(name, byte, BYSTRODOL_BAD_SETTING);
@@ -306,11 +326,11 @@ static void any_mark(int mark, uint8_t byte) {
     *marks[mark] = byte;
     lengths[BUFFER2] = 511;
     check_of(name, byte, "a line switch with a wrong length", line_switch(), BYSTRODOL_BAD_LENGTH);
-    check_of(name, byte, "what it leaves", unchanged(), sizeof area);
+    check_of(name, byte, "what it leaves", unchanged(), extent());
     lengths[BUFFER2] = 512;
     check_of(name, byte, "a line switch", line_switch(), BYSTRODOL_ACCEPTED);
     switch_what_was();
-    check_of(name, byte, "what it leaves", unchanged(), sizeof area);
+    check_of(name, byte, "what it leaves", unchanged(), extent());
 }
 
 /* A reader with a password: the mark decides whether a command is barred, and no byte but 1 opens it. */
@@ -319,14 +339,14 @@ static void opened_by(uint8_t byte) {
     static const uint8_t none[] = {0xEF, 0x01, 0xFF, 0xFF, 0xFF, 0xFF, 0x07, 0x00, 0x05, 0x00, 0x00, 0x00, 0x00, 0x0C};
     static const uint8_t barred[] = {0xEF, 0x01, 0xFF, 0xFF, 0xFF, 0xFF, 0x07, 0x00, 0x03, 0x21, 0x00, 0x2B};
     set_up();
-    area.settings.password[0] = 0x80;
-    area.settings.verified = byte;
+    area.line.settings.password[0] = 0x80;
+    area.line.settings.verified = byte;
     memcpy(parts[RUN], count, lengths[RUN] = sizeof count);
     if (byte > 1) {
         refuses("a password and the verified mark", byte, BYSTRODOL_BAD_SETTING);
         return;
     }
-    step();
+    call();
     is_answered("a password and the verified mark", byte, byte ? none : barred, byte ? sizeof none : sizeof barred);
 }
 
@@ -347,13 +367,13 @@ static uint8_t random_byte(void) {
 }
 
 static void fill_settings(void) {
-    uint8_t *byte = (uint8_t *)&area.settings;
-    for (size_t i = 0; i < sizeof area.settings; i++) byte[i] = random_byte();
+    uint8_t *byte = (uint8_t *)&area.line.settings;
+    for (size_t i = 0; i < sizeof area.line.settings; i++) byte[i] = random_byte();
 }
 
 /* Each number is legal more often than not; password, address, sensor type and the spare byte are any. */
 static void make_nearly_legal(void) {
-    struct bystrodol_settings *s = &area.settings;
+    struct bystrodol_settings *s = &area.line.settings;
     if (random_byte() % 16) s->level = (uint8_t)(1 + s->level % 5);
     if (random_byte() % 16) s->size = (uint8_t)(s->size % 3);
     if (random_byte() % 16) s->baud = (uint8_t)(1 + s->baud % 12);
@@ -376,17 +396,17 @@ static int is_legal(const struct bystrodol_settings *s) {
 static void any_settings_called(size_t which) {
     static const uint8_t hand_shake = BYSTRODOL_COMMAND_HAND_SHAKE, code = BYSTRODOL_CODE_DONE;
     uint8_t reply[sizeof done];
-    const uint8_t *a = area.settings.address;
+    const uint8_t *a = area.line.settings.address;
     uint32_t address = (uint32_t)a[0] << 24 | (uint32_t)a[1] << 16 | (uint32_t)a[2] << 8 | a[3];
-    if (!is_legal(&area.settings)) {
+    if (!is_legal(&area.line.settings)) {
         refuses("settings of random bytes", which, BYSTRODOL_BAD_SETTING);
         return;
     }
     bystrodol_build(address, BYSTRODOL_PACKET_COMMAND, &hand_shake, 1, parts[RUN], lengths[RUN]);
     bystrodol_build(address, BYSTRODOL_PACKET_ACKNOWLEDGE, &code, 1, reply, sizeof reply);
-    step();
-    if (was.settings.transfer) memset(part_was(was.settings.transfer == 1 ? BUFFER1 : BUFFER2), 0, 512);
-    was.settings.transfer = 0, was.settings.got = 0;
+    call();
+    if (was.line.settings.transfer) memset(part_was(was.line.settings.transfer == 1 ? BUFFER1 : BUFFER2), 0, 512);
+    was.line.settings.transfer = 0, was.line.settings.got = 0;
     is_answered("settings of random bytes", which, reply, sizeof reply);
 }
 
@@ -396,13 +416,13 @@ static void any_settings(void) {
         set_up();
         fill_settings();
         if (i % 4) make_nearly_legal();
-        legal += (size_t)is_legal(&area.settings);
+        legal += (size_t)is_legal(&area.line.settings);
         any_settings_called(i);
         set_up();
         fill_settings();
         check_of("settings of random bytes", i, "a line switch", line_switch(), BYSTRODOL_ACCEPTED);
         switch_what_was();
-        check_of("settings of random bytes", i, "what a line switch leaves", unchanged(), sizeof area);
+        check_of("settings of random bytes", i, "what a line switch leaves", unchanged(), extent());
     }
     check("random settings, of which some are legal", legal > 256 && legal < 3840, 1);
 }
@@ -442,7 +462,7 @@ static const struct {
 /* The acknowledge code of a packet sent to the reader as it is. */
 static void is_code(const char *name, size_t which, uint8_t identifier, const uint8_t *content, size_t length, uint8_t code) {
     lengths[RUN] = bystrodol_build(0xFFFFFFFF, identifier, content, length, parts[RUN], rooms[RUN]);
-    step();
+    call();
     check_of(name, which, "refusal", answer.refusal, BYSTRODOL_ACCEPTED);
     check_of(name, which, "bytes used", answer.used, lengths[RUN]);
     check_of(name, which, "identifier", parts[REPLY][6], BYSTRODOL_PACKET_ACKNOWLEDGE);
@@ -456,11 +476,11 @@ static void named_codes(void) {
         is_code("a command", i, BYSTRODOL_PACKET_COMMAND, calls[i].content, calls[i].length, calls[i].code);
     }
     set_up();
-    area.settings.password[3] = 5;
+    area.line.settings.password[3] = 5;
     is_code("a locked reader", 0, BYSTRODOL_PACKET_COMMAND, &empty, 1, BYSTRODOL_CODE_PASSWORD_FIRST);
     for (int last = 0; last < 2; last++) {
         set_up();
-        area.settings.transfer = 1;
+        area.line.settings.transfer = 1;
         is_code("data of another size", (size_t)last, last ? BYSTRODOL_PACKET_LAST_DATA : BYSTRODOL_PACKET_DATA, data, sizeof data, BYSTRODOL_CODE_TRANSFER_FAILED);
     }
 }
@@ -480,18 +500,24 @@ static void fresh(void) {
     check("fresh settings", differ((const uint8_t *)&s, bytes, sizeof bytes), sizeof bytes);
 }
 
+static const char *const door_names[DOORS] = {"bystrodol_step", "bystrodol_receive, all offered", "bystrodol_receive, half held"};
+
 int main(void) {
+    fill_bytes();
     fresh();
-    bad_lengths();
-    bad_rooms();
-    bad_settings();
-    bad_bits();
-    order();
-    switches();
-    changes();
-    any_marks();
-    any_settings();
-    named_codes();
     unfinished();
+    for (door = STEP; door < DOORS && !failed; door++) {
+        bad_lengths();
+        bad_rooms();
+        bad_settings();
+        bad_bits();
+        order();
+        switches();
+        changes();
+        any_marks();
+        any_settings();
+        named_codes();
+        if (failed) dprintf(STDERR_FILENO, "reader: called by %s\n", door_names[door]);
+    }
     return report("reader");
 }

@@ -27,7 +27,7 @@ pub record Follows (e : Ended) (s : StoredEnd) : Type 0 where
   pub told : s .told ≡ e .told
   pub reader : s .after .reader ≡ e .after
 
-stored-fit : (spare : ℕ) (r : Reader) → fitMarks (stored spare r .marks) ≡ true
+pub stored-fit : (spare : ℕ) (r : Reader) → fitMarks (stored spare r .marks) ≡ true
 unfolding stored fitMarks fitMark
 stored-fit spare r = go (r .plain .verified) (r .guarded .buffer1 .filled) (r .guarded .buffer2 .filled)
   where

@@ -1,2 +1,4 @@
 pub mod Storing
+pub mod Receiving
 pub mod FromC
+pub mod LinesFromC

@@ -25,7 +25,7 @@ mark-read : (on : Bool) → isSet (markOf on) ≡ on
 mark-read true = refl
 mark-read false = refl
 
-stored-read : (spare : ℕ) (s : Settings) (t i n b c : List ℕ) → storedReaderOf (storedAt spare s) t i n b c ≡ stored spare (readerOf s t i n b c)
+pub stored-read : (spare : ℕ) (s : Settings) (t i n b c : List ℕ) → storedReaderOf (storedAt spare s) t i n b c ≡ stored spare (readerOf s t i n b c)
 unfolding stored
 stored-read spare s t i n b c =
     ap (λ (m : Bool × (Bool × Bool)). record {

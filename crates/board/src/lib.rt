@@ -1,4 +1,6 @@
-// What the board's C firmware calls: four plain services, and the whole reader with its settings lent. include/bystrodol.h is the C face.
+// What the board's C firmware calls: four plain services, and the whole reader with its settings lent, or with its settings and
+// its receiver. include/bystrodol.h is the C face.
+pub mod lines;
 pub mod stored;
 
 ghost use mathlib.Core.Path.{_≡_};
@@ -7,6 +9,8 @@ ghost use Prim.Native.Nat.{ℕ};
 ghost use Rattle.protocol.specs.Services.{sumService, usedService, buildService, countService};
 ghost use Rattle.protocol.specs.Records.{lentOf};
 ghost use Rattle.board.specs.Stored.{storedReaderOf, storedFreshOf, storedCallOf, storedSwitchOf, storedEndOf, storedSwitchedOf, storedCalledAt, storedSwitchedAt};
+ghost use Rattle.board.specs.Lines.{storedLineOf, storedReceiveOf, storedLineSwitchOf, storedReceivedOf, storedEmptiedOf, storedReceivedAt, storedEmptiedAt};
+use crate::lines::StoredLine;
 use crate::stored::StoredSettings;
 use library::index;
 use place::Answered;
@@ -14,6 +18,14 @@ use protocol::numbers;
 use wire::builder;
 use wire::bytes;
 use wire::finder;
+
+// What a receiver's call returns: the refusal or 0, the bytes taken of the piece, and the reply's length.
+#[repr(C)]
+pub struct Taken {
+    pub refusal: u8,
+    pub taken: usize,
+    pub length: usize,
+}
 
 // The sum of all bytes of a run modulo 65536.
 #[no_mangle]
@@ -103,6 +115,52 @@ pub extern "C" fn bystrodol_line_switch(
     let switched = stored::line_switch(*settings, buffer1, buffer2);
     *settings = switched.settings;
     switched.refusal
+}
+
+// A call of the receiver on a lent line.
+#[no_mangle]
+pub extern "C" fn bystrodol_receive(
+    line: &mut StoredLine,
+    templates: &mut [u8],
+    index: &mut [u8],
+    notepad: &mut [u8],
+    buffer1: &mut [u8],
+    buffer2: &mut [u8],
+    piece: &[u8],
+    reply: &mut [u8],
+) -> Taken
+    ensures { λ r. ⌜ storedReceivedOf (storedReceivedAt (now (line .exit)) r) (now (templates .exit)) (now (index .exit)) (now (notepad .exit)) (now (buffer1 .exit)) (now (buffer2 .exit)) (now (reply .exit)) ≡ storedReceiveOf (storedLineOf (now (line .entry)) (now (templates .entry)) (now (index .entry)) (now (notepad .entry)) (now (buffer1 .entry)) (now (buffer2 .entry))) (now (piece .entry)) (lentOf (now (reply .entry))) ⌝ }
+{
+    let received = lines::receive(
+        *line,
+        templates,
+        index,
+        notepad,
+        buffer1,
+        buffer2,
+        piece,
+        reply,
+    );
+    *line = received.line;
+    Taken {
+        refusal: received.refusal,
+        taken: received.taken,
+        length: received.length,
+    }
+}
+
+// A line switch on a lent line, which empties its receiver.
+#[no_mangle]
+pub extern "C" fn bystrodol_receiver_switch(
+    line: &mut StoredLine,
+    buffer1: &mut [u8],
+    buffer2: &mut [u8],
+) -> u8
+    ensures { λ r. ⌜ ((t i n : List ℕ) → storedEmptiedOf (storedEmptiedAt (now (line .exit)) r) t i n (now (buffer1 .exit)) (now (buffer2 .exit)) ≡ storedLineSwitchOf (storedLineOf (now (line .entry)) t i n (now (buffer1 .entry)) (now (buffer2 .entry)))) ⌝ }
+{
+    let emptied = lines::receiver_switch(*line, buffer1, buffer2);
+    *line = emptied.line;
+    emptied.refusal
 }
 
 // Fresh settings.

@@ -60,7 +60,7 @@ fn has_fit_marks(s: StoredSettings) -> bool
 }
 
 // The level that the reader is handed: where a mark is not fit, one that is not legal. So the reader refuses such a mark, in its own order.
-fn level_of(s: StoredSettings) -> u8
+pub(crate) fn level_of(s: StoredSettings) -> u8
     ensures { λ r. ⌜ r ≡ cond (fitMarks (marksOf s)) (s .level) 0 ⌝ }
 {
     let fit = has_fit_marks(s);
@@ -68,7 +68,7 @@ fn level_of(s: StoredSettings) -> u8
 }
 
 // The settings as the reader takes them, with this level.
-fn read(s: StoredSettings, level: u8) -> Settings
+pub(crate) fn read(s: StoredSettings, level: u8) -> Settings
     ensures { λ r. ⌜ r ≡ settingsAt level s ⌝ }
 {
     let password = s.password;
@@ -117,7 +117,7 @@ fn store(s: Settings, spare: u8) -> StoredSettings
 }
 
 // What lies there after a call: the old settings where it was refused, else the new ones.
-fn keep(old: StoredSettings, new: Settings, refusal: u8) -> StoredSettings
+pub(crate) fn keep(old: StoredSettings, new: Settings, refusal: u8) -> StoredSettings
     ensures { λ r. ⌜ r ≡ keptOf old new refusal ⌝ }
 {
     if refusal != refusals::ACCEPTED {
