@@ -220,3 +220,21 @@ module _ (σ : Shape) where
       pub all-drained : receiveOf σ x piece lent .after ≡ drained (x .reader) (bytesIn (x .receiver) ++ piece) .after
       unfolding atRest
       all-drained = rw (does, offers-nothing, append-nil (bytesIn (x .receiver)), drained-rest (x .reader) (bytesIn (x .receiver)) still) refl
+
+      -- and the caller, who offered all that was left, is at rest: what he tests by two numbers is what `Rests` says
+      pub stops-at-rest : (replies : List (List ℕ)) → Rests σ record { replies = replies; after = x; left = piece } lent
+      stops-at-rest replies =
+          let c : Carried σ x piece lent = accepted σ x piece lent e in
+          let o = idle σ x [] lent (c .legal) (c .roomy) (c .few) (fits-nil (x .receiver)) still in
+          record {
+            all = offers-nothing;
+            accepted = ap (λ (y : Handed). y .told .refusal) o;
+            takes = ap (λ (y : Handed). y .told .used) o;
+            answers = ap (λ (y : Handed). y .told .length) o;
+            leaves = ap (λ (y : Handed). bytesIn (y .after .receiver)) o ∙ in-holding (bytesIn (x .receiver));
+          }
+
+      -- what stays held is nothing, a lone EF, or an unfinished packet of at most 264 bytes
+      pub holds-waiting : Waiting (take (x .receiver .count) (x .receiver .held))
+      unfolding bytesIn
+      holds-waiting = found-waits (bytesIn (x .receiver)) still
