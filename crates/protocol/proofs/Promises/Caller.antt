@@ -9,8 +9,8 @@ use lib.Dec.{T, eqb, eqb→eq}
 use lib.ListN.{take, drop}
 use Rattle.protocol.specs.Finder.{findOf, usedOf}
 use Rattle.protocol.specs.Reader.{Reader}
-use Rattle.protocol.specs.Step.{Outcome, stepOf}
-use Rattle.protocol.specs.Call.{Shape, Lent, fitLent, legal, Told, Ended, replyOf, callOf}
+use Rattle.protocol.specs.Step.{stepOf}
+use Rattle.protocol.specs.Call.{Shape, Lent, fitLent, legal, Told, replyOf, callOf}
 use Rattle.protocol.specs.Dialogue.{Event, received, switch}
 use Rattle.protocol.specs.Receiver.{holding, Line, line, Handed, receiveOf, lineSwitchOf}
 use Rattle.protocol.specs.Caller.{Try, Ran, replied, offers, served, resting, atRest, drained, onLine, finallyOn, Talk, endsAt, begins, talk}
@@ -80,7 +80,7 @@ module _ (σ : Shape) where
         let a : take (callOf σ r s lent .told .length) (callOf σ r s lent .told .room) ≡ stepOf r s .reply = by .1 .0 in
         rw (by .0, by .1 .1, a) (drained-call r s ∙ replied-is (stepOf r s .reply) (drained (stepOf r s .after) (drop (usedOf (findOf s)) s)))
 
--- ---- sequences of pieces and line switches
+  -- ---- sequences of pieces and line switches
 
   pub piece-is : (x : Line) (piece : List ℕ) (lent : Lent) → onLine σ x (received piece lent) ≡ receiveOf σ x piece lent
   unfolding onLine
