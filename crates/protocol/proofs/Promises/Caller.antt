@@ -18,11 +18,12 @@ use Rattle.protocol.proofs.Laws.Logic.{and-l, and-r, and-i, eq→eqb}
 use Rattle.protocol.proofs.Laws.Drain.{drained-rest, drained-call}
 use Rattle.protocol.proofs.Promises.Cuts.{drains-by-call}
 
--- a call told this, and then came all of these: its reply, unless it is silence, stands before theirs
+-- a reply, unless it is silence
 abbrev pub spoken : List ℕ → List (List ℕ)
 spoken [] = []
 spoken (b ∷ a) = (b ∷ a) ∷ []
 
+-- a call that told this, and then all of these: its reply stands before theirs
 abbrev pub before : Told → Ran → Ran
 before t d = record { replies = spoken (take (t .length) (t .room)) ++ d .replies; after = d .after; left = d .left }
 
