@@ -141,8 +141,11 @@ class Source:
     def of(self, node):
         return self.text[node.start:node.end]
 
-    def importing(self, name, beside):
-        """What brings a name in from the module that another name of this file comes from."""
+    def importing(self, name, beside, module=None):
+        """What brings a name in from the module that another name of this file comes from, or else from the module that is named."""
+        if module and not any({name, beside} & names for _, names in self.uses):
+            first = self.blocks[0][0]
+            return [Edit(first, first, f"use {module}.{{{name}}}\n")]
         return [Edit(end, end, ", " + name) for end, names in self.uses if beside in names and name not in names]
 
 

@@ -126,7 +126,7 @@ def a_not_added(d, s, e, n):
     if n.kind == "chain" and n.more[0].text in ("&&", "||", ","):
         for test in n.parts[:1] if n.more[0].text == "," else n.parts:
             if not s.of(test).startswith("not "):
-                yield Edit(test.start, test.end, f"not ({s.of(test)})"), s.importing("not", "Bool")
+                yield Edit(test.start, test.end, f"not ({s.of(test)})"), s.importing("not", "Bool", "mathlib.Core.Bool")
 
 
 def a_part_of_a_record_kept_or_lost(d, s, e, n):

@@ -26,6 +26,7 @@ pub mod ValidCount
 pub mod Lock
 pub mod Receiver
 pub mod Cuts
+pub mod Caller
 pub mod ComesToRest
 pub mod ReceiverLock
 pub mod ReceiverCalls

@@ -24,7 +24,7 @@ use Rattle.protocol.proofs.Laws.Lists.{take-lay, lay-nothing}
 use Rattle.protocol.proofs.Laws.Answers.{call-legal}
 use Rattle.protocol.proofs.Laws.Finder.{used-in}
 use Rattle.protocol.proofs.Laws.Drain.{drained-rest, drained-more, step-rest}
-use Rattle.protocol.proofs.Laws.Holding.{in-holding, all-in, few-fit, length-run, reply-taken, receive-legal, Carried, accepted}
+use Rattle.protocol.proofs.Laws.Holding.{in-holding, all-in, few-held, length-run, reply-taken, receive-legal, Carried, accepted}
 use Rattle.protocol.proofs.Promises.ZeroUsed.{Waiting, empty-run, found-waits}
 
 -- ---- one call
@@ -159,6 +159,21 @@ module _ (σ : Shape) where
       go (inr (inl e)) = let m : length s ≡ 1 = ap (λ (y : List ℕ). length y) e in omega arith
       go (inr (inr w)) = omega (arith, w .few)
 
+  -- a call that is carried out leaves room for a byte
+  pub leaves-room : (x : Line) (piece : List ℕ) (lent : Lent) → receiveOf σ x piece lent .told .refusal ≡ 0 → receiveOf σ x piece lent .after .receiver .count ≤ 264
+  unfolding holds longest
+  leaves-room x piece lent e = go (decLe 1 (usedOf (findOf run)))
+    where
+      run : List ℕ
+      run = runOf (x .receiver) piece
+
+      few : length run ≤ 265
+      few = few-held (x .receiver) piece (accepted σ x piece lent e .few)
+
+      go : Dec (1 ≤ usedOf (findOf run)) → receiveOf σ x piece lent .after .receiver .count ≤ 264
+      go (yes h) = omega (arith, few, count-after σ x piece lent e)
+      go (no h) = let u : usedOf (findOf run) ≡ 0 = omega arith in omega (arith, count-after σ x piece lent e, waits-few run u)
+
   -- of a piece that has a byte, nothing fits: the receiver is full
   pub none-fits : (h : Receiver) (piece : List ℕ) → h .count ≤ 265 → 1 ≤ length piece → length (fitting h piece) ≡ 0 → h .count ≡ 265
   unfolding fitting holds longest
@@ -175,14 +190,7 @@ module _ (σ : Shape) where
 
     -- a full receiver always drops something
     pub full-drops : x .receiver .count ≡ 265 → receiveOf σ x piece lent .after .receiver .count < 265
-    unfolding holds longest
-    full-drops full =
-        let long : length (runOf (x .receiver) piece) ≡ 265 = omega (arith, length-held, few-fit (x .receiver) piece) in
-        go (decLe 1 (usedOf (findOf (runOf (x .receiver) piece)))) long
-      where
-        go : Dec (1 ≤ usedOf (findOf (runOf (x .receiver) piece))) → length (runOf (x .receiver) piece) ≡ 265 → receiveOf σ x piece lent .after .receiver .count < 265
-        go (yes h) long = omega (arith, count-after σ x piece lent e)
-        go (no h) long = let u : usedOf (findOf (runOf (x .receiver) piece)) ≡ 0 = omega arith in absurd (omega (arith, waits-few (runOf (x .receiver) piece) u))
+    full-drops full = omega (arith, leaves-room x piece lent e)
 
     -- how a caller sees the end by two numbers: a call that takes nothing and leaves the held count
     module _ (k : receiveOf σ x piece lent .told .used ≡ 0) (same : receiveOf σ x piece lent .after .receiver .count ≡ x .receiver .count) where
@@ -220,3 +228,21 @@ module _ (σ : Shape) where
       pub all-drained : receiveOf σ x piece lent .after ≡ drained (x .reader) (bytesIn (x .receiver) ++ piece) .after
       unfolding atRest
       all-drained = rw (does, offers-nothing, append-nil (bytesIn (x .receiver)), drained-rest (x .reader) (bytesIn (x .receiver)) still) refl
+
+      -- and the caller, who offered all that was left, is at rest: what he tests by two numbers is what `Rests` says
+      pub stops-at-rest : (replies : List (List ℕ)) → Rests σ record { replies = replies; after = x; left = piece } lent
+      stops-at-rest replies =
+          let c : Carried σ x piece lent = accepted σ x piece lent e in
+          let o = idle σ x [] lent (c .legal) (c .roomy) (c .few) (fits-nil (x .receiver)) still in
+          record {
+            all = offers-nothing;
+            accepted = ap (λ (y : Handed). y .told .refusal) o;
+            takes = ap (λ (y : Handed). y .told .used) o;
+            answers = ap (λ (y : Handed). y .told .length) o;
+            leaves = ap (λ (y : Handed). bytesIn (y .after .receiver)) o ∙ in-holding (bytesIn (x .receiver));
+          }
+
+      -- what stays held is nothing, a lone EF, or an unfinished packet of at most 264 bytes
+      pub holds-waiting : Waiting (take (x .receiver .count) (x .receiver .held))
+      unfolding bytesIn
+      holds-waiting = found-waits (bytesIn (x .receiver)) still

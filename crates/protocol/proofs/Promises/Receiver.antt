@@ -1,19 +1,25 @@
 -- Request [1], one call: "Add a receiver that holds up to 265 bytes between calls, takes a piece, answers at most one packet, and says how many
 -- bytes of the piece it took .. A line switch empties the held bytes. A call takes what fits of the piece, does document 01's call on all
 -- held bytes, and drops those used. Refusals: held count above 265 is 3; a refused call takes and drops nothing."
-use mathlib.Core.Path.{_≡_, refl, sym, subst}
-use mathlib.Core.Logic.{_↔_}
+use mathlib.Core.Path.{_≡_, refl, sym, ap, _∙_, subst}
+use mathlib.Core.Logic.{_≢_, _↔_}
 use mathlib.Core.List.{List, [], _∷_, _++_}
-use Prim.Native.Nat.{ℕ, zero, suc, _-_, _≤_, min}
+use Prim.Native.Nat.{ℕ, zero, suc, _+_, _-_, _≤_, min}
+use native.Mathlib.Omega.{arith}
 use lib.Dec.{T, leb, leb→le, le→leb}
-use lib.ListN.{length, take, drop, replicate, length-take}
+use lib.ListN.{length, take, drop, replicate, length-take, length-drop}
+use Rattle.protocol.specs.declared.Found.{Found}
+use Rattle.protocol.specs.declared.Found.the-variants.{Noise, Unfinished, Unfit, Whole}
 use Rattle.protocol.specs.Numbers.{holds, longest}
+use Rattle.protocol.specs.Finder.{findOf, usedOf}
+use Rattle.protocol.specs.Reader.{Reader}
 use Rattle.protocol.specs.Step.{stepOf}
 use Rattle.protocol.specs.Call.{core, Lent, fitLent, fitLengths, fitBuffers, fitRoom, sound, Ended, refused, carried, callOf, switchRefusal, switchAs, switchOf}
 use Rattle.protocol.specs.Receiver.{bytesIn, holding, Line, Handed, fitting, runOf, handed, receiveRefusal, receiveAs, receiveOf, lineSwitchAs, lineSwitchOf}
 use Rattle.protocol.proofs.Laws.Lines.{Line as Unless, unless, Follows, follows}
 use Rattle.protocol.proofs.Laws.Answers.{call-legal}
 use Rattle.protocol.proofs.Laws.Holding.{in-holding, holding-zero, Carried, accepted}
+use Rattle.protocol.proofs.Promises.Finding.{WholeAt, whole, finds, found, whole-at, uses, silent-without, silently}
 use Rattle.protocol.proofs.Promises.LegalMeans.{Lengths, Settled, lengths-mean, settings-mean, Means}
 use Rattle.protocol.proofs.Promises.Refused.{Unused, switch-lines, buffers}
 
@@ -67,6 +73,8 @@ pub record Takes (x : Line) (piece : List ℕ) (e : Ended) (o : Handed) : Type 0
   pub called : e .told .refusal ≡ 0
   -- "takes what fits of the piece", and says how many bytes
   pub taken : o .told .used ≡ min (265 - x .receiver .count) (length piece)
+  -- how many are held then: all, but those used
+  pub count : o .after .receiver .count ≡ length (take (x .receiver .count) (x .receiver .held) ++ take (265 - x .receiver .count) piece) - e .told .used
   -- "does document 01's call": its reply, and its reader after it
   pub length : o .told .length ≡ e .told .length
   pub room : o .told .room ≡ e .told .room
@@ -87,12 +95,51 @@ takes-what-fits x piece lent e =
     record {
       called = refl;
       taken = length-take (265 - x .receiver .count) piece;
+      count = length-drop (stepOf (x .reader) run .used) run;
       length = refl;
       room = refl;
       reader = refl;
       held = in-holding rest;
       zero = holding-zero rest;
     }
+
+-- "answers at most one packet": of all held bytes the first whole packet alone is dealt with, and nothing behind it is dropped; where there is
+-- none, the call is silent and the reader stays
+pub data Deals (run : List ℕ) (r : Reader) (lent : Lent) (o : Handed) : Type 0 where
+  none : ((p n : ℕ) → WholeAt run p n → ⊥) → o .told .length ≡ 0 → o .told .room ≡ lent .room → o .after .reader ≡ r → Deals run r lent o
+  one : (p n : ℕ) → WholeAt run p n → take (o .after .receiver .count) (o .after .receiver .held) ≡ drop (p + 9 + n) run → Deals run r lent o
+
+pub deals-with-one : (x : Line) (piece : List ℕ) (lent : Lent) → receiveOf core x piece lent .told .refusal ≡ 0
+    → Deals (take (x .receiver .count) (x .receiver .held) ++ take (265 - x .receiver .count) piece) (x .reader) lent (receiveOf core x piece lent)
+deals-with-one x piece lent e = go (findOf run) refl
+  where
+    run : List ℕ
+    run = take (x .receiver .count) (x .receiver .held) ++ take (265 - x .receiver .count) piece
+
+    call : Ended
+    call = callOf core (x .reader) run lent
+
+    goal : Type 0
+    goal = Deals run (x .reader) lent (receiveOf core x piece lent)
+
+    does : Takes x piece call (receiveOf core x piece lent)
+    does = takes-what-fits x piece lent e
+
+    fit : Carried core x piece lent
+    fit = accepted core x piece lent e
+
+    silent : (f : Found) → findOf run ≡ f → ((p n : ℕ) → f ≢ Whole p n) → goal
+    silent f q d =
+        let s : call ≡ silently (x .reader) (usedOf (findOf run)) lent = silent-without core (x .reader) run lent (fit .legal) (fit .roomy) (finds run) (λ p n z. d p n (sym q ∙ z)) in
+        none (λ p n w. d p n (sym q ∙ found (whole w) .0)) (does .length ∙ ap (λ (y : Ended). y .told .length) s) (does .room ∙ ap (λ (y : Ended). y .told .room) s) (does .reader ∙ ap (λ (y : Ended). y .after) s)
+
+    go : (f : Found) → findOf run ≡ f → goal
+    go (Noise k) q = silent (Noise k) q (λ p n z. let a : _≡_ {A = ℕ} 0 1 = cc in omega arith)
+    go (Unfinished k) q = silent (Unfinished k) q (λ p n z. let a : _≡_ {A = ℕ} 0 1 = cc in omega arith)
+    go (Unfit k) q = silent (Unfit k) q (λ p n z. let a : _≡_ {A = ℕ} 0 1 = cc in omega arith)
+    go (Whole p n) q =
+        let w : WholeAt run p n = whole-at run p n q in
+        one p n w (does .held ∙ ap (λ (k : ℕ). drop k run) (uses core (x .reader) run lent (fit .legal) (fit .roomy) (whole w)))
 
 -- ---- the line switch
 
