@@ -16,7 +16,6 @@ use Rattle.protocol.specs.declared.Receiver.{Receiver}
 use Rattle.protocol.specs.declared.Received.{Received}
 use Rattle.protocol.specs.Numbers.{replyRoom, fourBytes, holds, longest}
 use Rattle.protocol.specs.Bytes.{Bytes}
-use Rattle.protocol.specs.Reader.{Reader}
 use Rattle.protocol.specs.Finder.{findOf, usedOf}
 use Rattle.protocol.specs.Call.{core, Lent, fitRoom, Typed, refused}
 use Rattle.protocol.specs.Receiver.{bytesIn, Line, line, Handed, fitting, runOf, handed, receiveOf}

@@ -1,6 +1,5 @@
 // One call of the receiver, with what its caller's loop needs to know of it, and which is the last.
 ghost use mathlib.Core.Path.{_≡_};
-ghost use lib.ListN.{length};
 ghost use Rattle.protocol.specs.Receiver.{line};
 ghost use Rattle.protocol.specs.Records.{readerOf, lentOf, receivedOf};
 ghost use Rattle.bench.specs.Offer.{Offered, isLast};

@@ -16,6 +16,19 @@ abbrev μ-loop : tie.MeasureT-loop
 μ-loop templates₀ index₀ notepad₀ buffer1₀ buffer2₀ piece₀ reply₀ held₀ current₀ turns₀ templates index notepad buffer1 buffer2 piece reply held current turns =
     turns
 
+-- from behind the answer back to it, and to the loop's test
+unfoldable answered : tie.After-struct-known Inv-loop μ-loop → tie.After-answer Inv-loop μ-loop
+answered c = search
+
+unfoldable looped : tie.After-answer Inv-loop μ-loop → tie.In-loop Inv-loop μ-loop
+looped c = search
+
+unfoldable begun : tie.In-loop Inv-loop μ-loop → tie.At-loop Inv-loop μ-loop
+begun c = search
+
+unfoldable pieced : tie.After-answer Inv-loop μ-loop → tie.After-read Inv-loop μ-loop
+pieced c = search
+
 empty-requires : tie.Need-empty-requires Inv-loop μ-loop
 empty-requires c κs = search needs
 
@@ -56,43 +69,85 @@ slice-reshare-prefix-answer : tie.Need-slice-reshare-prefix-answer Inv-loop μ-l
 slice-reshare-prefix-answer c = search needs
 
 slice-aggregate-answer : tie.Need-slice-aggregate-answer Inv-loop μ-loop
-slice-aggregate-answer c = search needs
+slice-aggregate-answer c = let o = (let p : tie.After-read Inv-loop μ-loop = search in p .read) in search front-long
 
 answer-requires : tie.Need-answer-requires Inv-loop μ-loop
 answer-requires c κs = search needs
 
 same-length-8 : tie.Need-same-length-8 Inv-loop μ-loop
-same-length-8 c = search needs
+unfolding answered looped begun pieced
+same-length-8 c =
+    let o = answered (search) .answer .kept in
+    let r = pieced (answered (search)) .read .kept in
+    let l = begun (looped (answered (search))) .loop in
+    omega arith
 
 same-length-9 : tie.Need-same-length-9 Inv-loop μ-loop
-same-length-9 c = search needs
+unfolding answered looped begun pieced
+same-length-9 c =
+    let o = answered (search) .answer .kept in
+    let r = pieced (answered (search)) .read .kept in
+    let l = begun (looped (answered (search))) .loop in
+    omega arith
 
 same-length-10 : tie.Need-same-length-10 Inv-loop μ-loop
-same-length-10 c = search needs
+unfolding answered looped begun pieced
+same-length-10 c =
+    let o = answered (search) .answer .kept in
+    let r = pieced (answered (search)) .read .kept in
+    let l = begun (looped (answered (search))) .loop in
+    omega arith
 
 same-length-11 : tie.Need-same-length-11 Inv-loop μ-loop
-same-length-11 c = search needs
+unfolding answered looped begun pieced
+same-length-11 c =
+    let o = answered (search) .answer .kept in
+    let r = pieced (answered (search)) .read .kept in
+    let l = begun (looped (answered (search))) .loop in
+    omega arith
 
 same-length-12 : tie.Need-same-length-12 Inv-loop μ-loop
-same-length-12 c = search needs
+unfolding answered looped begun pieced
+same-length-12 c =
+    let o = answered (search) .answer .kept in
+    let r = pieced (answered (search)) .read .kept in
+    let l = begun (looped (answered (search))) .loop in
+    omega arith
 
 same-length-13 : tie.Need-same-length-13 Inv-loop μ-loop
-same-length-13 c = search needs
+unfolding answered looped begun pieced
+same-length-13 c =
+    let o = answered (search) .answer .kept in
+    let r = pieced (answered (search)) .read .kept in
+    let l = begun (looped (answered (search))) .loop in
+    omega arith
 
 same-length-14 : tie.Need-same-length-14 Inv-loop μ-loop
-same-length-14 c = search needs
+unfolding answered looped begun pieced
+same-length-14 c =
+    let o = answered (search) .answer .kept in
+    let r = pieced (answered (search)) .read .kept in
+    let l = begun (looped (answered (search))) .loop in
+    omega arith
 
 returns-2 : tie.Need-returns-2 Inv-loop μ-loop
 returns-2 c = search needs
 
 sub-turns : tie.Need-sub-turns Inv-loop μ-loop
-sub-turns c = search needs
+unfolding answered looped begun
+sub-turns c = let l = looped (answered (search)) .loop-test in omega arith
 
 loop-less : tie.Need-loop-less Inv-loop μ-loop
-loop-less c = search needs
+unfolding answered looped begun
+loop-less c = let l = looped (answered (search)) .loop-test in omega arith
 
 loop-again : tie.Need-loop-again Inv-loop μ-loop
-loop-again c = (search kept-on, (omega arith, omega arith))
+unfolding answered looped begun pieced
+loop-again c =
+    let o = answered (search) .answer in
+    let r = pieced (answered (search)) .read in
+    let l = begun (looped (answered (search))) .loop in
+    (search kept-on, (omega arith, omega arith))
 
 same-length-15 : tie.Need-same-length-15 Inv-loop μ-loop
 same-length-15 c = search needs
