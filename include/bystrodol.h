@@ -22,23 +22,25 @@
  *     refusal tells whether the stored settings and index are legal. Any password and any address are, so keep a sum of your
  *     own over what is stored. Fresh settings have no password: do not fall back to them where the memory has templates.
  *   A loop. Read what the port has, a piece of any length, and offer it until a call takes nothing and leaves the held count:
- *     then all is taken, nothing was answered, and there is nothing left to do. How the bytes were cut makes no difference.
- *     MEMORY stands for the arguments from templates to buffer2_length.
+ *     then, if it was not refused, all is taken, nothing was answered, and there is nothing left to do. How the bytes were cut
+ *     makes no difference. MEMORY stands for the arguments from templates to buffer2_length; piece is not NULL here.
  *         do {
  *             held = line.receiver.count;
  *             r = bystrodol_receive(&line, MEMORY, piece, length, reply, sizeof reply);
  *             send(reply, r.length), piece += r.taken, length -= r.taken;
  *         } while (r.taken != 0 || line.receiver.count != held);
  *     At each call send r.length bytes of the reply room, and no more: behind them lie bytes of earlier replies, templates
- *     among them. A refused call ends the loop, too. If r.refusal is not 0, stop: the same call will be refused again.
+ *     among them. The next call writes over them, so send ends only when they have left or are copied. A refused call ends
+ *     the loop, too. If r.refusal is not 0, stop: the same call will be refused again.
  *   Silence. An unfinished packet stays held, and the rest of it is awaited: up to 264 bytes that come next are taken for it.
  *     The core knows no time. After a pause of your own choosing, longer than a host ever makes inside a packet, go on with an
  *     empty receiver: memset(&line.receiver, 0, sizeof line.receiver). Nothing is called for that, and nothing else of the
  *     reader changes. Drop all bytes that are held, and not some: what is left of a packet could have a command in its data.
  *     A transfer stays open; the host's next command ends it.
  *   Another host. Call bystrodol_receiver_switch whenever the line goes to another host: without it that one finds the reader
- *     as the last one left it, open and with its buffers. Do not call bystrodol_line_switch, which knows of no receiver: bytes
- *     of the last host would stay held, before those of the next.
+ *     as the last one left it, open and with its buffers. Drop also what is left of a piece and what the port has not handed
+ *     over yet, which are the last host's bytes, and let no reply to it go on to the next. Do not call bystrodol_line_switch,
+ *     which knows of no receiver: bytes of the last host would stay held, before those of the next.
  *   Saving. The table of commands below says what each one changes.
  */
 #ifndef BYSTRODOL_H
@@ -51,8 +53,8 @@
  * change of the caller. */
 #define BYSTRODOL_VERSION_MAJOR 0
 #define BYSTRODOL_VERSION_MINOR 1
-#define BYSTRODOL_VERSION_PATCH 0
-#define BYSTRODOL_VERSION "0.1.0"
+#define BYSTRODOL_VERSION_PATCH 1
+#define BYSTRODOL_VERSION "0.1.1"
 
 /* ---- lengths, in bytes */
 
@@ -99,7 +101,7 @@
  * and index after Store, DeletChar and Empty, settings after SetSysPara, SetPwd and SetAdder, and the notepad after
  * WriteNotepad; or compare them with what was saved. In a call that replied, the packet begins at the first EF 01 of the
  * run, and its code stands 9 bytes further; the reply's code is byte 9 of the reply room. A receiver's run is what it held
- * before the call, and behind that what the call took.
+ * before the call, and behind that what the call took; the call drops it, so look before, or compare what is stored.
  */
 #define BYSTRODOL_COMMAND_STORE 0x06u            /* buffer, page: templates and index */
 #define BYSTRODOL_COMMAND_LOAD_CHAR 0x07u        /* buffer, page: that buffer; settings (its filled mark) */
@@ -171,13 +173,14 @@ struct bystrodol_settings {
  * A receiver, 268 bytes: the bytes that came and are not dealt with yet, at the front of held. Between held and count lies one
  * byte of padding, at offset 265; it means nothing, and a call may change it.
  *
- * All zeros is a receiver that holds nothing. Any bytes may lie in held; a count above 265 is refused with 3. After each call
- * that is carried out, and after a line switch, every byte of held from the count on is 0, whatever it was before: no byte
- * of a packet stays behind once the packet is dealt with.
+ * All zeros is a receiver that holds nothing. Any bytes may lie in held; a count above 265 is refused with 3, until the line
+ * switch or an empty receiver. After each call and line switch that is not refused, every byte of held from the count on is 0,
+ * whatever it was before: no byte of a packet stays behind in it once the packet is dealt with. The piece and the reply room
+ * are the caller's to clear.
  */
 struct bystrodol_receiver {
     uint8_t held[BYSTRODOL_HELD_MOST];
-    uint16_t count; /* how many are held, 0 to 265; at rest at most 264 */
+    uint16_t count; /* how many are held, 0 to 265; at most 264 after a call that is not refused */
 };
 
 /*

@@ -251,30 +251,32 @@ static void loops(void) {
     is_as_whole(run_length, rest);
 }
 
-/* ---- counts above 265 */
+/* ---- refusals, at every held count */
 
-/* Lengths, then the reply room, then the count; refused, nothing is taken and nothing dropped. */
-static void is_refused(size_t count, size_t index_length, size_t room, uint8_t refusal) {
+/* Lengths, then the reply room, then settings and count; refused, nothing is taken and nothing dropped. */
+static void is_refused(size_t count, size_t index_length, size_t room, uint8_t level, uint8_t refusal) {
     set_up(&reader);
     hold(&reader, run, MOST, 0);
     reader.line.receiver.count = (uint16_t)count;
+    reader.line.settings.level = level;
     was = reader;
     struct bystrodol_received r = bystrodol_receive(&reader.line, LENT(reader.templates), reader.index, index_length,
                                                     LENT(reader.notepad), BUFFERS(&reader), run, 12, reader.reply, room);
-    check_of("a held count above 265", count, "refusal", r.refusal, refusal);
-    check_of("a held count above 265", count, "bytes taken", r.taken, 0);
-    check_of("a held count above 265", count, "reply length", r.length, 0);
-    is_unchanged("a held count above 265", count);
+    check_of("a refused call", count, "refusal", r.refusal, refusal);
+    check_of("a refused call", count, "bytes taken", r.taken, 0);
+    check_of("a refused call", count, "reply length", r.length, 0);
+    is_unchanged("a refused call", count);
 }
 
 static void counts(void) {
     make_dialogue();
-    for (size_t count = MOST + 1; count <= 0xFFFF; count += count < 600 ? 1 : 61) {
-        is_refused(count, 32, 700, BYSTRODOL_BAD_SETTING);
-        is_refused(count, 31, 699, BYSTRODOL_BAD_LENGTH);
-        is_refused(count, 32, 699, BYSTRODOL_BAD_ROOM);
+    for (size_t count = 0; count <= 0xFFFF; count += count < 600 ? 1 : 61) {
+        is_refused(count, 31, 699, 0, BYSTRODOL_BAD_LENGTH);
+        is_refused(count, 32, 699, 0, BYSTRODOL_BAD_ROOM);
+        is_refused(count, 32, 700, 0, BYSTRODOL_BAD_SETTING);
+        if (count > MOST) is_refused(count, 32, 700, 3, BYSTRODOL_BAD_SETTING);
     }
-    is_refused(0xFFFF, 32, 700, BYSTRODOL_BAD_SETTING);
+    is_refused(0xFFFF, 32, 700, 3, BYSTRODOL_BAD_SETTING);
 }
 
 /* ---- the line switch */
