@@ -1,11 +1,9 @@
 -- The fixed bytes of a frame in and of a frame out (docs/EVIDENCE.md). Numbers are high byte first.
 use mathlib.Core.List.{List, [], _∷_}
 use Prim.Native.Nat.{ℕ, _+_, _*_, _/_, _%_}
-use lib.ListN.{drop}
-use Rattle.protocol.specs.declared.Receiver.{Receiver}
 use Rattle.protocol.specs.Bytes.{byteAt, wordAt}
 use Rattle.board.specs.declared.stored.StoredSettings.{StoredSettings}
-use Rattle.board.specs.declared.stored.StoredCalled.{StoredCalled}
+use Rattle.board.specs.declared.lines.StoredReceived.{StoredReceived}
 
 abbrev pub lengthAt : List ℕ → ℕ → ℕ
 lengthAt f i = wordAt f i * 65536 + wordAt f (i + 2)
@@ -28,18 +26,15 @@ settingsOf f =
       spare = 0;
     }
 
--- the held count, and the cells
-abbrev pub receiverOf : List ℕ → Receiver
-receiverOf f = record { held = drop 2 f; count = wordAt f 0 }
+-- the held count of a receiver
+abbrev pub countOf : ℕ → List ℕ
+countOf n = n / 256 ∷ n % 256 ∷ []
 
-abbrev pub heldOf : Receiver → List ℕ
-heldOf r = r .count / 256 ∷ r .count % 256 ∷ r .held
-
--- the refusal, the bytes used, the reply's length, and the settings
-abbrev pub headOf : StoredCalled → List ℕ
+-- the refusal, the bytes used or taken, the reply's length, and the settings
+abbrev pub headOf : StoredReceived → List ℕ
 headOf c =
-    let s = c .settings in
-    c .refusal ∷ c .used / 16777216 % 256 ∷ c .used / 65536 % 256 ∷ c .used / 256 % 256 ∷ c .used % 256
+    let s = c .line .settings in
+    c .refusal ∷ c .taken / 16777216 % 256 ∷ c .taken / 65536 % 256 ∷ c .taken / 256 % 256 ∷ c .taken % 256
     ∷ c .length / 16777216 % 256 ∷ c .length / 65536 % 256 ∷ c .length / 256 % 256 ∷ c .length % 256
     ∷ byteAt (s .password) 0 ∷ byteAt (s .password) 1 ∷ byteAt (s .password) 2 ∷ byteAt (s .password) 3
     ∷ byteAt (s .address) 0 ∷ byteAt (s .address) 1 ∷ byteAt (s .address) 2 ∷ byteAt (s .address) 3

@@ -3,18 +3,13 @@ ghost use mathlib.Core.Path.{_≡_};
 ghost use Prim.Native.Nat.{_+_, _≤_};
 ghost use lib.ListN.{length};
 ghost use Rattle.protocol.specs.Bytes.{wordAt};
-ghost use Rattle.protocol.specs.Numbers.{holds};
-ghost use Rattle.probe.specs.Frame.{lengthAt, settingsOf, receiverOf, headOf, heldOf};
-use board::stored::StoredCalled;
+ghost use Rattle.probe.specs.Frame.{lengthAt, settingsOf, countOf, headOf};
+use board::lines::StoredReceived;
 use board::stored::StoredSettings;
-use protocol::Receiver;
-use protocol::numbers;
 use wire::bytes;
 
-// The bytes of a receiver in a frame: its count, and its cells.
-pub(crate) const HELD: usize = 2 + numbers::HOLDS;
-
-fn word_at(head: &[u8], at: usize) -> usize
+// A number of two bytes.
+pub(crate) fn word_at(head: &[u8], at: usize) -> usize
     requires { ⌜ at + 2 ≤ length (now head) ⌝ }
     ensures { λ r. ⌜ (r ≡ wordAt (now (head .entry)) at) × (r ≤ 65535) ⌝ }
 {
@@ -50,44 +45,27 @@ pub(crate) fn settings_of(head: &[u8]) -> StoredSettings
     }
 }
 
-// The receiver of a frame in.
-pub(crate) fn receiver_of(held: &[u8]) -> Receiver
-    requires { ⌜ length (now held) ≡ 2 + holds ⌝ }
-    ensures { λ r. ⌜ r ≡ receiverOf (now (held .entry)) ⌝ }
+// The held count of a frame out.
+pub(crate) fn count_of(count: u16) -> [u8; 2]
+    ensures { λ r. ⌜ r ≡ countOf count ⌝ }
 {
-    let mut cells = [0u8; numbers::HOLDS];
-    bytes::put(&mut cells, &held[2..]);
-    Receiver {
-        held: cells,
-        count: word_at(held, 0) as u16,
-    }
+    [(count / 256) as u8, (count % 256) as u8]
 }
 
-// The receiver of a frame out.
-pub(crate) fn held_of(r: Receiver) -> [u8; HELD]
-    ensures { λ x. ⌜ x ≡ heldOf r ⌝ }
-{
-    let cells = r.held;
-    let mut held = [0u8; HELD];
-    held[0] = (r.count / 256) as u8;
-    held[1] = (r.count % 256) as u8;
-    bytes::put(&mut held[2..], &cells);
-    held
-}
-
-// The head of a frame out: the refusal, the bytes used, the reply's length, and the settings.
-pub(crate) fn head_of(c: StoredCalled) -> [u8; 28]
+// The head of a frame out: the refusal, the bytes used or taken, the reply's length, and the settings.
+pub(crate) fn head_of(c: StoredReceived) -> [u8; 28]
     ensures { λ r. ⌜ r ≡ headOf c ⌝ }
 {
-    let s = c.settings;
+    let line = c.line;
+    let s = line.settings;
     let p = s.password;
     let a = s.address;
     [
         c.refusal,
-        (c.used / 16777216 % 256) as u8,
-        (c.used / 65536 % 256) as u8,
-        (c.used / 256 % 256) as u8,
-        (c.used % 256) as u8,
+        (c.taken / 16777216 % 256) as u8,
+        (c.taken / 65536 % 256) as u8,
+        (c.taken / 256 % 256) as u8,
+        (c.taken % 256) as u8,
         (c.length / 16777216 % 256) as u8,
         (c.length / 65536 % 256) as u8,
         (c.length / 256 % 256) as u8,

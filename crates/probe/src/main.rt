@@ -4,11 +4,12 @@ mod frame;
 mod once;
 
 use board::lines::StoredLine;
-use board::stored::StoredCalled;
+use board::lines::StoredReceived;
 use board::stored::StoredSettings;
 use libc::STDERR_FILENO;
 use libc::STDIN_FILENO;
 use libc::STDOUT_FILENO;
+use protocol::Receiver;
 use protocol::numbers;
 
 // The bytes of a frame in before those of its memory.
@@ -42,8 +43,21 @@ fn send(part: &[u8]) -> bool {
     is_sent
 }
 
-// Reads the memory of a frame in.
+// Reads the receiver of a frame in that has one: its held count, and its cells.
+fn fill_receiver(op: u8, count: &mut [u8], cells: &mut [u8]) -> bool {
+    if op < 2 {
+        return true;
+    }
+    let n = fill(count);
+    let c = fill(cells);
+    n && c
+}
+
+// Reads the receiver and the memory of a frame in.
 fn fill_all(
+    op: u8,
+    count: &mut [u8],
+    cells: &mut [u8],
     templates: &mut [u8],
     index: &mut [u8],
     notepad: &mut [u8],
@@ -52,6 +66,7 @@ fn fill_all(
     run: &mut [u8],
     reply: &mut [u8],
 ) -> bool {
+    let h = fill_receiver(op, count, cells);
     let t = fill(templates);
     let i = fill(index);
     let n = fill(notepad);
@@ -59,12 +74,19 @@ fn fill_all(
     let c = fill(buffer2);
     let s = fill(run);
     let r = fill(reply);
-    t && i && n && b && c && s && r
+    h && t && i && n && b && c && s && r
 }
 
-// Writes a frame out: its head, and the memory.
+// Writes the receiver of a frame out that has one.
+fn send_receiver(op: u8, receiver: Receiver) -> bool {
+    let cells = receiver.held;
+    op < 2 || send(&frame::count_of(receiver.count)) && send(&cells)
+}
+
+// Writes a frame out: its head, the receiver, and the memory.
 fn send_all(
-    head: &[u8],
+    op: u8,
+    called: StoredReceived,
     templates: &[u8],
     index: &[u8],
     notepad: &[u8],
@@ -72,7 +94,10 @@ fn send_all(
     buffer2: &[u8],
     reply: &[u8],
 ) -> bool {
-    send(head)
+    let line = called.line;
+    let receiver = line.receiver;
+    send(&frame::head_of(called))
+        && send_receiver(op, receiver)
         && send(templates)
         && send(index)
         && send(notepad)
@@ -93,13 +118,12 @@ fn exchange(
     run: &mut [u8],
     reply: &mut [u8],
 ) -> bool {
-    let is_whole = fill_all(templates, index, notepad, buffer1, buffer2, run, reply);
-    if !is_whole {
-        return complain(b"probe: the input ends inside a frame\n");
-    }
-    let called = once::once(
+    let mut count = [0u8; 2];
+    let mut cells = [0u8; numbers::HOLDS];
+    let is_whole = fill_all(
         op,
-        settings,
+        &mut count,
+        &mut cells,
         templates,
         index,
         notepad,
@@ -108,30 +132,14 @@ fn exchange(
         run,
         reply,
     );
-    let head = frame::head_of(called);
-    send_all(&head, templates, index, notepad, buffer1, buffer2, reply)
-}
-
-// The same of a frame with a receiver, whose bytes stand before the memory.
-fn exchange_line(
-    op: u8,
-    settings: StoredSettings,
-    templates: &mut [u8],
-    index: &mut [u8],
-    notepad: &mut [u8],
-    buffer1: &mut [u8],
-    buffer2: &mut [u8],
-    piece: &mut [u8],
-    reply: &mut [u8],
-) -> bool {
-    let mut held = [0u8; frame::HELD];
-    let is_held = fill(&mut held);
-    let is_whole = fill_all(templates, index, notepad, buffer1, buffer2, piece, reply);
-    if !is_held || !is_whole {
+    if !is_whole {
         return complain(b"probe: the input ends inside a frame\n");
     }
-    let receiver = frame::receiver_of(&held);
-    let received = once::once_line(
+    let receiver = Receiver {
+        held: cells,
+        count: frame::word_at(&count, 0) as u16,
+    };
+    let called = once::once(
         op,
         StoredLine { settings, receiver },
         templates,
@@ -139,19 +147,19 @@ fn exchange_line(
         notepad,
         buffer1,
         buffer2,
-        piece,
+        run,
         reply,
     );
-    let after = received.line;
-    let left = after.settings;
-    let head = frame::head_of(StoredCalled {
-        settings: left,
-        refusal: received.refusal,
-        used: received.taken,
-        length: received.length,
-    });
-    let kept = frame::held_of(after.receiver);
-    send(&head) && send_all(&kept, templates, index, notepad, buffer1, buffer2, reply)
+    send_all(
+        op,
+        called,
+        templates,
+        index,
+        notepad,
+        buffer1,
+        buffer2,
+        reply,
+    )
 }
 
 // Reads a frame's head, and answers the frame. It says whether another frame may come.
@@ -203,19 +211,6 @@ fn answer(
     }
     if reply.len() < r {
         return complain(b"probe: too many bytes of reply room\n");
-    }
-    if 1 < op {
-        return exchange_line(
-            op,
-            frame::settings_of(head),
-            &mut templates[..t],
-            &mut index[..i],
-            &mut notepad[..n],
-            &mut buffer1[..b],
-            &mut buffer2[..c],
-            &mut run[..s],
-            &mut reply[..r],
-        );
     }
     exchange(
         op,

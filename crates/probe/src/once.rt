@@ -1,19 +1,16 @@
-// One call of the reader or one line switch, without a receiver and with one, as the doors for C have them.
+// One call or one line switch, of the reader or of its receiver, as the doors for C have them.
 ghost use mathlib.Core.Path.{_≡_};
-ghost use Rattle.board.specs.Stored.{storedReaderOf, storedEndOf};
 ghost use Rattle.board.specs.Lines.{storedLineOf, storedReceivedOf};
-ghost use Rattle.probe.specs.Once.{onceOf, onceLineOf};
+ghost use Rattle.probe.specs.Once.{onceOf};
 use board::lines;
 use board::lines::StoredLine;
 use board::lines::StoredReceived;
 use board::stored;
-use board::stored::StoredCalled;
-use board::stored::StoredSettings;
 
-// 0 is a call, anything else a line switch.
+// 0 is a call and 1 a line switch, which leave the receiver alone; 2 is a call of the receiver, and anything else its line switch.
 pub(crate) fn once(
     op: u8,
-    settings: StoredSettings,
+    line: StoredLine,
     templates: &mut [u8],
     index: &mut [u8],
     notepad: &mut [u8],
@@ -21,11 +18,13 @@ pub(crate) fn once(
     buffer2: &mut [u8],
     run: &[u8],
     reply: &mut [u8],
-) -> StoredCalled
-    ensures { λ r. ⌜ storedEndOf r (now (templates .exit)) (now (index .exit)) (now (notepad .exit)) (now (buffer1 .exit)) (now (buffer2 .exit)) (now (reply .exit)) ≡ onceOf op (storedReaderOf settings (now (templates .entry)) (now (index .entry)) (now (notepad .entry)) (now (buffer1 .entry)) (now (buffer2 .entry))) (now (run .entry)) (now (reply .entry)) ⌝ }
+) -> StoredReceived
+    ensures { λ r. ⌜ storedReceivedOf r (now (templates .exit)) (now (index .exit)) (now (notepad .exit)) (now (buffer1 .exit)) (now (buffer2 .exit)) (now (reply .exit)) ≡ onceOf op (storedLineOf line (now (templates .entry)) (now (index .entry)) (now (notepad .entry)) (now (buffer1 .entry)) (now (buffer2 .entry))) (now (run .entry)) (now (reply .entry)) ⌝ }
 {
+    let settings = line.settings;
+    let receiver = line.receiver;
     if op == 0 {
-        return stored::step(
+        let called = stored::step(
             settings,
             templates,
             index,
@@ -35,31 +34,30 @@ pub(crate) fn once(
             run,
             reply,
         );
+        let after = called.settings;
+        return StoredReceived {
+            line: StoredLine {
+                settings: after,
+                receiver,
+            },
+            refusal: called.refusal,
+            taken: called.used,
+            length: called.length,
+        };
     }
-    let switched = stored::line_switch(settings, buffer1, buffer2);
-    let after = switched.settings;
-    StoredCalled {
-        settings: after,
-        refusal: switched.refusal,
-        used: 0,
-        length: 0,
+    if op == 1 {
+        let switched = stored::line_switch(settings, buffer1, buffer2);
+        let after = switched.settings;
+        return StoredReceived {
+            line: StoredLine {
+                settings: after,
+                receiver,
+            },
+            refusal: switched.refusal,
+            taken: 0,
+            length: 0,
+        };
     }
-}
-
-// With a receiver: 2 is a call, anything else a line switch.
-pub(crate) fn once_line(
-    op: u8,
-    line: StoredLine,
-    templates: &mut [u8],
-    index: &mut [u8],
-    notepad: &mut [u8],
-    buffer1: &mut [u8],
-    buffer2: &mut [u8],
-    piece: &[u8],
-    reply: &mut [u8],
-) -> StoredReceived
-    ensures { λ r. ⌜ storedReceivedOf r (now (templates .exit)) (now (index .exit)) (now (notepad .exit)) (now (buffer1 .exit)) (now (buffer2 .exit)) (now (reply .exit)) ≡ onceLineOf op (storedLineOf line (now (templates .entry)) (now (index .entry)) (now (notepad .entry)) (now (buffer1 .entry)) (now (buffer2 .entry))) (now (piece .entry)) (now (reply .entry)) ⌝ }
-{
     if op == 2 {
         return lines::receive(
             line,
@@ -68,7 +66,7 @@ pub(crate) fn once_line(
             notepad,
             buffer1,
             buffer2,
-            piece,
+            run,
             reply,
         );
     }

@@ -4,11 +4,20 @@ use borrow.Author.Needs.{needs}
 use Rattle.probe.proofs.exchange.Statement.{statement}
 use Rattle.probe.proofs.exchange.Tie as tie
 
--- from behind the frame out back to the call, and to the frame in
+slice-aggregate-fill-all : tie.Need-slice-aggregate-fill-all
+slice-aggregate-fill-all c = search needs
+
+slice-aggregate-fill-all-2 : tie.Need-slice-aggregate-fill-all-2
+slice-aggregate-fill-all-2 c = search needs
+
+-- from behind the frame out back to the call, to the test of the frame in, and to its reading
 unfoldable called : tie.After-send-all → tie.After-once
 called c = search
 
-unfoldable filled : tie.After-once → tie.After-fill-all
+unfoldable tested : tie.After-once → tie.Else1
+tested c = search
+
+unfoldable filled : tie.Else1 → tie.After-fill-all
 filled c = search
 
 fill-all-requires : tie.Need-fill-all-requires
@@ -44,45 +53,48 @@ same-length-7 c = search needs
 returns : tie.Need-returns
 returns c = search needs
 
+slice-aggregate-word-at : tie.Need-slice-aggregate-word-at
+slice-aggregate-word-at c = search needs
+
+word-at-requires : tie.Need-word-at-requires
+word-at-requires c κs = search needs
+
+cast-t41 : tie.Need-cast-t41
+cast-t41 c = search needs
+
 once-requires : tie.Need-once-requires
 once-requires c κs = search needs
-
-head-of-requires : tie.Need-head-of-requires
-head-of-requires c κs = search needs
-
-slice-aggregate-send-all : tie.Need-slice-aggregate-send-all
-slice-aggregate-send-all c = search needs
 
 send-all-requires : tie.Need-send-all-requires
 send-all-requires c κs = search needs
 
 same-length-8 : tie.Need-same-length-8
-unfolding called filled
-same-length-8 c = let o = called (search) .once in let f = filled (called (search)) .fill-all in omega arith
+unfolding called tested filled
+same-length-8 c = let o = called (search) .once in let f = filled (tested (called (search))) .fill-all in omega arith
 
 same-length-9 : tie.Need-same-length-9
-unfolding called filled
-same-length-9 c = let o = called (search) .once in let f = filled (called (search)) .fill-all in omega arith
+unfolding called tested filled
+same-length-9 c = let o = called (search) .once in let f = filled (tested (called (search))) .fill-all in omega arith
 
 same-length-10 : tie.Need-same-length-10
-unfolding called filled
-same-length-10 c = let o = called (search) .once in let f = filled (called (search)) .fill-all in omega arith
+unfolding called tested filled
+same-length-10 c = let o = called (search) .once in let f = filled (tested (called (search))) .fill-all in omega arith
 
 same-length-11 : tie.Need-same-length-11
-unfolding called filled
-same-length-11 c = let o = called (search) .once in let f = filled (called (search)) .fill-all in omega arith
+unfolding called tested filled
+same-length-11 c = let o = called (search) .once in let f = filled (tested (called (search))) .fill-all in omega arith
 
 same-length-12 : tie.Need-same-length-12
-unfolding called filled
-same-length-12 c = let o = called (search) .once in let f = filled (called (search)) .fill-all in omega arith
+unfolding called tested filled
+same-length-12 c = let o = called (search) .once in let f = filled (tested (called (search))) .fill-all in omega arith
 
 same-length-13 : tie.Need-same-length-13
-unfolding called filled
-same-length-13 c = let o = called (search) .once in let f = filled (called (search)) .fill-all in omega arith
+unfolding called tested filled
+same-length-13 c = let o = called (search) .once in let f = filled (tested (called (search))) .fill-all in omega arith
 
 same-length-14 : tie.Need-same-length-14
-unfolding called filled
-same-length-14 c = let o = called (search) .once in let f = filled (called (search)) .fill-all in omega arith
+unfolding called tested filled
+same-length-14 c = let o = called (search) .once in let f = filled (tested (called (search))) .fill-all in omega arith
 
 returns-2 : tie.Need-returns-2
 returns-2 c = search needs
@@ -91,6 +103,8 @@ pub exchange-spec : {M : Type 1} → statement M
 exchange-spec =
     tie.close
     (tie.spec
+    slice-aggregate-fill-all
+    slice-aggregate-fill-all-2
     fill-all-requires
     slice-aggregate-complain
     complain-requires
@@ -102,9 +116,10 @@ exchange-spec =
     same-length-6
     same-length-7
     returns
+    slice-aggregate-word-at
+    word-at-requires
+    cast-t41
     once-requires
-    head-of-requires
-    slice-aggregate-send-all
     send-all-requires
     same-length-8
     same-length-9

@@ -1,8 +1,8 @@
--- A call, or a line switch that leaves the reply room alone.
+-- The four are told apart by the tests; what a call or a line switch of the reader ends at has the receiver beside it, and what a line switch ends at the reply room.
 use mathlib.Core.Path.{ap}
 use borrow.Author.Tests.{eq-eqb, ne-eqb}
 use denote.Ref.{now}
-use Rattle.probe.specs.Once.{besides, onceOf}
+use Rattle.probe.specs.Once.{withReceiver, withRoom, onceOf}
 use borrow.Author.Needs.{needs}
 use Rattle.probe.proofs.once.once.Statement.{statement}
 use Rattle.probe.proofs.once.once.Tie as tie
@@ -33,7 +33,7 @@ unfolding onceOf
 returns c =
     let z = (let p : tie.Then1 = search in p .if1 .taken) in
     let e = (let p : tie.After-step = search in p .step .ensures) in
-    rw (eq-eqb _ _ z) e
+    rw (eq-eqb _ _ z) (ap (withReceiver _) e)
 
 line-switch-requires : tie.Need-line-switch-requires
 line-switch-requires c κs = search needs
@@ -49,8 +49,58 @@ unfolding onceOf
 returns-2 c =
     let a = (let p : tie.Start = search in p .args) in
     let d = (let p : tie.Else1 = search in p .if1 .left) in
+    let z = (let p : tie.Then2 = search in p .if2 .taken) in
     let e = (let p : tie.After-line-switch = search in p .line-switch .ensures (now (a .templates)) (now (a .index)) (now (a .notepad))) in
-    rw (ne-eqb _ _ d) (ap (besides (now (a .reply))) e)
+    rw (ne-eqb _ _ d, eq-eqb _ _ z) (ap (λ x. withRoom (now (a .reply)) (withReceiver (a .line .receiver) x)) e)
+
+receive-requires : tie.Need-receive-requires
+receive-requires c κs = search needs
+
+same-length-9 : tie.Need-same-length-9
+same-length-9 c = search needs
+
+same-length-10 : tie.Need-same-length-10
+same-length-10 c = search needs
+
+same-length-11 : tie.Need-same-length-11
+same-length-11 c = search needs
+
+same-length-12 : tie.Need-same-length-12
+same-length-12 c = search needs
+
+same-length-13 : tie.Need-same-length-13
+same-length-13 c = search needs
+
+same-length-14 : tie.Need-same-length-14
+same-length-14 c = search needs
+
+returns-3 : tie.Need-returns-3
+unfolding onceOf
+returns-3 c =
+    let d = (let p : tie.Else1 = search in p .if1 .left) in
+    let d2 = (let p : tie.Else2 = search in p .if2 .left) in
+    let z = (let p : tie.Then3 = search in p .if3 .taken) in
+    let e = (let p : tie.After-receive = search in p .receive .ensures) in
+    rw (ne-eqb _ _ d, ne-eqb _ _ d2, eq-eqb _ _ z) e
+
+receiver-switch-requires : tie.Need-receiver-switch-requires
+receiver-switch-requires c κs = search needs
+
+same-length-15 : tie.Need-same-length-15
+same-length-15 c = search needs
+
+same-length-16 : tie.Need-same-length-16
+same-length-16 c = search needs
+
+returns-4 : tie.Need-returns-4
+unfolding onceOf
+returns-4 c =
+    let a = (let p : tie.Start = search in p .args) in
+    let d = (let p : tie.Else1 = search in p .if1 .left) in
+    let d2 = (let p : tie.Else2 = search in p .if2 .left) in
+    let d3 = (let p : tie.Else3 = search in p .if3 .left) in
+    let e = (let p : tie.After-receiver-switch = search in p .receiver-switch .ensures (now (a .templates)) (now (a .index)) (now (a .notepad))) in
+    rw (ne-eqb _ _ d, ne-eqb _ _ d2, ne-eqb _ _ d3) (ap (withRoom (now (a .reply))) e)
 
 pub once-spec : {M : Type 1} → statement M
 once-spec =
@@ -67,4 +117,16 @@ once-spec =
     line-switch-requires
     same-length-7
     same-length-8
-    returns-2)
+    returns-2
+    receive-requires
+    same-length-9
+    same-length-10
+    same-length-11
+    same-length-12
+    same-length-13
+    same-length-14
+    returns-3
+    receiver-switch-requires
+    same-length-15
+    same-length-16
+    returns-4)
