@@ -9,11 +9,11 @@ use board::stored::StoredSettings;
 use wire::bytes;
 
 // A number of two bytes.
-pub(crate) fn word_at(head: &[u8], at: usize) -> usize
-    requires { ⌜ at + 2 ≤ length (now head) ⌝ }
-    ensures { λ r. ⌜ (r ≡ wordAt (now (head .entry)) at) × (r ≤ 65535) ⌝ }
+pub(crate) fn word_at(part: &[u8], at: usize) -> usize
+    requires { ⌜ at + 2 ≤ length (now part) ⌝ }
+    ensures { λ r. ⌜ (r ≡ wordAt (now (part .entry)) at) × (r ≤ 65535) ⌝ }
 {
-    bytes::wide(head[at]) * 256 + bytes::wide(head[at + 1])
+    bytes::wide(part[at]) * 256 + bytes::wide(part[at + 1])
 }
 
 // A length of four bytes.

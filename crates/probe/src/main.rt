@@ -12,7 +12,7 @@ use libc::STDOUT_FILENO;
 use protocol::Receiver;
 use protocol::numbers;
 
-// The bytes of a frame in before those of its memory.
+// The bytes of a frame in before its receiver and its memory.
 const HEAD: usize = 48;
 
 // The most bytes of each memory, so that wrong lengths can be tried: a page more than the most pages, and room past the other lengths.
@@ -79,8 +79,11 @@ fn fill_all(
 
 // Writes the receiver of a frame out that has one.
 fn send_receiver(op: u8, receiver: Receiver) -> bool {
+    if op < 2 {
+        return true;
+    }
     let cells = receiver.held;
-    op < 2 || send(&frame::count_of(receiver.count)) && send(&cells)
+    send(&frame::count_of(receiver.count)) && send(&cells)
 }
 
 // Writes a frame out: its head, the receiver, and the memory.
