@@ -1,5 +1,5 @@
 #!/usr/bin/env python3
-"""Puts the packets of packets.txt to the reader and compares what comes back.
+"""Puts the packets of packets.txt to the reader, and to its receiver with the first half of the packet held, and compares what comes back.
 
     check.py PROBE ARGS...
 
@@ -34,6 +34,7 @@ def grain(seed, length):
 
 
 ROOM = grain(200, 700)
+CELLS = 265
 
 
 class Reader:
@@ -175,11 +176,21 @@ def data_failures(entries):
     return failures
 
 
-def frame(reader, run):
+def half(run):
+    """How many bytes of a run the receiver holds, the others being its piece."""
+    return len(run) // 2
+
+
+def frame(reader, run, received):
+    """A call of the reader; received, one of the receiver, with old bytes in the cells past those held."""
+    op, receiver = b"\0", b""
+    if received:
+        held, run = run[:half(run)], run[half(run):]
+        op, receiver = b"\2", struct.pack(">H", len(held)) + held + grain(100, CELLS - len(held))
     parts = [reader.memory[name] for name in MEMORY] + [run, ROOM]
     settings = struct.pack(LAYOUT, *(reader.settings[name] for name in SETTINGS))
     lengths = b"".join(struct.pack(">I", len(part)) for part in parts)
-    return b"\0" + settings + lengths + b"".join(parts)
+    return op + settings + lengths + receiver + b"".join(parts)
 
 
 def take(answers, length):
@@ -189,20 +200,26 @@ def take(answers, length):
     return bytes(part), rest
 
 
-def compare(put, answers):
+def compare(put, answers, received):
     """The ways in which the first frame of the answers differs from what must come back, and the frames after it."""
     reader = expected_reader(put)
     wrong = []
+    expected_used = len(put.run) - half(put.run) if received else put.used
     head, answers = take(answers, 9)
     refusal, used, length = struct.unpack(">BII", head)
     if refusal != 0:
         wrong.append(f"refusal {refusal}")
-    if used != put.used:
-        wrong.append(f"used {used}, not {put.used}")
+    if used != expected_used:
+        wrong.append(f"{'taken' if received else 'used'} {used}, not {expected_used}")
     packed, answers = take(answers, struct.calcsize(LAYOUT))
     for name, value in zip(SETTINGS, struct.unpack(LAYOUT, packed)):
         if value != reader.settings[name]:
             wrong.append(f"{name} is {shown(value)}, not {shown(reader.settings[name])}")
+    if received:
+        left = put.run[put.used:]
+        receiver, answers = take(answers, 2 + CELLS)
+        if receiver != struct.pack(">H", len(left)) + left + bytes(CELLS - len(left)):
+            wrong.append(f"the receiver is not the {len(left)} bytes that were not used, and zeros")
     for name in MEMORY:
         part, answers = take(answers, len(reader.memory[name]))
         if part != reader.memory[name]:
@@ -212,7 +229,7 @@ def compare(put, answers):
         wrong.append(f"reply {shown(room[:length])}, not {shown(put.reply)}")
     elif room[length:] != ROOM[length:]:
         wrong.append(f"the room past the reply changed, from byte {first_difference(room[length:], ROOM[length:])} on")
-    return [f"{put.place}: {what}" for what in wrong], answers
+    return [f"{put.place}{', received' if received else ''}: {what}" for what in wrong], answers
 
 
 def first_difference(one, other):
@@ -225,10 +242,10 @@ def shown(value):
     return value.hex(" ").upper() if value else "silence"
 
 
-def ask(command, puts):
-    """The probe's answers to all puts, one frame behind the other."""
+def ask(command, calls):
+    """The probe's answers to all calls, one frame behind the other."""
     try:
-        done = subprocess.run(command, input=b"".join(frame(READERS[put.name], put.run) for put in puts),
+        done = subprocess.run(command, input=b"".join(frame(READERS[put.name], put.run, received) for put, received in calls),
                               stdout=subprocess.PIPE, timeout=SECONDS)
     except OSError as error:
         raise Unusable(f"the probe does not start: {error}") from error
@@ -248,18 +265,19 @@ def main(command):
     if not puts:
         raise Unusable("packets.txt: no packets")
     failures = data_failures(entries)
-    answers = ask(command, puts)
-    for put in puts:
-        wrong, answers = compare(put, answers)
+    calls = [(put, received) for received in (False, True) for put in puts]
+    answers = ask(command, calls)
+    for put, received in calls:
+        wrong, answers = compare(put, answers, received)
         failures += wrong
     if answers:
         raise Unusable(f"the probe's output goes on after the last frame, by {len(answers)} bytes")
     for failure in failures:
         print(failure)
     if failures:
-        print(f"manuals: {len(failures)} failures in {len(puts)} packets of {len(entries)} entries")
+        print(f"manuals: {len(failures)} failures in {len(calls)} calls of {len(entries)} entries")
         return 1
-    print(f"manuals: {len(puts)} packets of {len(entries)} entries agree")
+    print(f"manuals: {len(puts)} packets of {len(entries)} entries agree, and received in two pieces too")
     return 0
 
 
