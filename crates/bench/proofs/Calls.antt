@@ -67,7 +67,7 @@ pub offer-within : (h : Receiver) (s : Settings) (t i n b d piece room : List �
     → length (h .held) ≡ 265 → ((k : ℕ) → Fits w8 (getD i k 0))
     → receivedOf q t′ i′ n′ b′ d′ room′ ≡ receiveOf core (line (readerOf s t i n b d) h) piece (lentOf room)
     → Offered (line (readerOf s t i n b d) h) piece (lentOf room) (receivedOf q t′ i′ n′ b′ d′ room′)
-unfolding Bytes
+unfolding Bytes holds longest
 offer-within h s t i n b d piece room q t′ i′ n′ b′ d′ room′ p a z f e =
     let x : Line = line (readerOf s t i n b d) h in
     subst (Offered x piece (lentOf room)) (sym e)
@@ -125,6 +125,7 @@ module _ (x₀ : Line) (piece : List ℕ) (x : Line) (from : ℕ) (k : Offering 
 
   -- and the last
   pub over : isLast (o .told .used) (x .receiver .count) (o .after .receiver .count) ≡ true → Drained x₀ piece (o .after)
+  unfolding holds longest
   over n =
       let same : Bool = eqb (o .after .receiver .count) (x .receiver .count) in
       let u : o .told .used ≡ 0 = eqb→eq (o .told .used) 0 (and-l (eqb (o .told .used) 0) same (rw n tt)) in

@@ -5,6 +5,7 @@ use mathlib.Core.List.{List, _++_}
 use Prim.Native.Nat.{ℕ, _+_, _-_, _*_, _≤_, _<_}
 use lib.Dec.{eqb}
 use lib.ListN.{length}
+use Rattle.protocol.specs.Numbers.{holds}
 use Rattle.protocol.specs.Call.{core, Lent}
 use Rattle.protocol.specs.Receiver.{bytesIn, Line, Handed, receiveOf}
 use Rattle.protocol.specs.Caller.{drained}
@@ -22,7 +23,7 @@ pub record Offered (x : Line) (piece : List ℕ) (lent : Lent) (o : Handed) : Ty
   pub nearer : o .told .refusal ≡ 0 → isLast (o .told .used) (x .receiver .count) (o .after .receiver .count) ≡ false
       → 2 * (length piece - o .told .used) + o .after .receiver .count < 2 * length piece + x .receiver .count
   -- and the cells are as many as their type says
-  pub cells : length (x .receiver .held) ≡ 265
+  pub cells : length (x .receiver .held) ≡ holds
 
 -- the line at rest: document 01's call again and again on the held bytes and the piece joined
 abbrev pub Drained : Line → List ℕ → Line → Type 0
