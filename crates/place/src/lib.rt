@@ -1,14 +1,11 @@
-// The settings record lent, and changed where it lies: the form of the cabinet loop. The functions through it take the
-// record by value, lend it, and give it back by value, so that other Rattle code runs the lent form and never lends a record itself.
+// The settings record lent, and changed where it lies: the form of the cabinet loop.
 ghost use mathlib.Core.Path.{_≡_};
 ghost use mathlib.Core.List.{List};
 ghost use Prim.Native.Nat.{ℕ};
 ghost use Rattle.protocol.specs.Call.{core, callOf, switchOf};
 ghost use Rattle.protocol.specs.Records.{readerOf, lentOf, endedOf, switchedOf};
 ghost use Rattle.place.specs.Lent.{calledAt, switchedAt};
-use protocol::Called;
 use protocol::Settings;
-use protocol::Switched;
 use reader::call::line_switch;
 use reader::call::step;
 
@@ -58,48 +55,4 @@ pub fn line_switch_in_place(settings: &mut Settings, buffer1: &mut [u8], buffer2
     let switched = line_switch(*settings, buffer1, buffer2);
     *settings = switched.settings;
     switched.refusal
-}
-
-// A call in place, the settings by value.
-pub fn step_through(
-    settings: Settings,
-    templates: &mut [u8],
-    index: &mut [u8],
-    notepad: &mut [u8],
-    buffer1: &mut [u8],
-    buffer2: &mut [u8],
-    run: &[u8],
-    reply: &mut [u8],
-) -> Called
-    ensures { λ r. ⌜ endedOf r (now (templates .exit)) (now (index .exit)) (now (notepad .exit)) (now (buffer1 .exit)) (now (buffer2 .exit)) (now (reply .exit)) ≡ callOf core (readerOf settings (now (templates .entry)) (now (index .entry)) (now (notepad .entry)) (now (buffer1 .entry)) (now (buffer2 .entry))) (now (run .entry)) (lentOf (now (reply .entry))) ⌝ }
-{
-    let mut lent = settings;
-    let answered = step_in_place(
-        &mut lent,
-        templates,
-        index,
-        notepad,
-        buffer1,
-        buffer2,
-        run,
-        reply,
-    );
-    Called {
-        settings: lent,
-        refusal: answered.refusal,
-        used: answered.used,
-        length: answered.length,
-    }
-}
-
-// A line switch in place, the settings by value.
-pub fn line_switch_through(settings: Settings, buffer1: &mut [u8], buffer2: &mut [u8]) -> Switched
-    ensures { λ r. ⌜ ((t i n : List ℕ) → switchedOf r t i n (now (buffer1 .exit)) (now (buffer2 .exit)) ≡ switchOf (readerOf settings t i n (now (buffer1 .entry)) (now (buffer2 .entry)))) ⌝ }
-{
-    let mut lent = settings;
-    let refusal = line_switch_in_place(&mut lent, buffer1, buffer2);
-    Switched {
-        settings: lent,
-        refusal,
-    }
 }
