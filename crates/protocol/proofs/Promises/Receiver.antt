@@ -14,14 +14,14 @@ use Rattle.protocol.specs.Numbers.{holds, longest}
 use Rattle.protocol.specs.Finder.{findOf, usedOf}
 use Rattle.protocol.specs.Reader.{Reader}
 use Rattle.protocol.specs.Step.{stepOf}
-use Rattle.protocol.specs.Call.{core, Lent, fitLent, fitLengths, fitBuffers, fitRoom, sound, Ended, refused, carried, callOf, switchRefusal, switchAs, switchOf}
+use Rattle.protocol.specs.Call.{core, Lent, fitLent, fitLengths, fitBuffers, sound, Ended, refused, carried, callOf, switchRefusal, switchAs, switchOf}
 use Rattle.protocol.specs.Receiver.{bytesIn, holding, Line, Handed, fitting, runOf, handed, receiveRefusal, receiveAs, receiveOf, lineSwitchAs, lineSwitchOf}
 use Rattle.protocol.proofs.Laws.Lines.{Line as Unless, unless, Follows, follows}
 use Rattle.protocol.proofs.Laws.Answers.{call-legal}
 use Rattle.protocol.proofs.Laws.Holding.{in-holding, holding-zero, Carried, accepted}
 use Rattle.protocol.proofs.Promises.Finding.{WholeAt, whole, finds, found, whole-at, uses, silent-without, silently}
 use Rattle.protocol.proofs.Promises.LegalMeans.{Lengths, Settled, lengths-mean, settings-mean, Means}
-use Rattle.protocol.proofs.Promises.Refused.{Unused, switch-lines, buffers}
+use Rattle.protocol.proofs.Promises.Refused.{Unused, fit-room, switch-lines, buffers}
 
 -- what a receiver's call got back, and its reader after it
 abbrev pub bare : Handed → Ended
@@ -45,10 +45,6 @@ module _ (x : Line) (piece : List ℕ) (lent : Lent) where
   hands zero = refl
   hands (suc n) = (record { refusal = refl; used = refl; length = refl; room = refl }, refl)
 
-  fit-room : T (fitLent lent) ↔ (700 ≤ length (lent .room))
-  unfolding fitRoom
-  fit-room = (leb→le 700 (length (lent .room)), le→leb 700 (length (lent .room)))
-
   few : T (leb (x .receiver .count) holds) ↔ (x .receiver .count ≤ 265)
   unfolding holds longest
   few = (leb→le (x .receiver .count) 265, le→leb (x .receiver .count) 265)
@@ -60,7 +56,7 @@ module _ (x : Line) (piece : List ℕ) (lent : Lent) where
       follows
       ((fitLengths core (x .reader .guarded), 1) ∷ (fitLent lent, 2) ∷ (sound (x .reader), 3) ∷ (leb (x .receiver .count) holds, 3) ∷ [])
       (receive-lines x lent) (Hands x lent (receiveOf core x piece lent))
-      (lengths-mean (x .reader .guarded), (refl, λ m. (fit-room, (refl, λ u. (settings-mean (x .reader) m, (refl, λ k. (few, (refl, λ c. tt)))))))) (hands (receiveRefusal core x lent))
+      (lengths-mean (x .reader .guarded), (refl, λ m. (fit-room lent, (refl, λ u. (settings-mean (x .reader) m, (refl, λ k. (few, (refl, λ c. tt)))))))) (hands (receiveRefusal core x lent))
 
   -- so, of a legal reader with at most 265 held bytes and a fit reply room, no call is refused
   pub never-refused : Means (x .reader) → 700 ≤ length (lent .room) → x .receiver .count ≤ 265 → receiveOf core x piece lent .told .refusal ≡ 0

@@ -37,29 +37,29 @@ Ends r lent e (suc n) = Unused lent e (suc n) × (e .after ≡ r)
 abbrev pub call-lines : Reader → Lent → List Line
 call-lines r lent = unless (Lengths (r .guarded)) 1 ∷ unless (700 ≤ length (lent .room)) 2 ∷ unless (Settled r) 3 ∷ []
 
+pub fit-room : (lent : Lent) → T (fitLent lent) ↔ (700 ≤ length (lent .room))
+unfolding fitRoom
+fit-room lent = (leb→le 700 (length (lent .room)), le→leb 700 (length (lent .room)))
+
 module _ (r : Reader) (s : List ℕ) (lent : Lent) where
   called : (n : ℕ) → Ends r (lent .room) (callAs r s lent n) n
   unfolding callAs carried refused
   called zero = refl
   called (suc n) = (record { refusal = refl; used = refl; length = refl; room = refl }, refl)
 
-  fit-room : T (fitLent lent) ↔ (700 ≤ length (lent .room))
-  unfolding fitRoom
-  fit-room = (leb→le 700 (length (lent .room)), le→leb 700 (length (lent .room)))
-
   -- "Order: 1, 2, 3 .. Otherwise the call is carried out."
   pub call-refusals : Follows (call-lines r lent) (Ends r (lent .room) (callOf core r s lent))
   unfolding callOf refusalOf
   call-refusals =
       follows ((fitLengths core (r .guarded), 1) ∷ (fitLent lent, 2) ∷ (sound r, 3) ∷ []) (call-lines r lent) (Ends r (lent .room) (callOf core r s lent))
-      (lengths-mean (r .guarded), (refl, λ m. (fit-room, (refl, λ u. (settings-mean r m, (refl, λ k. tt)))))) (called (refusalOf core r lent))
+      (lengths-mean (r .guarded), (refl, λ m. (fit-room lent, (refl, λ u. (settings-mean r m, (refl, λ k. tt)))))) (called (refusalOf core r lent))
 
   -- and a call that is not refused had a legal reader and a reply room of at least 700 bytes
   pub refuses-only : callOf core r s lent .told .refusal ≡ 0 → Means r × (700 ≤ length (lent .room))
   unfolding refused
   refuses-only =
       call-kinds core r s lent (λ (e : Ended). e .told .refusal ≡ 0 → Means r × (700 ≤ length (lent .room))) (λ n e. absurd (omega arith))
-      (λ t u e. (legal-means r t, fit-room .0 u))
+      (λ t u e. (legal-means r t, fit-room lent .0 u))
 
 -- ---- the line switch
 
