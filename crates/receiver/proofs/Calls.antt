@@ -17,11 +17,12 @@ use Rattle.protocol.specs.Numbers.{holds, replyRoom, badLength, badRoom, badSet
 use Rattle.protocol.specs.Tests.{verdict}
 use Rattle.protocol.specs.Reader.{Reader}
 use Rattle.protocol.specs.Step.{stepOf}
-use Rattle.protocol.specs.Call.{core, fitLengths, fitRoom, sound, Lent, Ended, refusalOf, refused, carried, callAs, callOf, switchRefusal, switchAs, switchOf}
+use Rattle.protocol.specs.Call.{core, fitLengths, fitRoom, sound, Lent, Told, Ended, refused, carried, callOf, switchRefusal, switchAs, switchOf}
 use Rattle.protocol.specs.Receiver.{holding, Line, line, fitting, runOf, handed, declined, receiveRefusal, receiveAs, receiveOf, lineSwitchAs, lineSwitchOf}
 use Rattle.protocol.specs.Records.{readerOf, lentOf, switchedOf, receivedOf, emptiedOf}
 use Rattle.protocol.proofs.Laws.Answers.{call-kinds}
 use Rattle.protocol.proofs.Laws.Finder.{used-in}
+use Rattle.protocol.proofs.Laws.Holding.{handedBy, receive-call}
 use Rattle.reader.proofs.Calls.{lengths-are}
 use Rattle.receiver.specs.Full.{fullRefusal}
 use Rattle.receiver.specs.Made.{received, emptied}
@@ -50,41 +51,35 @@ full h s t i n b d piece room k r l e q =
     go true true false = refl
     go true true true = refl
 
--- ---- a count that it holds: its refusal is that of the reader's call on all held bytes
+-- ---- a count that it holds: the reader's call on all held bytes decides
 
-module _ (x : Line) (piece : List ℕ) (lent : Lent) (few : x .receiver .count ≤ holds) where
-  refusal-is : receiveRefusal core x lent ≡ refusalOf core (x .reader) lent
-  unfolding receiveRefusal refusalOf verdict
-  refusal-is = rw (le-leb _ _ few) refl
+module _ (x : Line) (piece : List ℕ) (lent : Lent) (few : x .receiver .count ≤ holds) (run : List ℕ) (w : run ≡ runOf (x .receiver) piece) (e : Ended) (q : e ≡ callOf core (x .reader) run lent) where
+  by-call : receiveOf core x piece lent ≡ handedBy x piece e (e .told .refusal)
+  by-call =
+      receive-call core x piece lent (le-leb _ _ few)
+      ∙ ap (λ (y : Ended). handedBy x piece y (y .told .refusal)) (sym (q ∙ ap (λ (s : List ℕ). callOf core (x .reader) s lent) w))
 
-  module _ (run : List ℕ) (w : run ≡ runOf (x .receiver) piece) (e : Ended) (q : e ≡ callOf core (x .reader) run lent) where
-    ends : (k : ℕ) → refusalOf core (x .reader) lent ≡ k → e ≡ callAs (x .reader) run lent k
-    unfolding callOf
-    ends k f = q ∙ ap (callAs (x .reader) run lent) f
+  -- refused, it used and answered nothing
+  unused : e .told .refusal ≢ 0 → e .told ≡ record { refusal = e .told .refusal; used = 0; length = 0; room = e .told .room }
+  unfolding refused carried
+  unused =
+      rw q
+      (call-kinds core (x .reader) run lent (λ (y : Ended). y .told .refusal ≢ 0 → y .told ≡ record { refusal = y .told .refusal; used = 0; length = 0; room = y .told .room })
+      (λ k d. refl) (λ t u d. absurd (d refl)))
 
-    pub stops : e .told .refusal ≢ 0
-        → record { told = record { refusal = e .told .refusal; used = 0; length = 0; room = e .told .room }; after = line (e .after) (x .receiver) } ≡ receiveOf core x piece lent
-    unfolding receiveOf receiveAs callAs refused carried
-    stops z = rw refusal-is (go (refusalOf core (x .reader) lent) refl)
-      where
-        go : (k : ℕ) → refusalOf core (x .reader) lent ≡ k
-            → record { told = record { refusal = e .told .refusal; used = 0; length = 0; room = e .told .room }; after = line (e .after) (x .receiver) } ≡ receiveAs core x piece lent k
-        go zero f = absurd (z (ap (λ (y : Ended). y .told .refusal) (ends zero f)))
-        go (suc k) f = rw (ends (suc k) f) refl
+  pub stops : e .told .refusal ≢ 0
+      → record { told = record { refusal = e .told .refusal; used = 0; length = 0; room = e .told .room }; after = line (e .after) (x .receiver) } ≡ receiveOf core x piece lent
+  stops z = sym (by-call ∙ go (e .told .refusal) z ∙ ap (λ (t : Told). record { told = t; after = line (e .after) (x .receiver) }) (unused z))
+    where
+      go : (k : ℕ) → k ≢ 0 → handedBy x piece e k ≡ record { told = e .told; after = line (e .after) (x .receiver) }
+      go zero d = absurd (d refl)
+      go (suc k) d = refl
 
-    -- the receiver h holds what was not used
-    pub goes : (taken : ℕ) (h : Receiver) → e .told .refusal ≡ 0 → taken ≡ length (fitting (x .receiver) piece) → h ≡ holding (drop (e .told .used) run)
-        → record { told = record { refusal = 0; used = taken; length = e .told .length; room = e .told .room }; after = line (e .after) h } ≡ receiveOf core x piece lent
-    unfolding receiveOf receiveAs callAs refused handed
-    goes taken h z n k = rw (n, k, refusal-is) (go (refusalOf core (x .reader) lent) refl)
-      where
-        all : e ≡ callOf core (x .reader) (runOf (x .receiver) piece) lent
-        all = q ∙ ap (λ (s : List ℕ). callOf core (x .reader) s lent) w
-
-        go : (k : ℕ) → refusalOf core (x .reader) lent ≡ k
-            → record { told = record { refusal = 0; used = length (fitting (x .receiver) piece); length = e .told .length; room = e .told .room }; after = line (e .after) (holding (drop (e .told .used) run)) } ≡ receiveAs core x piece lent k
-        go zero f = rw w (ap (handed (x .receiver) piece) all)
-        go (suc k) f = let d : suc k ≡ 0 = sym (ap (λ (y : Ended). y .told .refusal) (ends (suc k) f)) ∙ z in absurd (omega arith)
+  -- the receiver h holds what was not used
+  pub goes : (taken : ℕ) (h : Receiver) → e .told .refusal ≡ 0 → taken ≡ length (fitting (x .receiver) piece) → h ≡ holding (drop (e .told .used) run)
+      → record { told = record { refusal = 0; used = taken; length = e .told .length; room = e .told .room }; after = line (e .after) h } ≡ receiveOf core x piece lent
+  unfolding handed
+  goes taken h z n k = rw (n, k, w) (sym (by-call ∙ ap (handedBy x piece e) z))
 
 -- ---- the line switch
 
