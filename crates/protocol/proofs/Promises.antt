@@ -23,6 +23,8 @@ pub mod Switch
 pub mod StaysLegal
 pub mod ReplyFits
 pub mod ValidCount
+pub mod SizeCode
+pub mod FirstDownload
 pub mod Lock
 pub mod Receiver
 pub mod Cuts

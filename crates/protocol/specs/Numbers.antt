@@ -65,7 +65,7 @@ abbrev pub freshLevel : ℕ
 freshLevel = 3
 
 abbrev pub freshSize : ℕ
-freshSize = 1
+freshSize = 2
 
 abbrev pub freshBaud : ℕ
 freshBaud = 6

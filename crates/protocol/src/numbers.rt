@@ -39,7 +39,7 @@ pub const FRESH_ADDRESS: [u8; 4] = [0xFF, 0xFF, 0xFF, 0xFF];
 
 pub const FRESH_LEVEL: u8 = 3;
 
-pub const FRESH_SIZE: u8 = 1;
+pub const FRESH_SIZE: u8 = 2;
 
 pub const FRESH_BAUD: u8 = 6;
 

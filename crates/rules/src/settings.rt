@@ -13,7 +13,7 @@ use protocol::Settings;
 use protocol::numbers;
 use wire::bytes;
 
-// Fresh settings: password 0, address FFFFFFFFh, level 3, size code 1, baud factor 6, type 0, marks clear, no transfer.
+// Fresh settings: password 0, address FFFFFFFFh, level 3, size code 2, baud factor 6, type 0, marks clear, no transfer.
 pub fn fresh() -> Settings
     ensures { λ r. ⌜ ((t i n b c : List ℕ) → readerOf r t i n b c ≡ freshOf t i n b c) ⌝ }
 {

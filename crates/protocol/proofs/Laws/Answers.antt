@@ -15,13 +15,14 @@ use Rattle.protocol.specs.Call.{Shape, Lent, fitLengths, fitLent, sound,
 use Rattle.protocol.proofs.Laws.Logic.{T→true, and-l, and-r, and-i, passed, verdict-passed, passed-verdict}
 use Rattle.protocol.proofs.Laws.Commands.{tests-numbered}
 
--- ---- a reader whose transfer is ended keeps its library, its notepad, its address and its lock
+-- ---- a reader whose transfer is ended keeps its library, its notepad, its address, its size code and its lock
 
 pub record Spared (r t : Reader) : Type 0 where
   pub index : t .guarded .index ≡ r .guarded .index
   pub templates : t .guarded .templates ≡ r .guarded .templates
   pub notepad : t .guarded .notepad ≡ r .guarded .notepad
   pub address : t .plain .address ≡ r .plain .address
+  pub size : t .plain .size ≡ r .plain .size
   pub lock : locked (t .plain) ≡ locked (r .plain)
 
 pub spared : (r : Reader) → Spared r (rested r)
@@ -29,9 +30,9 @@ unfolding rested ended withTransfer withBuffer locked keyed
 spared r = go (r .plain .transfer)
   where
     go : (t : Transfer) → Spared r (ended r t)
-    go closed = record { index = refl; templates = refl; notepad = refl; address = refl; lock = refl }
-    go (opened w got) = record { index = refl; templates = refl; notepad = refl; address = refl; lock = refl }
-    go (unfit b k) = record { index = refl; templates = refl; notepad = refl; address = refl; lock = refl }
+    go closed = record { index = refl; templates = refl; notepad = refl; address = refl; size = refl; lock = refl }
+    go (opened w got) = record { index = refl; templates = refl; notepad = refl; address = refl; size = refl; lock = refl }
+    go (unfit b k) = record { index = refl; templates = refl; notepad = refl; address = refl; size = refl; lock = refl }
 
 -- ---- an answer, by its kind
 

@@ -67,7 +67,7 @@ unfolding within
 between a v b =
     (λ t. (leb→le a v (and-l (leb a v) (leb v b) t), leb→le v b (and-r (leb a v) (leb v b) t)), λ h. and-i (leb a v) (leb v b) (le→leb a v (h .0)) (le→leb v b (h .1)))
 
-parameter : (k : ℕ) → T (within 4 k 6) ↔ ((k ≡ 4) ⊎ ((k ≡ 5) ⊎ (k ≡ 6)))
+pub parameter : (k : ℕ) → T (within 4 k 6) ↔ ((k ≡ 4) ⊎ ((k ≡ 5) ⊎ (k ≡ 6)))
 parameter k = (λ t. there (eqb k 4) (eqb k 5) refl refl (between 4 k 6 .0 t), λ h. between 4 k 6 .1 (back h))
   where
     there : (x y : Bool) → eqb k 4 ≡ x → eqb k 5 ≡ y → (4 ≤ k) × (k ≤ 6) → (k ≡ 4) ⊎ ((k ≡ 5) ⊎ (k ≡ 6))

@@ -81,7 +81,7 @@ memory =
 -- ---- settings
 
 pub record Kept : Type 0 where
-  -- fresh: password 0, address FFFFFFFFh, level 3, size code 1, baud factor 6, type 0, marks clear, no transfer
+  -- fresh: password 0, address FFFFFFFFh, level 3, size code 2, baud factor 6, type 0, marks clear, no transfer
   pub fresh-is : (t i n b d : List ℕ) → freshOf t i n b d
       ≡ record {
         plain =
@@ -89,7 +89,7 @@ pub record Kept : Type 0 where
               password = 0 ∷ 0 ∷ 0 ∷ 0 ∷ [];
               address = 0xff ∷ 0xff ∷ 0xff ∷ 0xff ∷ [];
               level = 3;
-              size = 1;
+              size = 2;
               baud = 6;
               sensor = 0;
               verified = false;

@@ -1,0 +1,200 @@
+-- Document 02, request [2]: "the first download at every new vault". At 128 data bytes it is served with nothing set; a host that sends 64 "must set code 1
+-- itself or send 128", and otherwise gets 0Eh.
+use mathlib.Core.Bool.{Bool, true, false, cond}
+use mathlib.Core.Path.{_≡_, refl, sym, ap, ap₂, _∙_, subst}
+use mathlib.Core.List.{List, [], _∷_, map}
+use Prim.Native.Nat.{ℕ, zero, suc, _*_, _/_}
+use native.Mathlib.Omega.{arith}
+use lib.Dec.{T, eqb, lit≤}
+use lib.ListN.{length, take, drop, length-drop, replicate}
+use lib.Seq.{length-take-le, take-append-seam}
+use Rattle.protocol.specs.Numbers.{dataPacket, lastPacket, longest}
+use Rattle.protocol.specs.Bytes.{four, same}
+use Rattle.protocol.specs.Packet.{packet, accepts, limit, isIdentifier}
+use Rattle.protocol.specs.Reader.{Transfer, closed, opened, Plain, Buffer, Reader, fresh, sizeOf, keyed, locked, withTransfer}
+use Rattle.protocol.specs.Commands.{downChar, setSysPara, barred, command}
+use Rattle.protocol.specs.Data.{acknowledge, packets}
+use Rattle.protocol.specs.Step.{order, piece, hearAs, hear, ended, rested}
+use Rattle.protocol.specs.Call.{Lent, fitLent, legal, replyOf, callOf, core, Ended}
+use Rattle.protocol.specs.Records.{freshOf}
+use Rattle.protocol.specs.Dialogue.{Event, received, on, finally, Exchange, exchanges}
+use Rattle.protocol.proofs.Promises.Told.{Replies, Leaves, Gives, Numbered, number-is, blank, WithBuffer}
+use Rattle.protocol.proofs.Promises.LegalMeans.{core-holds}
+use Rattle.protocol.proofs.Promises.StaysLegal.{Legal, stays-legal}
+use Rattle.protocol.proofs.Promises.Pieces.{GoesIn, none-ends, piece-fails, piece-ignored}
+use Rattle.protocol.proofs.Promises.Download.{heard-packet, deliver, Silent, downloaded, template}
+use Rattle.protocol.proofs.Promises.Settings.{sets-size}
+use Rattle.protocol.proofs.Promises.Moves.{down-awaits}
+use Rattle.protocol.proofs.Promises.Parameters.{parameters, asked-by}
+
+-- document 01's A
+abbrev pub A : List ℕ
+A = 0xff ∷ 0xff ∷ 0xff ∷ 0xff ∷ []
+
+-- a host's packets: DownChar for buffer b; SetSysPara, parameter 6, with a size code
+abbrev pub downPacket : ℕ → List ℕ
+downPacket b = packet A 0x01 (0x09 ∷ b ∷ [])
+
+abbrev pub sizePacket : ℕ → List ℕ
+sizePacket v = packet A 0x01 (0x0e ∷ 6 ∷ v ∷ [])
+
+-- a buffer with a template and its mark
+abbrev pub full : List ℕ → Buffer
+full s = record { bytes = s; filled = true }
+
+counted : (k n : ℕ) (s : List ℕ) → length (packets A k n s) ≡ k
+unfolding packets
+counted zero n s = refl
+counted (suc k) n s = ap suc (counted k n (drop n s))
+
+heard-64 : (a : List ℕ) → a ≡ A → (last : Bool) (c : List ℕ) → length c ≡ 64 → hear a (packet A (cond last lastPacket dataPacket) c) ≡ piece last true c
+unfolding hearAs accepts limit isIdentifier longest
+heard-64 a home true c one = rw home (heard-packet A lastPacket c refl (rw one tt))
+heard-64 a home false c one = rw home (heard-packet A dataPacket c refl (rw one tt))
+
+-- buffer b written a second time
+again : (b : ℕ) (c c′ : Buffer) (m m′ : Transfer) (r t x : Reader) → WithBuffer b c m r t → WithBuffer b c′ m′ t x → WithBuffer b c′ m′ r x
+unfolding withTransfer
+again b c c′ m m′ r t x one two =
+    record {
+      settings = two .settings ∙ ap (withTransfer m′) (one .settings);
+      chosen = two .chosen;
+      spare = two .spare ∙ one .spare;
+      templates = two .templates ∙ one .templates;
+      index = two .index ∙ one .index;
+      notepad = two .notepad ∙ one .notepad;
+    }
+
+module _ (lent : ℕ → Lent) (f : (n : ℕ) → T (fitLent (lent n))) where
+  -- packets sent one to a call: what each is answered, and what the reader is in the end
+  pub record Talks (r : Reader) (sent answers : List (List ℕ)) (Left : Reader → Type 0) : Type 0 where
+    pub answered : map (λ (x : Exchange). x .reply) (exchanges core r (deliver lent sent)) ≡ answers
+    pub leaves : Left (finally core r (deliver lent sent))
+
+  replied : (a s : List ℕ) (k : ℕ) (e : Ended) → Replies a s (lent k) e → replyOf (e .told) ≡ a
+  unfolding replyOf
+  replied a s k e o = rw (o .long, o .room) (take-append-seam a (drop (length a) (lent k .room)))
+
+  -- the first packet, which leaves the reader t, and then the others
+  andThen : (r t : Reader) (p a : List ℕ) (ps answers : List (List ℕ)) (Left : Reader → Type 0) → Gives a t p (lent (length ps)) (callOf core r p (lent (length ps)))
+      → Talks t ps answers Left → Talks r (p ∷ ps) (a ∷ answers) Left
+  unfolding deliver exchanges finally on
+  andThen r t p a ps answers Left o rest =
+      let called : Ended = callOf core r p (lent (length ps)) in
+      let on : Talks (called .after) ps answers Left = subst (λ (x : Reader). Talks x ps answers Left) (sym (o .after)) rest in
+      record { answered = ap₂ (λ (x : List ℕ) (xs : List (List ℕ)). x ∷ xs) (replied a p (length ps) called (o .told)) (on .answered); leaves = on .leaves }
+
+  silently : (ps : List (List ℕ)) (t : Reader) → Silent (exchanges core t (deliver lent ps))
+      → map (λ (x : Exchange). x .reply) (exchanges core t (deliver lent ps)) ≡ replicate (length ps) []
+  unfolding deliver exchanges
+  silently [] t q = refl
+  silently (p ∷ ps) t (e, q) = ap₂ (λ (x : List ℕ) (xs : List (List ℕ)). x ∷ xs) e (silently ps (callOf core t p (lent (length ps)) .after) q)
+
+  -- a whole download, from a reader of the address A that is not locked and has no transfer open: k packets of the size in force, n
+  module _ (r : Reader) (l : Legal core core-holds r) (home : r .plain .address ≡ A) (unlocked : locked (r .plain) ≡ false) (still : r .plain .transfer ≡ closed)
+      (b : ℕ) (which : Numbered b) where
+    asks : hear (r .plain .address) (downPacket b) ≡ order (command (barred (downChar b)))
+    unfolding accepts limit isIdentifier longest
+    asks = subst (λ (x : List ℕ). hear x (downPacket b) ≡ order (command (barred (downChar b)))) (sym home) (asked-by A (0x09 ∷ b ∷ []) (barred (downChar b)) refl tt (parameters .down-read b))
+
+    opens : (k : ℕ) → Leaves (acknowledge A 0x00 []) (WithBuffer b blank (opened (eqb b 2) 0) r) (downPacket b) (lent k) (callOf core r (downPacket b) (lent k))
+    opens k =
+        let o = down-awaits core core-holds r l unlocked (downPacket b) (lent k) (f k) b asks which in
+        let own : rested r ≡ r = none-ends r still in
+        let to : acknowledge (rested r .plain .address) 0x00 [] ≡ acknowledge A 0x00 [] = ap (λ (x : Reader). acknowledge (x .plain .address) 0x00 []) own ∙ ap (λ (x : List ℕ). acknowledge x 0x00 []) home in
+        record {
+          told = subst (λ (x : List ℕ). Replies x (downPacket b) (lent k) (callOf core r (downPacket b) (lent k))) to (o .told);
+          after = subst (λ (x : Reader). WithBuffer b blank (opened (eqb b 2) 0) x (callOf core r (downPacket b) (lent k) .after)) own (o .after);
+        }
+
+    opened-legal : (k : ℕ) → Legal core core-holds (callOf core r (downPacket b) (lent k) .after)
+    unfolding on
+    opened-legal k = stays-legal core core-holds r l (received (downPacket b) (lent k))
+
+    served : (s : List ℕ) → length s ≡ 512 → (k n : ℕ) → 512 / sizeOf (r .plain .size) ≡ k → sizeOf (r .plain .size) ≡ n
+        → Talks r (downPacket b ∷ packets A k n s) (acknowledge A 0x00 [] ∷ replicate k []) (WithBuffer b (full s) closed r)
+    served s long k n many each =
+        let ps : List (List ℕ) = packets A k n s in
+        let o = opens (length ps) in
+        let t : Reader = callOf core r (downPacket b) (lent (length ps)) .after in
+        let settings = o .after .settings in
+        let d = downloaded core core-holds lent f t (opened-legal (length ps)) (eqb b 2) (ap (λ (x : Plain). x .transfer) settings) s long in
+        let address : t .plain .address ≡ A = ap (λ (x : Plain). x .address) settings ∙ home in
+        let size : t .plain .size ≡ r .plain .size = ap (λ (x : Plain). x .size) settings in
+        let sent : template core core-holds lent f t s ≡ deliver lent ps = rw (address, size, many, each) refl in
+        andThen r t (downPacket b) (acknowledge A 0x00 []) ps (replicate k []) (WithBuffer b (full s) closed r) record { told = o .told; after = refl }
+        record {
+          answered =
+              silently ps t (subst (λ (es : List Event). Silent (exchanges core t es)) sent (d .silent)) ∙ ap (λ (j : ℕ). replicate j []) (counted k n s);
+          leaves =
+              again b _ _ _ _ r t _ (o .after)
+              (subst (λ (es : List Event). WithBuffer b (full s) closed t (finally core t es)) sent
+              (subst (λ (j : ℕ). WithBuffer j (full s) closed t (finally core t (template core core-holds lent f t s))) (number-is b which) (d .ends)));
+        }
+
+  -- data packets that no transfer waits for
+  ignored : (k : ℕ) (s : List ℕ) → length s ≡ k * 64 → (r : Reader) → Legal core core-holds r → r .plain .address ≡ A → r .plain .transfer ≡ closed
+      → Talks r (packets A k 64 s) (replicate k []) (λ (x : Reader). x ≡ r)
+  unfolding packets deliver exchanges finally
+  ignored zero s long r l home still = record { answered = refl; leaves = refl }
+  ignored (suc k) s long r l home still =
+      let one : length (take 64 s) ≡ 64 = length-take-le 64 s (omega arith) in
+      let ps : List (List ℕ) = packets A k 64 (drop 64 s) in
+      let p : List ℕ = packet A (cond (eqb k 0) lastPacket dataPacket) (take 64 s) in
+      andThen r r p [] ps (replicate k []) (λ (x : Reader). x ≡ r)
+      (piece-ignored core r p (lent (length ps)) (l .legal) (f (length ps)) (eqb k 0) true (take 64 s) (heard-64 (r .plain .address) home (eqb k 0) (take 64 s) one) still)
+      (ignored k (drop 64 s) (length-drop 64 s ∙ omega arith) r l home still)
+
+  module _ (t i n c d : List ℕ) (l : Legal core core-holds (freshOf t i n c d)) (b : ℕ) (which : Numbered b) (s : List ℕ) (long : length s ≡ 512) where
+    abbrev r : Reader
+    r = freshOf t i n c d
+
+    -- four data packets of 128 bytes
+    pub first-download : Talks r (downPacket b ∷ packets A 4 128 s) (acknowledge A 0x00 [] ∷ replicate 4 []) (WithBuffer b (full s) closed r)
+    unfolding fresh four sizeOf locked keyed same
+    first-download = served r l refl refl refl b which s long 4 128 refl refl
+
+    -- eight of 64, without asking: the first is answered 0Eh and ends the transfer, the others find none
+    pub unasked-64 : Talks r (downPacket b ∷ packets A 8 64 s) (acknowledge A 0x00 [] ∷ acknowledge A 0x0e [] ∷ replicate 7 []) (WithBuffer b blank closed r)
+    unfolding packets fresh four sizeOf locked keyed same on
+    unasked-64 =
+        let first : List ℕ = packet A dataPacket (take 64 s) in
+        let ps : List (List ℕ) = packets A 7 64 (drop 64 s) in
+        let one : length (take 64 s) ≡ 64 = length-take-le 64 s (omega arith) in
+        let o = opens r l refl refl refl b which (length (first ∷ ps)) in
+        let x : Reader = callOf core r (downPacket b) (lent (length (first ∷ ps))) .after in
+        let legal : Legal core core-holds x = opened-legal r l refl refl refl b which (length (first ∷ ps)) in
+        let settings = o .after .settings in
+        let address : x .plain .address ≡ A = ap (λ (p : Plain). p .address) settings in
+        let size : sizeOf (x .plain .size) ≡ 128 = ap (λ (p : Plain). sizeOf (p .size)) settings in
+        let short : GoesIn (x .plain) 0 false true (take 64 s) → ⊥ = λ g. let e = g .long in absurd (omega arith) in
+        let q =
+        piece-fails core x first (lent (length ps)) (legal .legal) (f (length ps)) false true (take 64 s) (heard-64 (x .plain .address) address false (take 64 s) one)
+        (eqb b 2) 0 (ap (λ (p : Plain). p .transfer) settings) short
+        in
+        let y : Reader = callOf core x first (lent (length ps)) .after in
+        let stopped : WithBuffer b blank closed x y = subst (λ (j : ℕ). WithBuffer j blank closed x y) (number-is b which) (q .after) in
+        let silent =
+        ignored 7 (drop 64 s) (length-drop 64 s ∙ omega arith) y (stays-legal core core-holds x legal (received first (lent (length ps))))
+        (ap (λ (p : Plain). p .address) (stopped .settings) ∙ address) (ap (λ (p : Plain). p .transfer) (stopped .settings))
+        in
+        andThen r x (downPacket b) (acknowledge A 0x00 []) (first ∷ ps) (acknowledge A 0x0e [] ∷ replicate 7 []) (WithBuffer b blank closed r) record { told = o .told; after = refl }
+        (andThen x y first (acknowledge A 0x0e []) ps (replicate 7 []) (WithBuffer b blank closed r)
+        record { told = subst (λ (a : List ℕ). Replies (acknowledge a 0x0e []) first (lent (length ps)) (callOf core x first (lent (length ps)))) address (q .told); after = refl }
+        record { answered = silent .answered; leaves = subst (WithBuffer b blank closed r) (sym (silent .leaves)) (again b _ _ _ _ r x y (o .after) stopped) })
+
+    -- and with code 1 set first
+    pub asked-64 : Talks r (sizePacket 1 ∷ downPacket b ∷ packets A 8 64 s) (acknowledge A 0x00 [] ∷ acknowledge A 0x00 [] ∷ replicate 8 [])
+        (WithBuffer b (full s) closed
+        record {
+          plain = record { password = 0 ∷ 0 ∷ 0 ∷ 0 ∷ []; address = A; level = 3; size = 1; baud = 6; sensor = 0; verified = false; transfer = closed };
+          guarded = r .guarded;
+        })
+    unfolding fresh four sizeOf locked keyed same rested ended accepts limit isIdentifier longest on
+    asked-64 =
+        let ps : List (List ℕ) = downPacket b ∷ packets A 8 64 s in
+        let given : Lent = lent (length ps) in
+        let asks : hear A (sizePacket 1) ≡ order (command (barred (setSysPara 6 1))) = asked-by A (0x0e ∷ 6 ∷ 1 ∷ []) (barred (setSysPara 6 1)) refl tt (parameters .set-read 6 1) in
+        let o = sets-size core r (sizePacket 1) given (l .legal) (f (length ps)) refl 1 asks (lit≤ tt) in
+        let legal = subst (Legal core core-holds) (o .after) (stays-legal core core-holds r l (received (sizePacket 1) given)) in
+        andThen r _ (sizePacket 1) (acknowledge A 0x00 []) ps _ _ o (served _ legal refl refl refl b which s long 8 64 refl refl)
