@@ -1,4 +1,4 @@
-// Single calls of the reader, with a receiver or without, on memory that is handed over whole: a frame in by standard input, a frame out by standard output, again and
+// Single calls of the reader, with a receiver or without, and fresh settings, on memory that is handed over whole: a frame in by standard input, a frame out by standard output, again and
 // again. Nothing is kept between frames. docs/EVIDENCE.md has the frames; tests hold the reader to other readers by them.
 mod frame;
 mod once;
@@ -43,9 +43,14 @@ fn send(part: &[u8]) -> bool {
     is_sent
 }
 
+// Whether a frame has a receiver: a call of one, and its line switch.
+fn has_receiver(op: u8) -> bool {
+    op == 2 || op == 3
+}
+
 // Reads the receiver of a frame in that has one: its held count, and its cells.
 fn fill_receiver(op: u8, count: &mut [u8], cells: &mut [u8]) -> bool {
-    if op < 2 {
+    if !has_receiver(op) {
         return true;
     }
     let n = fill(count);
@@ -79,7 +84,7 @@ fn fill_all(
 
 // Writes the receiver of a frame out that has one.
 fn send_receiver(op: u8, receiver: Receiver) -> bool {
-    if op < 2 {
+    if !has_receiver(op) {
         return true;
     }
     let cells = receiver.held;
@@ -184,8 +189,8 @@ fn answer(
         return complain(b"probe: the input ends inside a frame\n");
     }
     let op = head[0];
-    if 3 < op {
-        return complain(b"probe: a frame starts with 0, 1, 2 or 3\n");
+    if 4 < op {
+        return complain(b"probe: a frame starts with 0, 1, 2, 3 or 4\n");
     }
     let t = frame::length_at(head, 20);
     let i = frame::length_at(head, 24);

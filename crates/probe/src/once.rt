@@ -1,4 +1,4 @@
-// One call or one line switch, of the reader or of its receiver, as the doors for C have them.
+// One call or one line switch, of the reader or of its receiver, or fresh settings, as the doors for C have them.
 ghost use mathlib.Core.Path.{_≡_};
 ghost use Rattle.board.specs.Lines.{storedLineOf, storedReceivedOf};
 ghost use Rattle.probe.specs.Once.{onceOf};
@@ -7,7 +7,7 @@ use board::lines::StoredLine;
 use board::lines::StoredReceived;
 use board::stored;
 
-// 0 is a call and 1 a line switch, which leave the receiver alone; 2 is a call of the receiver, and anything else its line switch.
+// 0 is a call and 1 a line switch, 2 a call of the receiver and 3 its line switch; anything else is fresh settings. 0, 1 and the last leave the receiver alone.
 pub(crate) fn once(
     op: u8,
     line: StoredLine,
@@ -70,11 +70,23 @@ pub(crate) fn once(
             reply,
         );
     }
-    let emptied = lines::receiver_switch(line, buffer1, buffer2);
-    let after = emptied.line;
+    if op == 3 {
+        let emptied = lines::receiver_switch(line, buffer1, buffer2);
+        let after = emptied.line;
+        return StoredReceived {
+            line: after,
+            refusal: emptied.refusal,
+            taken: 0,
+            length: 0,
+        };
+    }
+    let fresh = stored::fresh();
     StoredReceived {
-        line: after,
-        refusal: emptied.refusal,
+        line: StoredLine {
+            settings: fresh,
+            receiver,
+        },
+        refusal: 0,
         taken: 0,
         length: 0,
     }

@@ -1,8 +1,8 @@
--- The four are told apart by the tests; what a call or a line switch of the reader ends at has the receiver beside it, and what a line switch ends at the reply room.
+-- The five are told apart by the tests; what the reader alone ends at has the receiver beside it, and what a line switch or fresh settings end at the reply room.
 use mathlib.Core.Path.{ap}
 use borrow.Author.Tests.{eq-eqb, ne-eqb}
 use denote.Ref.{now}
-use Rattle.probe.specs.Once.{withReceiver, withRoom, onceOf}
+use Rattle.probe.specs.Once.{withReceiver, withRoom, unmoved, onceOf}
 use borrow.Author.Needs.{needs}
 use Rattle.probe.proofs.once.once.Statement.{statement}
 use Rattle.probe.proofs.once.once.Tie as tie
@@ -99,8 +99,23 @@ returns-4 c =
     let d = (let p : tie.Else1 = search in p .if1 .left) in
     let d2 = (let p : tie.Else2 = search in p .if2 .left) in
     let d3 = (let p : tie.Else3 = search in p .if3 .left) in
+    let z = (let p : tie.Then4 = search in p .if4 .taken) in
     let e = (let p : tie.After-receiver-switch = search in p .receiver-switch .ensures (now (a .templates)) (now (a .index)) (now (a .notepad))) in
-    rw (ne-eqb _ _ d, ne-eqb _ _ d2, ne-eqb _ _ d3) (ap (withRoom (now (a .reply))) e)
+    rw (ne-eqb _ _ d, ne-eqb _ _ d2, ne-eqb _ _ d3, eq-eqb _ _ z) (ap (withRoom (now (a .reply))) e)
+
+fresh-requires : tie.Need-fresh-requires
+fresh-requires c κs = search needs
+
+returns-5 : tie.Need-returns-5
+unfolding onceOf
+returns-5 c =
+    let a = (let p : tie.Start = search in p .args) in
+    let d = (let p : tie.Else1 = search in p .if1 .left) in
+    let d2 = (let p : tie.Else2 = search in p .if2 .left) in
+    let d3 = (let p : tie.Else3 = search in p .if3 .left) in
+    let d4 = (let p : tie.Else4 = search in p .if4 .left) in
+    let e = (let p : tie.After-fresh = search in p .fresh .ensures (now (a .templates)) (now (a .index)) (now (a .notepad)) (now (a .buffer1)) (now (a .buffer2))) in
+    rw (ne-eqb _ _ d, ne-eqb _ _ d2, ne-eqb _ _ d3, ne-eqb _ _ d4) (ap (λ x. withRoom (now (a .reply)) (withReceiver (a .line .receiver) (unmoved x))) e)
 
 pub once-spec : {M : Type 1} → statement M
 once-spec =
@@ -129,4 +144,6 @@ once-spec =
     receiver-switch-requires
     same-length-15
     same-length-16
-    returns-4)
+    returns-4
+    fresh-requires
+    returns-5)
