@@ -1,4 +1,4 @@
-//! Pits a reader and a receiver, written from document 01 and document 02's request [1] alone, against another
+//! Pits a reader and a receiver, written from document 01 and document 02's requests [1] and [2] alone, against another
 //! implementation of the papers, and writes the stored dialogue of the bench program with them.
 
 mod bench;
