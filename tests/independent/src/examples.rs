@@ -131,6 +131,29 @@ fn of_sizes() -> Vec<Example> {
     ]
 }
 
+/// Frames in that ask for fresh settings, and the frames out, byte by byte.
+pub fn of_fresh_settings() -> Vec<(&'static str, Vec<u8>, Vec<u8>)> {
+    let example = |name, frame_in, frame_out| (name, bytes(frame_in), bytes(frame_out));
+    vec![
+        example(
+            "fresh settings for unfit ones, with unfit lengths",
+            "04 01234567 89ABCDEF 00 03 0D 07 1234 FFFF 02 80 FF
+             00000003 00000001 00000000 00000002 00000001 00000002 00000004
+             010203 FF 0405 06 EF01 0708090A",
+            "00 00000000 00000000 00000000 A 03 02 06 00 0000 0000 00 00 00
+             010203 FF 0405 06 0708090A",
+        ),
+        example(
+            "fresh settings for stored ones, with P1's run",
+            "04 00000005 89ABCDEF 05 01 0C 02 0001 0040 01 01 00
+             00000000 00000000 00000000 00000000 00000000 0000000C 00000001
+             EF 01 A 01 00 03 40 00 44 5A",
+            "00 00000000 00000000 00000000 A 03 02 06 00 0000 0000 00 00 00
+             5A",
+        ),
+    ]
+}
+
 /// The reply to `COUNT` at the fresh address.
 pub fn count(stored: u8) -> String {
     format!("EF 01 A 07 00 05 00 00 {stored:02X} 00 {:02X}", 0x0C + stored)
