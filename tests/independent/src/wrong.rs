@@ -4,13 +4,15 @@
 use crate::frame::{Kind, Outcome, Request};
 use crate::reader::*;
 use crate::receiver::{Receiver, HOLDS};
-use Error::{OfReader, OfReceiver};
+use Error::{OfFresh, OfReader, OfReceiver};
 
 pub enum Error {
     /// The error shows in calls and line switches without a receiver.
     OfReader(fn(&Request) -> Outcome),
     /// The error shows where there is a receiver, which is handed in too.
     OfReceiver(fn(&Request, &Receiver) -> Outcome),
+    /// The error shows where fresh settings are asked for.
+    OfFresh(fn(&Request) -> Outcome),
 }
 
 impl Error {
@@ -21,12 +23,13 @@ impl Error {
             (OfReceiver(wrong), Kind::ReceiverCall(receiver) | Kind::ReceiverLineSwitch(receiver)) => {
                 wrong(request, receiver)
             }
+            (OfFresh(wrong), Kind::FreshSettings) => wrong(request),
             _ => request.carried_out(),
         }
     }
 }
 
-pub const ERRORS: [(&str, Error); 41] = [
+pub const ERRORS: [(&str, Error); 49] = [
     ("lock-before-sum", OfReader(lock_before_sum)),
     ("delete-keeps-templates", OfReader(delete_keeps_templates)),
     ("sum-in-16-bits", OfReader(sum_in_16_bits)),
@@ -68,6 +71,14 @@ pub const ERRORS: [(&str, Error); 41] = [
     ("switch-keeps-held", OfReceiver(switch_keeps_held)),
     ("switch-keeps-cells", OfReceiver(switch_keeps_cells)),
     ("switch-refuses-count", OfReceiver(switch_refuses_count)),
+    ("fresh-size-1", OfFresh(fresh_size_1)),
+    ("fresh-keeps-size", OfFresh(fresh_keeps_size)),
+    ("call-lays-fresh-size", OfReader(call_lays_fresh_size)),
+    ("down-char-lays-fresh-size", OfReader(down_char_lays_fresh_size)),
+    ("old-fresh-made-fresh", OfReader(old_fresh_made_fresh)),
+    ("switch-lays-fresh-size", OfReader(switch_lays_fresh_size)),
+    ("receiver-call-lays-fresh-size", OfReceiver(|request, _| call_lays_fresh_size(request))),
+    ("receiver-switch-lays-fresh-size", OfReceiver(|request, _| switch_lays_fresh_size(request))),
 ];
 
 /// A locked reader gives 21h to a command with a wrong sum.
@@ -510,6 +521,52 @@ fn switch_refuses_count(request: &Request, receiver: &Receiver) -> Outcome {
         outcome.reader = request.reader.clone();
     }
     outcome
+}
+
+/// Fresh settings have document 01's size code.
+fn fresh_size_1(request: &Request) -> Outcome {
+    let mut outcome = request.carried_out();
+    outcome.reader.settings.size_code = 1;
+    outcome
+}
+
+/// Fresh settings keep the size code that they find.
+fn fresh_keeps_size(request: &Request) -> Outcome {
+    let mut outcome = request.carried_out();
+    outcome.reader.settings.size_code = request.reader.settings.size_code;
+    outcome
+}
+
+/// A call first lays the fresh size code over the stored one.
+fn call_lays_fresh_size(request: &Request) -> Outcome {
+    lays_fresh_size(request.kind.is_call(), request)
+}
+
+/// DownChar starts every transfer at the fresh size code.
+fn down_char_lays_fresh_size(request: &Request) -> Outcome {
+    lays_fresh_size(is_command(request, DOWN_CHAR), request)
+}
+
+/// A call takes stored settings that are document 01's fresh ones for fresh.
+fn old_fresh_made_fresh(request: &Request) -> Outcome {
+    let old_fresh = Settings { size_code: 1, ..Settings::fresh() };
+    lays_fresh_size(request.kind.is_call() && request.reader.settings == old_fresh, request)
+}
+
+/// The line switch lays the fresh size code over the stored one.
+fn switch_lays_fresh_size(request: &Request) -> Outcome {
+    lays_fresh_size(request.kind.is_line_switch(), request)
+}
+
+/// Lays the fresh size code over the stored one first, unless the request is refused or a transfer is open.
+fn lays_fresh_size(lays: bool, request: &Request) -> Outcome {
+    let outcome = request.carried_out();
+    if !lays || outcome.answer.refusal != 0 || request.reader.settings.transfer != 0 {
+        return outcome;
+    }
+    let mut asked = request.clone();
+    asked.reader.settings.size_code = Settings::fresh().size_code;
+    asked.carried_out()
 }
 
 /// Whether the request is a call that was carried out.
