@@ -4,7 +4,7 @@ use crate::chance::Chance;
 use crate::coverage::Coverage;
 use crate::dialogue::dialogue;
 use crate::examples::{bytes, count, FINE};
-use crate::frame::Request;
+use crate::frame::{Kind, Request};
 use crate::host::Exchange;
 use crate::reader::*;
 use crate::readers::fresh_reader;
@@ -47,8 +47,8 @@ impl Bench {
         let mut rest = piece;
         let mut replies = Vec::new();
         loop {
-            let (receiver, reader) = (self.receiver.clone(), self.reader.clone());
-            let request = Request { line_switch: false, receiver, reader, run: rest.to_vec(), room: vec![0; ROOM] };
+            let (kind, reader) = (Kind::call(self.receiver.clone()), self.reader.clone());
+            let request = Request { kind, reader, run: rest.to_vec(), room: vec![0; ROOM] };
             let outcome = request.carried_out();
             self.tally.add(&request, &outcome);
             self.coverage.add(&request, &outcome);

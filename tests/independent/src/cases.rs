@@ -1,7 +1,7 @@
 //! Cases by chance: dialogues with a legal reader, and single calls of readers legal and not.
 
 use crate::chance::Chance;
-use crate::frame::{Outcome, Request, MOST_RUN};
+use crate::frame::{Kind, Outcome, Request, MOST_RUN};
 use crate::reader::*;
 use crate::readers::{address, any_legal_reader, capacity, password, size, spoiled_reader};
 use std::collections::VecDeque;
@@ -35,19 +35,19 @@ impl Dialogue {
 
     /// The next call or line switch; none when the dialogue is over.
     pub fn next(&mut self) -> Option<Request> {
-        let mut line_switch = false;
+        let mut kind = Kind::Call;
         if self.waiting {
             while self.events.is_empty() {
                 self.next_scene()?;
             }
             match self.events.pop_front()? {
                 Event::Bytes(bytes) => self.left.extend(bytes),
-                Event::LineSwitch => line_switch = true,
+                Event::LineSwitch => kind = Kind::LineSwitch,
             }
         }
         let room = ROOM + self.chance.pick(&[0, 0, 1, 20]);
         let room = self.chance.bytes(room);
-        Some(Request { line_switch, receiver: None, reader: self.reader.clone(), run: self.left.clone(), room })
+        Some(Request { kind, reader: self.reader.clone(), run: self.left.clone(), room })
     }
 
     /// Goes on from where the answer left the reader.
@@ -67,11 +67,16 @@ impl Dialogue {
     }
 }
 
-/// One call or line switch of a reader that is legal or spoiled.
+/// One call or line switch of a reader that is legal or spoiled, or fresh settings for it.
 pub fn single(mut chance: Chance) -> Request {
     let (reader, room) = spoiled_reader(&mut chance);
     let run = Author { chance: &mut chance, reader: &reader }.run();
-    Request { line_switch: chance.percent(12), receiver: None, reader, run, room }
+    let kind = match chance.below(100) {
+        0..=11 => Kind::LineSwitch,
+        12..=21 => Kind::FreshSettings,
+        _ => Kind::Call,
+    };
+    Request { kind, reader, run, room }
 }
 
 /// Writes what is sent to a reader, knowing how the reader stands.

@@ -1,5 +1,5 @@
 //! The stored dialogue with the bench program: what a host sends, and beside it what it must get, written by hand from
-//! document 01.
+//! document 01 and document 02's request [2].
 
 use crate::coverage::ROWS;
 use crate::examples::{bytes, count, COUNT, FINE, HAND_SHAKE};
@@ -11,6 +11,10 @@ const OTHER: [u8; 4] = [0; 4];
 
 const SCENES: &[fn(&mut Host)] = &[
     fresh,
+    refused_rows,
+    first_download,
+    unasked_64,
+    asked_64,
     noise,
     wrong_sums,
     other_addresses,
@@ -20,10 +24,7 @@ const SCENES: &[fn(&mut Host)] = &[
     unknown_codes,
     wrong_lengths,
     settings,
-    refused_rows,
     notepad,
-    transfer_of_128,
-    transfer_of_64,
     transfer_of_32,
     failed_transfers,
     transfers_broken_off,
@@ -48,9 +49,81 @@ pub fn dialogue() -> Vec<Exchange> {
 fn fresh(host: &mut Host) {
     host.sends("P1", &bytes(HAND_SHAKE), &bytes(FINE));
     host.sends("P8", &bytes(COUNT), &bytes(&count(0)));
-    host.parameters("fresh parameters", 0, 3, 1, 6);
+    host.parameters("fresh parameters", 0, 3, 2, 6);
     host.index("fresh index", "");
     host.reads("fresh notepad page 15", "19 0F", &[0; NOTE]);
+}
+
+/// What the rows refuse while all is empty; where two tests fail, the left one gives the code.
+fn refused_rows(host: &mut Host) {
+    host.commands(&[
+        ("Store buffer 0", "06 00 0000", 0x01),
+        ("Store buffer 3, page beyond: buffer first", "06 03 0040", 0x01),
+        ("Store page 64, not filled: page first", "06 01 0040", 0x0B),
+        ("Store page 256", "06 02 0100", 0x0B),
+        ("Store not filled", "06 01 0000", 0x0C),
+        ("LoadChar buffer 0", "07 00 0000", 0x01),
+        ("LoadChar buffer 3, page beyond", "07 03 FFFF", 0x01),
+        ("LoadChar page 64", "07 01 0040", 0x0B),
+        ("LoadChar page 256", "07 01 0100", 0x0B),
+        ("LoadChar bit clear", "07 01 003F", 0x0C),
+        ("UpChar buffer 0", "08 00", 0x01),
+        ("UpChar buffer 3", "08 03", 0x01),
+        ("UpChar not filled", "08 02", 0x0D),
+        ("DownChar buffer 0", "09 00", 0x01),
+        ("DownChar buffer 3", "09 03", 0x01),
+    ]);
+    host.silent("and no transfer was opened", &host.packet(DATA, &[0]));
+    host.command("ReadIndexTable page 1", "1F 01", 0x0B);
+    host.command("ReadNotepad page 16", "19 10", 0x1C);
+    host.write_note("WriteNotepad page 16", 16, &[0; NOTE], 0x1C);
+    host.write_note("WriteNotepad page 255", 255, &[7; NOTE], 0x1C);
+}
+
+/// The first download at a new vault, at 128 bytes with nothing set; it is stored, and uploaded back at 128.
+fn first_download(host: &mut Host) {
+    host.download("first download", 1, &first(), 128, &[]);
+    host.silent("one more data packet after the last", &host.packet(LAST_DATA, &[0; 32]));
+    host.commands(&[
+        ("Store page 0", "06 01 0000", 0x00),
+        ("Store page 9", "06 01 0009", 0x00),
+        ("Store page 63", "06 01 003F", 0x00),
+        ("Store page 64", "06 01 0040", 0x0B),
+        ("buffer 2 is still not filled", "08 02", 0x0D),
+        ("Store from buffer 2", "06 02 0001", 0x0C),
+    ]);
+    host.count("three stored", 3);
+    host.index("pages 0, 9 and 63", "01 02 00 00 00 00 00 80");
+    host.command("LoadChar 2 from page 0", "07 02 0000", 0x00);
+    host.upload("UpChar by 128", 2, &first(), 128);
+}
+
+/// A host that sends 64 bytes without asking: 0Eh for its first data packet and silence for the others.
+fn unasked_64(host: &mut Host) {
+    let parts = host.parts(&second(), 64);
+    host.command("64 unasked: DownChar 2", "09 02", 0x00);
+    host.gets("64 unasked: the first data packet", &parts[0], 0x0E);
+    host.silent("64 unasked: the next and the last", &[&parts[1][..], &parts[7]].concat());
+    host.command("64 unasked: not filled", "08 02", 0x0D);
+}
+
+/// A host that sets code 1 first is served at 64 bytes.
+fn asked_64(host: &mut Host) {
+    host.command("size code 1", "0E 06 01", 0x00);
+    host.download("size 64", 2, &second(), 64, &[]);
+    host.upload("UpChar by 64", 2, &second(), 64);
+    host.commands(&[
+        ("Store page 7", "06 02 0007", 0x00),
+        ("Store page 8", "06 02 0008", 0x00),
+        ("Store page 7 again", "06 02 0007", 0x00),
+    ]);
+    host.index("pages 0, 7, 8, 9 and 63", "81 03 00 00 00 00 00 80");
+    host.count("five stored", 5);
+
+    host.command("DownChar 1 at size 64", "09 01", 0x00);
+    let parts = [host.packet(DATA, &[0x44; 64]).repeat(6), host.packet(LAST_DATA, &[0x44; 128])].concat();
+    host.gets("six parts, then 8 with two sizes in it: the total is 512, yet 0Eh", &parts, 0x0E);
+    host.command("buffer 1 is not filled", "08 01", 0x0D);
 }
 
 fn noise(host: &mut Host) {
@@ -60,7 +133,7 @@ fn noise(host: &mut Host) {
     host.gets("noise after a packet", &bytes(&format!("{HAND_SHAKE} 01 EF 02 55")), 0x00);
     host.gets("a header before a packet: identifier FF, used 2", &bytes(&format!("EF 01 {HAND_SHAKE}")), 0x00);
     let headers = bytes(&format!("EF 01 EF 01 EF 01 {COUNT}"));
-    host.sends("three headers before a packet", &headers, &bytes(&count(0)));
+    host.sends("three headers before a packet", &headers, &bytes(&count(5)));
 }
 
 fn wrong_sums(host: &mut Host) {
@@ -105,7 +178,7 @@ fn bad_headers(host: &mut Host) {
         host.silent(&format!("bad identifier {identifier:02X}"), &host.packet(identifier, &[0x40]));
     }
     let inside = host.packet(0x06, &bytes(COUNT));
-    host.sends("bad identifier: a packet inside it is found", &inside, &bytes(&count(0)));
+    host.sends("bad identifier: a packet inside it is found", &inside, &bytes(&count(5)));
 }
 
 /// A byte too many, or too few.
@@ -152,7 +225,7 @@ fn settings(host: &mut Host) {
         ("SetSysPara, number 0", "0E 00 FF", 0x1A),
         ("SetSysPara, number 255", "0E FF 00", 0x1A),
     ]);
-    host.parameters("nothing changed", 0, 3, 1, 6);
+    host.parameters("nothing changed, size code 1 is kept", 0, 3, 1, 6);
     host.commands(&[
         ("SetSysPara, baud factor 12", "0E 04 0C", 0x00),
         ("SetSysPara, level 1", "0E 05 01", 0x00),
@@ -168,32 +241,6 @@ fn settings(host: &mut Host) {
     host.command("baud factor back", "0E 04 06", 0x00);
 }
 
-/// What the rows refuse while all is empty; where two tests fail, the left one gives the code.
-fn refused_rows(host: &mut Host) {
-    host.commands(&[
-        ("Store buffer 0", "06 00 0000", 0x01),
-        ("Store buffer 3, page beyond: buffer first", "06 03 0040", 0x01),
-        ("Store page 64, not filled: page first", "06 01 0040", 0x0B),
-        ("Store page 256", "06 02 0100", 0x0B),
-        ("Store not filled", "06 01 0000", 0x0C),
-        ("LoadChar buffer 0", "07 00 0000", 0x01),
-        ("LoadChar buffer 3, page beyond", "07 03 FFFF", 0x01),
-        ("LoadChar page 64", "07 01 0040", 0x0B),
-        ("LoadChar page 256", "07 01 0100", 0x0B),
-        ("LoadChar bit clear", "07 01 003F", 0x0C),
-        ("UpChar buffer 0", "08 00", 0x01),
-        ("UpChar buffer 3", "08 03", 0x01),
-        ("UpChar not filled", "08 02", 0x0D),
-        ("DownChar buffer 0", "09 00", 0x01),
-        ("DownChar buffer 3", "09 03", 0x01),
-    ]);
-    host.silent("and no transfer was opened", &host.packet(DATA, &[0]));
-    host.command("ReadIndexTable page 1", "1F 01", 0x0B);
-    host.command("ReadNotepad page 16", "19 10", 0x1C);
-    host.write_note("WriteNotepad page 16", 16, &[0; NOTE], 0x1C);
-    host.write_note("WriteNotepad page 255", 255, &[7; NOTE], 0x1C);
-}
-
 fn notepad(host: &mut Host) {
     let counting: Vec<u8> = (0xE0..=0xFF).collect();
     let packets = bytes(&format!("{HAND_SHAKE} {COUNT} EF 01 EF 01 EF 01 EF 01"));
@@ -203,44 +250,6 @@ fn notepad(host: &mut Host) {
     host.reads("ReadNotepad page 1", "19 01", &packets);
     host.reads("ReadNotepad page 0", "19 00", &[0; NOTE]);
     host.reads("ReadNotepad page 14", "19 0E", &[0; NOTE]);
-}
-
-/// Noise, other addresses and acknowledges do not end a transfer.
-fn transfer_of_128(host: &mut Host) {
-    let acknowledges = [host.packet(ACKNOWLEDGE, &[0x00]), host.damaged(ACKNOWLEDGE, &[0x0E], 3)].concat();
-    let others = [packet(OTHER, COMMAND, &[0x09, 0x02], 0), packet(OTHER, DATA, &[0; 128], 0), bytes("EF 01 A 09")];
-    let unfit = [host.packet(0x09, &[0x40]), bytes("EF")].concat();
-    host.download("size 128", 1, &first(), 128, &[bytes("41 EF"), acknowledges, others.concat(), unfit]);
-    host.silent("one more data packet after the last", &host.packet(LAST_DATA, &[0; 32]));
-    host.upload("UpChar by 128", 1, &first(), 128);
-    host.commands(&[
-        ("Store page 0", "06 01 0000", 0x00),
-        ("Store page 9", "06 01 0009", 0x00),
-        ("Store page 63", "06 01 003F", 0x00),
-        ("Store page 64", "06 01 0040", 0x0B),
-        ("buffer 2 is still not filled", "08 02", 0x0D),
-        ("Store from buffer 2", "06 02 0001", 0x0C),
-    ]);
-    host.count("three stored", 3);
-    host.index("pages 0, 9 and 63", "01 02 00 00 00 00 00 80");
-}
-
-fn transfer_of_64(host: &mut Host) {
-    host.command("size code 1", "0E 06 01", 0x00);
-    host.download("size 64", 2, &second(), 64, &[]);
-    host.upload("UpChar by 64", 2, &second(), 64);
-    host.commands(&[
-        ("Store page 7", "06 02 0007", 0x00),
-        ("Store page 8", "06 02 0008", 0x00),
-        ("Store page 7 again", "06 02 0007", 0x00),
-    ]);
-    host.index("pages 0, 7, 8, 9 and 63", "81 03 00 00 00 00 00 80");
-    host.count("five stored", 5);
-
-    host.command("DownChar 1 at size 64", "09 01", 0x00);
-    let parts = [host.packet(DATA, &[0x44; 64]).repeat(6), host.packet(LAST_DATA, &[0x44; 128])].concat();
-    host.gets("six parts, then 8 with two sizes in it: the total is 512, yet 0Eh", &parts, 0x0E);
-    host.command("buffer 1 is not filled", "08 01", 0x0D);
 }
 
 fn transfer_of_32(host: &mut Host) {
@@ -269,7 +278,6 @@ fn failed_transfers(host: &mut Host) {
     failed(host, "wrong sum, a packet inside", &host.damaged(DATA, &inside, 1));
     failed(host, "part too short", &host.packet(DATA, &[0x33; 127]));
     failed(host, "part too long", &host.packet(DATA, &[0x33; 129]));
-    failed(host, "part of another size", &host.packet(DATA, &[0x33; 64]));
     failed(host, "8 at once", &last);
     failed(host, "8 one part too early", &[part.repeat(2), last.clone()].concat());
     failed(host, "2 as the last part", &part.repeat(4));
@@ -313,10 +321,18 @@ fn transfers_broken_off(host: &mut Host) {
     host.silent("closed", &host.packet(DATA, &[0x33]));
     host.command("started anew: DownChar 2", "09 02", 0x00);
     host.silent("one part", &part(host));
-    host.download("begun at 0", 1, &second(), 128, &[]);
+    host.download("begun at 0", 1, &second(), 128, &between_parts(host));
     host.upload("buffer 1 is the second template", 1, &second(), 128);
     host.command("buffer 2 is not", "08 02", 0x0D);
     host.command("LoadChar 2 from page 0", "07 02 0000", 0x00);
+}
+
+/// Noise, other addresses and acknowledges, which do not end a transfer of 128.
+fn between_parts(host: &Host) -> [Vec<u8>; 4] {
+    let acknowledges = [host.packet(ACKNOWLEDGE, &[0x00]), host.damaged(ACKNOWLEDGE, &[0x0E], 3)].concat();
+    let others = [packet(OTHER, COMMAND, &[0x09, 0x02], 0), packet(OTHER, DATA, &[0; 128], 0), bytes("EF 01 A 09")];
+    let unfit = [host.packet(0x09, &[0x40]), bytes("EF")].concat();
+    [bytes("41 EF"), acknowledges, others.concat(), unfit]
 }
 
 fn delete(host: &mut Host) {

@@ -4,17 +4,25 @@ use crate::reader::{self, Answer, Mark, Reader, Settings};
 use crate::receiver::{self, Receiver};
 use std::io::{Error, ErrorKind, Read, Result};
 
-/// What a frame in asks for.
+/// What a frame in asks for, and of what.
 #[derive(Clone, PartialEq, Eq)]
 pub struct Request {
-    /// A line switch, else a call.
-    pub line_switch: bool,
-    /// The receiver before the reader, if there is one.
-    pub receiver: Option<Receiver>,
+    pub kind: Kind,
     pub reader: Reader,
     /// The run, or the piece that a receiver is offered.
     pub run: Vec<u8>,
     pub room: Vec<u8>,
+}
+
+/// The five kinds of a request, with the receiver before the reader where there is one.
+#[derive(Clone, PartialEq, Eq)]
+pub enum Kind {
+    Call,
+    LineSwitch,
+    ReceiverCall(Receiver),
+    ReceiverLineSwitch(Receiver),
+    /// Fresh settings in place of the reader's, legal or not; no memory is touched.
+    FreshSettings,
 }
 
 /// What a frame out tells.
@@ -38,24 +46,78 @@ const MOST: [(&str, usize); 7] = [
 ];
 pub const MOST_RUN: usize = 4096;
 
+impl Kind {
+    /// A call, of the receiver if there is one.
+    pub fn call(receiver: Option<Receiver>) -> Kind {
+        receiver.map_or(Kind::Call, Kind::ReceiverCall)
+    }
+
+    pub fn is_call(&self) -> bool {
+        matches!(self, Kind::Call | Kind::ReceiverCall(_))
+    }
+
+    pub fn is_line_switch(&self) -> bool {
+        matches!(self, Kind::LineSwitch | Kind::ReceiverLineSwitch(_))
+    }
+
+    pub fn receiver(&self) -> Option<&Receiver> {
+        match self {
+            Kind::ReceiverCall(receiver) | Kind::ReceiverLineSwitch(receiver) => Some(receiver),
+            _ => None,
+        }
+    }
+
+    pub fn receiver_mut(&mut self) -> Option<&mut Receiver> {
+        match self {
+            Kind::ReceiverCall(receiver) | Kind::ReceiverLineSwitch(receiver) => Some(receiver),
+            _ => None,
+        }
+    }
+
+    /// The byte that a frame in begins with.
+    fn number(&self) -> u8 {
+        match self {
+            Kind::Call => 0,
+            Kind::LineSwitch => 1,
+            Kind::ReceiverCall(_) => 2,
+            Kind::ReceiverLineSwitch(_) => 3,
+            Kind::FreshSettings => 4,
+        }
+    }
+
+    /// The kind of a frame in that begins with this byte, with an empty receiver where there is one.
+    fn numbered(number: u8) -> Result<Kind> {
+        match number {
+            0 => Ok(Kind::Call),
+            1 => Ok(Kind::LineSwitch),
+            2 => Ok(Kind::ReceiverCall(Receiver::empty())),
+            3 => Ok(Kind::ReceiverLineSwitch(Receiver::empty())),
+            4 => Ok(Kind::FreshSettings),
+            other => Err(broken(format!("a frame begins with {other}"))),
+        }
+    }
+}
+
 impl Request {
     /// What the independent reader makes of it.
     pub fn carried_out(&self) -> Outcome {
-        let mut receiver = self.receiver.clone();
-        let mut reader = self.reader.clone();
-        let mut room = self.room.clone();
-        let answer = match (&mut receiver, self.line_switch) {
-            (None, false) => reader::call(&mut reader, &self.run, &mut room),
-            (None, true) => reader::line_switch(&mut reader),
-            (Some(receiver), false) => receiver::call(receiver, &mut reader, &self.run, &mut room),
-            (Some(receiver), true) => receiver::line_switch(receiver, &mut reader),
+        let Request { mut kind, mut reader, run, mut room } = self.clone();
+        let answer = match &mut kind {
+            Kind::Call => reader::call(&mut reader, &run, &mut room),
+            Kind::LineSwitch => reader::line_switch(&mut reader),
+            Kind::ReceiverCall(receiver) => receiver::call(receiver, &mut reader, &run, &mut room),
+            Kind::ReceiverLineSwitch(receiver) => receiver::line_switch(receiver, &mut reader),
+            Kind::FreshSettings => {
+                reader.settings = Settings::fresh();
+                Answer { refusal: 0, used: 0, length: 0 }
+            }
         };
-        Outcome { answer, receiver, reader, room }
+        Outcome { answer, receiver: kind.receiver().cloned(), reader, room }
     }
 
     /// The run that document 01's call is on: with a receiver the held bytes and what fits of the piece.
     pub fn whole_run(&self) -> Vec<u8> {
-        match &self.receiver {
+        match self.kind.receiver() {
             Some(receiver) => receiver.joined(&self.run),
             None => self.run.clone(),
         }
@@ -65,12 +127,12 @@ impl Request {
     pub fn frame(&self) -> Vec<u8> {
         let Reader { settings, templates, index, notepad, buffers } = &self.reader;
         let memories = [templates, index, notepad, &buffers[0], &buffers[1], &self.run, &self.room];
-        let mut frame = vec![u8::from(self.line_switch) + 2 * u8::from(self.receiver.is_some())];
+        let mut frame = vec![self.kind.number()];
         frame.extend(settings_to_bytes(settings));
         for memory in memories {
             frame.extend(four_bytes(memory.len()));
         }
-        frame.extend(receiver_to_bytes(&self.receiver));
+        frame.extend(receiver_to_bytes(self.kind.receiver()));
         for memory in memories {
             frame.extend(memory);
         }
@@ -79,10 +141,9 @@ impl Request {
 
     /// Reads a frame in; none if the input ends before it.
     pub fn read(input: &mut impl Read) -> Result<Option<Request>> {
-        let (line_switch, received) = match input.by_ref().bytes().next().transpose()? {
+        let mut kind = match input.by_ref().bytes().next().transpose()? {
             None => return Ok(None),
-            Some(kind @ 0..=3) => (kind % 2 == 1, kind >= 2),
-            Some(other) => return Err(broken(format!("a frame begins with {other}"))),
+            Some(number) => Kind::numbered(number)?,
         };
         let settings = read_settings(input)?;
         let mut memories = Vec::new();
@@ -93,14 +154,16 @@ impl Request {
             }
             memories.push(vec![0; length]);
         }
-        let receiver = read_receiver(input, received)?;
+        if let Some(receiver) = kind.receiver_mut() {
+            *receiver = read_receiver(input)?;
+        }
         for memory in &mut memories {
             input.read_exact(memory)?;
         }
         let mut memories = memories.into_iter();
         let mut next = || memories.next().unwrap_or_default();
         let reader = Reader { settings, templates: next(), index: next(), notepad: next(), buffers: [next(), next()] };
-        Ok(Some(Request { line_switch, receiver, reader, run: next(), room: next() }))
+        Ok(Some(Request { kind, reader, run: next(), room: next() }))
     }
 }
 
@@ -112,7 +175,7 @@ impl Outcome {
         frame.extend(four_bytes(self.answer.used));
         frame.extend(four_bytes(self.answer.length));
         frame.extend(settings_to_bytes(settings));
-        frame.extend(receiver_to_bytes(&self.receiver));
+        frame.extend(receiver_to_bytes(self.receiver.as_ref()));
         for memory in [templates, index, notepad, &buffers[0], &buffers[1], &self.room] {
             frame.extend(memory);
         }
@@ -129,7 +192,7 @@ impl Outcome {
         let mut reader = request.reader.clone();
         let mut room = request.room.clone();
         reader.settings = read_settings(input)?;
-        let receiver = read_receiver(input, request.receiver.is_some())?;
+        let receiver = request.kind.receiver().map(|_| read_receiver(input)).transpose()?;
         let Reader { templates, index, notepad, buffers: [one, two], .. } = &mut reader;
         for memory in [templates, index, notepad, one, two, &mut room] {
             input.read_exact(memory)?;
@@ -139,23 +202,21 @@ impl Outcome {
 
     /// Whether a receiver's call took nothing, answered nothing and left the held bytes as they are.
     pub fn at_rest(&self, request: &Request) -> bool {
-        let held = |receiver: &Option<Receiver>| receiver.as_ref().map(|receiver| receiver.held().to_vec());
-        self.answer.used == 0 && self.answer.length == 0 && held(&self.receiver) == held(&request.receiver)
+        let held = |receiver: Option<&Receiver>| receiver.map(|receiver| receiver.held().to_vec());
+        let as_they_are = held(self.receiver.as_ref()) == held(request.kind.receiver());
+        self.answer.used == 0 && self.answer.length == 0 && as_they_are
     }
 }
 
 /// The held count and the cells, or nothing where there is no receiver.
-fn receiver_to_bytes(receiver: &Option<Receiver>) -> Vec<u8> {
+fn receiver_to_bytes(receiver: Option<&Receiver>) -> Vec<u8> {
     let bytes = |receiver: &Receiver| [&receiver.count.to_be_bytes()[..], &receiver.cells].concat();
-    receiver.as_ref().map_or_else(Vec::new, bytes)
+    receiver.map_or_else(Vec::new, bytes)
 }
 
-fn read_receiver(input: &mut impl Read, received: bool) -> Result<Option<Receiver>> {
-    if !received {
-        return Ok(None);
-    }
+fn read_receiver(input: &mut impl Read) -> Result<Receiver> {
     let count = u16::from_be_bytes(read_bytes(input)?);
-    Ok(Some(Receiver { count, cells: read_bytes(input)? }))
+    Ok(Receiver { count, cells: read_bytes(input)? })
 }
 
 fn settings_to_bytes(settings: &Settings) -> Vec<u8> {

@@ -1,4 +1,4 @@
-//! The host of the stored dialogue: what it sends, and what document 01 lets it expect.
+//! The host of the stored dialogue: what it sends, and what the papers let it expect.
 
 use crate::bench::PAGES;
 use crate::examples::bytes;

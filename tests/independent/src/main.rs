@@ -1,4 +1,4 @@
-//! Pits a reader and a receiver, written from document 01 and document 02's request [1] alone, against another
+//! Pits a reader and a receiver, written from document 01 and document 02's requests [1] and [2] alone, against another
 //! implementation of the papers, and writes the stored dialogue of the bench program with them.
 
 mod bench;
@@ -22,14 +22,14 @@ mod wrong;
 
 use cases::Dialogue;
 use chance::Chance;
-use frame::{Outcome, Request};
+use frame::{Kind, Outcome, Request};
 use probe::Probe;
 use receivers::Caller;
 use std::fs;
 use std::io::{self, Write};
 use std::process::ExitCode;
 use std::time::{Duration, Instant};
-use tally::{Tally, ALL, RECEIVED};
+use tally::{Tally, CALLED, FRESHENED, RECEIVED};
 
 const USAGE: &str = "usage: independent [--cases N] [--seed S] [--quiet] -- PROGRAM ARGS...
        independent --answer [ERROR]    be a probe, with a deliberate error if named
@@ -187,14 +187,15 @@ fn compare(options: Options) -> Result<(), End> {
     comparer.receivers_in_turn(seed)?;
     comparer.probe.finish()?;
 
-    let kinds = [ALL, RECEIVED].concat();
-    let mut gaps = comparer.readers.gaps(ALL);
-    gaps.extend(comparer.receivers.gaps(&kinds).iter().map(|gap| format!("with a receiver, {gap}")));
+    let (of_readers, of_receivers) = ([CALLED, FRESHENED].concat(), [CALLED, RECEIVED].concat());
+    let mut gaps = comparer.readers.gaps(&of_readers);
+    gaps.extend(comparer.receivers.gaps(&of_receivers).iter().map(|gap| format!("with a receiver, {gap}")));
     if !gaps.is_empty() && cases >= COVERING_CASES {
         let heading = "the cases are too weak, these did not occur:".to_string();
         return Err(End::Disagreement([vec![heading], gaps].concat()));
     }
-    for (who, tally, kinds) in [("reader", &comparer.readers, ALL), ("receiver", &comparer.receivers, &kinds)] {
+    let tallies = [("reader", &comparer.readers, &of_readers), ("receiver", &comparer.receivers, &of_receivers)];
+    for (who, tally, kinds) in tallies {
         println!("independent: {} calls of the {who} agree ({cases} cases of seed {seed})", tally.calls);
         if !quiet {
             println!("  {}", tally.lines(kinds).join("\n  "));
@@ -205,9 +206,9 @@ fn compare(options: Options) -> Result<(), End> {
 
 struct Comparer {
     probe: Probe,
-    /// The calls without a receiver.
+    /// What is asked without a receiver.
     readers: Tally,
-    /// The calls with one.
+    /// What is asked with one.
     receivers: Tally,
     /// What the case at hand is called.
     case: String,
@@ -221,13 +222,20 @@ impl Comparer {
             let (mut receiver, mut reader) = (example.receiver, example.reader);
             for step in example.steps {
                 let room = vec![0x5A; reader::ROOM];
-                let request = Request { line_switch: false, receiver, reader, run: step.run, room };
+                let request = Request { kind: Kind::call(receiver), reader, run: step.run, room };
                 let outcome = self.agreed(&request)?;
                 let answer = &outcome.answer;
                 let answered = answer.used == step.used && outcome.room[..answer.length] == step.reply;
                 self.demand(answered && outcome.receiver == step.receiver, "gives another answer")?;
                 (receiver, reader) = (outcome.receiver, outcome.reader);
             }
+        }
+        for (name, frame_in, frame_out) in examples::of_fresh_settings() {
+            self.case = format!("the example {name}");
+            let request = Request::read(&mut &frame_in[..]).ok().flatten();
+            let request = request.ok_or_else(|| format!("there is no frame in {}", self.case))?;
+            let outcome = self.agreed(&request)?;
+            self.demand(request.frame() == frame_in && outcome.frame() == frame_out, "gives another frame")?;
         }
         Ok(())
     }
@@ -281,7 +289,7 @@ impl Comparer {
         if probe != paper {
             return Err(self.disagreement(request, probe));
         }
-        let tally = if request.receiver.is_some() { &mut self.receivers } else { &mut self.readers };
+        let tally = if request.kind.receiver().is_some() { &mut self.receivers } else { &mut self.readers };
         tally.add(request, &paper);
         Ok(paper)
     }

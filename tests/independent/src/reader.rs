@@ -1,4 +1,5 @@
-//! The reader of document 01, written from that paper alone and in its order.
+//! The reader of document 01, with the fresh settings of document 02's request [2], written from those papers alone and
+//! in document 01's order.
 
 use std::ops::RangeInclusive;
 
@@ -152,7 +153,7 @@ impl Settings {
             password: [0; 4],
             address: [0xFF; 4],
             level: 3,
-            size_code: 1,
+            size_code: 2,
             baud_factor: 6,
             transfer: 0,
             sensor_type: 0,

@@ -3,7 +3,7 @@
 
 use crate::cases::{Author, Event};
 use crate::chance::Chance;
-use crate::frame::{Outcome, Request};
+use crate::frame::{Kind, Outcome, Request};
 use crate::reader::*;
 use crate::readers::{any_legal_reader, legal_reader, spoiled_reader};
 use crate::receiver::{given_whole, Receiver, Rest, HOLDS};
@@ -21,7 +21,8 @@ pub fn single(mut chance: Chance) -> Request {
     let count = any_count(&mut chance);
     let length = chance.within(0, MOST_PIECE);
     let (receiver, run) = offered(&mut chance, &reader, count, length);
-    Request { line_switch: chance.percent(25), receiver: Some(receiver), reader, run, room }
+    let kind = if chance.percent(25) { Kind::ReceiverLineSwitch } else { Kind::ReceiverCall };
+    Request { kind: kind(receiver), reader, run, room }
 }
 
 /// Calls of legal readers, with pieces of every length and with every legal held count.
@@ -33,7 +34,7 @@ pub fn every_length(seed: u64) -> impl Iterator<Item = Request> {
         // 5 and 266 have no factor in common, so that every count has its turn.
         let (receiver, run) = offered(&mut chance, &reader, 5 * place % (HOLDS + 1), place % (MOST_PIECE + 1));
         let room = chance.bytes(ROOM);
-        Request { line_switch: false, receiver: Some(receiver), reader, run, room }
+        Request { kind: Kind::ReceiverCall(receiver), reader, run, room }
     })
 }
 
@@ -158,8 +159,9 @@ impl Caller {
                 Event::LineSwitch => line_switch = true,
             }
         }
-        let (receiver, reader, run) = (Some(self.receiver.clone()), self.reader.clone(), self.rest.clone());
-        Some(Request { line_switch, receiver, reader, run, room: self.chance.bytes(ROOM) })
+        let kind = if line_switch { Kind::ReceiverLineSwitch } else { Kind::ReceiverCall };
+        let (kind, reader, run) = (kind(self.receiver.clone()), self.reader.clone(), self.rest.clone());
+        Some(Request { kind, reader, run, room: self.chance.bytes(ROOM) })
     }
 
     /// Whether the next piece is offered though the caller is not at rest.
@@ -170,12 +172,12 @@ impl Caller {
 
     /// Goes on from where the answer left reader and receiver.
     pub fn go_on(&mut self, request: &Request, outcome: Outcome) {
-        self.at_rest = request.line_switch || outcome.at_rest(request);
+        self.at_rest = request.kind.is_line_switch() || outcome.at_rest(request);
         self.rest.drain(..outcome.answer.used);
         self.stretch.replies.extend(&outcome.room[..outcome.answer.length]);
         self.reader = outcome.reader;
         self.receiver = outcome.receiver.unwrap_or_else(Receiver::empty);
-        if request.line_switch {
+        if request.kind.is_line_switch() {
             self.stretch = Stretch::from(&self.reader);
         }
     }

@@ -1,6 +1,6 @@
 //! Tells readably what a case is and where two readers differ.
 
-use crate::frame::{Outcome, Request};
+use crate::frame::{Kind, Outcome, Request};
 use crate::reader::{Mark, Settings, CLEAR, SET};
 
 /// The case in lines.
@@ -8,10 +8,15 @@ pub fn case(request: &Request) -> Vec<String> {
     let reader = &request.reader;
     let fields: Vec<String> =
         settings(&reader.settings).iter().map(|(name, value)| format!("{name} {value}")).collect();
-    let what = if request.line_switch { "a line switch" } else { "a call" };
-    let whose = if request.receiver.is_some() { "receiver" } else { "reader" };
+    let what = match request.kind {
+        Kind::Call => "a call of the reader",
+        Kind::LineSwitch => "a line switch of the reader",
+        Kind::ReceiverCall(_) => "a call of the receiver",
+        Kind::ReceiverLineSwitch(_) => "a line switch of the receiver",
+        Kind::FreshSettings => "fresh settings",
+    };
     let mut lines = vec![
-        format!("{what} of the {whose}"),
+        what.to_string(),
         fields[..5].join(", "),
         fields[5..].join(", "),
         format!("C = {}, {}", reader.capacity(), memory("templates", &reader.templates)),
@@ -21,13 +26,13 @@ pub fn case(request: &Request) -> Vec<String> {
     lines.push(memory("buffer 1", &reader.buffers[0]));
     lines.push(memory("buffer 2", &reader.buffers[1]));
     lines.push(memory("reply room", &request.room));
-    if let Some(receiver) = &request.receiver {
+    if let Some(receiver) = request.kind.receiver() {
         lines.push(format!("held count {}, {}", receiver.count, memory("cells", &receiver.cells)));
         if receiver.legal() {
             lines.push(format!("held bytes: {}", hex(receiver.held())));
         }
     }
-    let run = if request.receiver.is_some() { "piece" } else { "run" };
+    let run = if request.kind.receiver().is_some() { "piece" } else { "run" };
     lines.push(format!("{run} of {} bytes: {}", request.run.len(), hex(&request.run)));
     lines
 }

@@ -112,12 +112,12 @@ impl<F: FnMut(&Request) -> Result<Outcome, String>> Shrinker<F> {
             piece /= 2;
         }
         for cell in 0..HOLDS {
-            self.attempt(|case| case.receiver.iter_mut().for_each(|receiver| receiver.cells[cell] = 0));
+            self.attempt(|case| case.kind.receiver_mut().into_iter().for_each(|receiver| receiver.cells[cell] = 0));
         }
     }
 
     fn held(&self) -> &[u8] {
-        self.case.receiver.as_ref().map_or(&[], Receiver::held)
+        self.case.kind.receiver().map_or(&[], Receiver::held)
     }
 
     fn reduce_capacity(&mut self) {
@@ -166,7 +166,7 @@ impl<F: FnMut(&Request) -> Result<Outcome, String>> Shrinker<F> {
 
 /// Changes the held bytes of a receiver with a legal count; the cells past them keep their bytes as far as they can.
 fn change_held(case: &mut Request, change: impl FnOnce(&mut Vec<u8>)) {
-    if let Some(receiver) = case.receiver.as_mut().filter(|receiver| receiver.legal()) {
+    if let Some(receiver) = case.kind.receiver_mut().filter(|receiver| receiver.legal()) {
         let mut held = receiver.held().to_vec();
         change(&mut held);
         receiver.count = held.len() as u16;

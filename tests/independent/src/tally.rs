@@ -1,6 +1,6 @@
 //! Counts what the calls brought about, to show that the cases reach everything.
 
-use crate::frame::{Outcome, Request};
+use crate::frame::{self, Outcome, Request};
 use crate::reader::*;
 use crate::receiver::{Receiver, HOLDS};
 use crate::receivers::MOST_PIECE;
@@ -35,18 +35,23 @@ const PAST: usize = 10;
 const LOCKED: usize = 11;
 const PIECES: usize = 12;
 const HELD: usize = 13;
+const FRESH: usize = 14;
+const FRESH_SIZES: usize = 15;
+const FRESH_MARKS: usize = 16;
 
-/// Every kind that needs no receiver.
-pub const ALL: &[usize] = &[ACKNOWLEDGES, FINE, UPLOADS, DOWNLOADS, REFUSALS, SWITCHES, MARKS, MARKS_SWITCHED];
+/// What calls and line switches bring about, with a receiver or without.
+pub const CALLED: &[usize] = &[ACKNOWLEDGES, FINE, UPLOADS, DOWNLOADS, REFUSALS, SWITCHES, MARKS, MARKS_SWITCHED];
 /// What a legal reader on a line can bring about.
 pub const ON_A_LINE: &[usize] = &[ACKNOWLEDGES, FINE, UPLOADS, DOWNLOADS];
 /// What needs a receiver.
 pub const RECEIVED: &[usize] = &[COUNTS, COUNTS_SWITCHED, PAST, LOCKED, PIECES, HELD];
+/// What stands there when fresh settings are asked for.
+pub const FRESHENED: &[usize] = &[FRESH, FRESH_SIZES, FRESH_MARKS];
 
 /// The acknowledge codes of document 01.
 pub const CODES: [u8; 13] = [0x00, 0x01, 0x0B, 0x0C, 0x0D, 0x0E, 0x10, 0x13, 0x19, 0x1A, 0x1B, 0x1C, 0x21];
 
-const KINDS: [Kind; 14] = [
+const KINDS: [Kind; 17] = [
     Kind { name: "acknowledge codes", awaited: Codes(&CODES) },
     Kind { name: "commands answered 00h", awaited: Codes(&COMMANDS) },
     Kind { name: "uploads by size", awaited: Numbers(&[32, 64, 128]) },
@@ -61,6 +66,9 @@ const KINDS: [Kind; 14] = [
     Kind { name: "calls by refusal, of a locked reader", awaited: Numbers(&[0, 1, 2, 3]) },
     Kind { name: "calls carried out by the piece's length", awaited: UpTo(MOST_PIECE) },
     Kind { name: "calls carried out by the held count", awaited: UpTo(HOLDS) },
+    Kind { name: "fresh settings by the refusal that a call would get", awaited: Numbers(&[0, 1, 2, 3]) },
+    Kind { name: "fresh settings by the size code before", awaited: Numbers(&[0, 1, 2]) },
+    Kind { name: "fresh settings by refusal, with a mark of neither 0 nor 1 before", awaited: Numbers(&[0]) },
 ];
 
 #[derive(Default)]
@@ -73,11 +81,19 @@ impl Tally {
     pub fn add(&mut self, request: &Request, outcome: &Outcome) {
         self.calls += 1;
         let refusal = outcome.answer.refusal;
-        if let Some(receiver) = &request.receiver {
+        if let Some(receiver) = request.kind.receiver() {
             self.add_receiver(request, receiver, refusal);
         }
         let unfit = !request.reader.settings.marks_legal();
-        if request.line_switch {
+        if request.kind == frame::Kind::FreshSettings {
+            self.count(FRESH, request.reader.refusal(request.room.len()));
+            self.count(FRESH_SIZES, request.reader.settings.size_code);
+            if unfit {
+                self.count(FRESH_MARKS, refusal);
+            }
+            return;
+        }
+        if request.kind.is_line_switch() {
             self.count(SWITCHES, refusal);
             if unfit {
                 self.count(MARKS_SWITCHED, refusal);
@@ -110,7 +126,7 @@ impl Tally {
     }
 
     fn add_receiver(&mut self, request: &Request, receiver: &Receiver, refusal: u8) {
-        if request.line_switch {
+        if request.kind.is_line_switch() {
             if !receiver.legal() {
                 self.count(COUNTS_SWITCHED, refusal);
             }

@@ -1,30 +1,35 @@
 //! Readers and receivers with one deliberate error each, made by changing what the good one is asked or what it
 //! answers.
 
-use crate::frame::{Outcome, Request};
+use crate::frame::{Kind, Outcome, Request};
 use crate::reader::*;
 use crate::receiver::{Receiver, HOLDS};
-use Error::{OfReader, OfReceiver};
+use Error::{OfFresh, OfReader, OfReceiver};
 
 pub enum Error {
-    /// The error shows where there is no receiver.
+    /// The error shows in calls and line switches without a receiver.
     OfReader(fn(&Request) -> Outcome),
     /// The error shows where there is a receiver, which is handed in too.
     OfReceiver(fn(&Request, &Receiver) -> Outcome),
+    /// The error shows where fresh settings are asked for.
+    OfFresh(fn(&Request) -> Outcome),
 }
 
 impl Error {
     /// What the wrong one makes of a request.
     pub fn carried_out(&self, request: &Request) -> Outcome {
-        match (self, &request.receiver) {
-            (OfReader(wrong), None) => wrong(request),
-            (OfReceiver(wrong), Some(receiver)) => wrong(request, receiver),
+        match (self, &request.kind) {
+            (OfReader(wrong), Kind::Call | Kind::LineSwitch) => wrong(request),
+            (OfReceiver(wrong), Kind::ReceiverCall(receiver) | Kind::ReceiverLineSwitch(receiver)) => {
+                wrong(request, receiver)
+            }
+            (OfFresh(wrong), Kind::FreshSettings) => wrong(request),
             _ => request.carried_out(),
         }
     }
 }
 
-pub const ERRORS: [(&str, Error); 41] = [
+pub const ERRORS: [(&str, Error); 49] = [
     ("lock-before-sum", OfReader(lock_before_sum)),
     ("delete-keeps-templates", OfReader(delete_keeps_templates)),
     ("sum-in-16-bits", OfReader(sum_in_16_bits)),
@@ -66,6 +71,14 @@ pub const ERRORS: [(&str, Error); 41] = [
     ("switch-keeps-held", OfReceiver(switch_keeps_held)),
     ("switch-keeps-cells", OfReceiver(switch_keeps_cells)),
     ("switch-refuses-count", OfReceiver(switch_refuses_count)),
+    ("fresh-size-1", OfFresh(fresh_size_1)),
+    ("fresh-keeps-size", OfFresh(fresh_keeps_size)),
+    ("call-lays-fresh-size", OfReader(call_lays_fresh_size)),
+    ("down-char-lays-fresh-size", OfReader(down_char_lays_fresh_size)),
+    ("old-fresh-made-fresh", OfReader(old_fresh_made_fresh)),
+    ("switch-lays-fresh-size", OfReader(switch_lays_fresh_size)),
+    ("receiver-call-lays-fresh-size", OfReceiver(|request, _| call_lays_fresh_size(request))),
+    ("receiver-switch-lays-fresh-size", OfReceiver(|request, _| switch_lays_fresh_size(request))),
 ];
 
 /// A locked reader gives 21h to a command with a wrong sum.
@@ -254,7 +267,7 @@ fn foreign_ends_transfer(request: &Request) -> Outcome {
 /// A run that ends in EF is used whole.
 fn eats_last_ef(request: &Request) -> Outcome {
     let mut outcome = request.carried_out();
-    if outcome.answer.refusal == 0 && !request.line_switch && request.run.ends_with(&[0xEF]) {
+    if carried_out(request, &outcome) && request.run.ends_with(&[0xEF]) {
         outcome.answer.used = outcome.answer.used.max(request.run.len());
     }
     outcome
@@ -263,7 +276,7 @@ fn eats_last_ef(request: &Request) -> Outcome {
 /// The line switch zeroes neither buffer.
 fn switch_keeps_buffers(request: &Request) -> Outcome {
     let mut outcome = request.carried_out();
-    if request.line_switch {
+    if request.kind.is_line_switch() {
         outcome.reader.buffers = request.reader.buffers.clone();
     }
     outcome
@@ -283,7 +296,7 @@ fn takes_any_mark(request: &Request) -> Outcome {
 fn switch_keeps_unfit_marks(request: &Request) -> Outcome {
     let mut outcome = request.carried_out();
     let (before, after) = (&request.reader.settings, &mut outcome.reader.settings);
-    if request.line_switch && !before.verified.legal() {
+    if request.kind.is_line_switch() && !before.verified.legal() {
         after.verified = before.verified;
     }
     outcome
@@ -304,7 +317,7 @@ fn takes_up_to(most: usize, request: &Request, receiver: &Receiver) -> Outcome {
     if carried_out(request, &outcome) {
         let fits = request.run.len().min(most.saturating_sub(receiver.held().len()));
         let run = [receiver.held(), &request.run[..fits]].concat();
-        outcome = Request { receiver: None, run: run.clone(), ..request.clone() }.carried_out();
+        outcome = Request { kind: Kind::Call, run: run.clone(), ..request.clone() }.carried_out();
         outcome.receiver = Some(Receiver::holding(&run[outcome.answer.used..]));
         outcome.answer.used = fits;
     }
@@ -377,8 +390,8 @@ fn says_used_for_taken(request: &Request, _: &Receiver) -> Outcome {
 fn answers_two(request: &Request, _: &Receiver) -> Outcome {
     let mut first = request.carried_out();
     let Answer { used, length, .. } = first.answer;
-    let (receiver, reader) = (first.receiver.clone(), first.reader.clone());
-    let again = Request { line_switch: false, receiver, reader, run: Vec::new(), room: vec![0; ROOM] };
+    let (kind, reader) = (Kind::call(first.receiver.clone()), first.reader.clone());
+    let again = Request { kind, reader, run: Vec::new(), room: vec![0; ROOM] };
     let mut second = again.carried_out();
     let both = length + second.answer.length;
     if length == 0 || length == both || both > first.room.len() {
@@ -393,12 +406,12 @@ fn answers_two(request: &Request, _: &Receiver) -> Outcome {
 /// A held count of 265 gets refusal 3.
 fn refuses_265(request: &Request, receiver: &Receiver) -> Outcome {
     let mut asked = request.clone();
-    if !request.line_switch && usize::from(receiver.count) == HOLDS {
-        asked.receiver = Some(Receiver { count: receiver.count + 1, ..receiver.clone() });
+    if request.kind.is_call() && usize::from(receiver.count) == HOLDS {
+        asked.kind = Kind::ReceiverCall(Receiver { count: receiver.count + 1, ..receiver.clone() });
     }
     let mut outcome = asked.carried_out();
     if outcome.answer.refusal != 0 {
-        outcome.receiver = request.receiver.clone();
+        outcome.receiver = Some(receiver.clone());
     }
     outcome
 }
@@ -406,10 +419,12 @@ fn refuses_265(request: &Request, receiver: &Receiver) -> Outcome {
 /// A held count above 265 is taken for 265.
 fn takes_any_count(request: &Request, receiver: &Receiver) -> Outcome {
     let mut asked = request.clone();
-    asked.receiver = Some(Receiver { count: receiver.count.min(HOLDS as u16), ..receiver.clone() });
+    if request.kind.is_call() {
+        asked.kind = Kind::ReceiverCall(Receiver { count: receiver.count.min(HOLDS as u16), ..receiver.clone() });
+    }
     let mut outcome = asked.carried_out();
     if outcome.answer.refusal != 0 {
-        outcome.receiver = request.receiver.clone();
+        outcome.receiver = Some(receiver.clone());
     }
     outcome
 }
@@ -426,7 +441,7 @@ fn count_before_room(request: &Request, receiver: &Receiver) -> Outcome {
 
 fn count_before(refusal: u8, request: &Request, receiver: &Receiver) -> Outcome {
     let mut outcome = request.carried_out();
-    if !request.line_switch && !receiver.legal() && outcome.answer.refusal == refusal {
+    if request.kind.is_call() && !receiver.legal() && outcome.answer.refusal == refusal {
         outcome.answer.refusal = 3;
     }
     outcome
@@ -473,7 +488,7 @@ fn refused_zeroes_past_count(request: &Request, receiver: &Receiver) -> Outcome 
 /// A refused line switch empties the held bytes.
 fn refused_switch_empties(request: &Request, _: &Receiver) -> Outcome {
     let mut outcome = request.carried_out();
-    if request.line_switch && outcome.answer.refusal != 0 {
+    if request.kind.is_line_switch() && outcome.answer.refusal != 0 {
         outcome.receiver = Some(Receiver::empty());
     }
     outcome
@@ -482,7 +497,7 @@ fn refused_switch_empties(request: &Request, _: &Receiver) -> Outcome {
 /// The line switch keeps the held bytes.
 fn switch_keeps_held(request: &Request, receiver: &Receiver) -> Outcome {
     let mut outcome = request.carried_out();
-    if request.line_switch {
+    if request.kind.is_line_switch() {
         outcome.receiver = Some(receiver.clone());
     }
     outcome
@@ -491,7 +506,7 @@ fn switch_keeps_held(request: &Request, receiver: &Receiver) -> Outcome {
 /// The line switch makes the count 0 and keeps the cells.
 fn switch_keeps_cells(request: &Request, receiver: &Receiver) -> Outcome {
     let mut outcome = request.carried_out();
-    if request.line_switch && outcome.answer.refusal == 0 {
+    if request.kind.is_line_switch() && outcome.answer.refusal == 0 {
         outcome.receiver = Some(Receiver { count: 0, ..receiver.clone() });
     }
     outcome
@@ -500,7 +515,7 @@ fn switch_keeps_cells(request: &Request, receiver: &Receiver) -> Outcome {
 /// The line switch refuses a held count above 265.
 fn switch_refuses_count(request: &Request, receiver: &Receiver) -> Outcome {
     let mut outcome = request.carried_out();
-    if request.line_switch && outcome.answer.refusal == 0 && !receiver.legal() {
+    if request.kind.is_line_switch() && outcome.answer.refusal == 0 && !receiver.legal() {
         outcome.answer.refusal = 3;
         outcome.receiver = Some(receiver.clone());
         outcome.reader = request.reader.clone();
@@ -508,14 +523,60 @@ fn switch_refuses_count(request: &Request, receiver: &Receiver) -> Outcome {
     outcome
 }
 
-/// Whether the request is a receiver's call that was carried out.
-fn carried_out(request: &Request, outcome: &Outcome) -> bool {
-    !request.line_switch && outcome.answer.refusal == 0
+/// Fresh settings have document 01's size code.
+fn fresh_size_1(request: &Request) -> Outcome {
+    let mut outcome = request.carried_out();
+    outcome.reader.settings.size_code = 1;
+    outcome
 }
 
-/// Whether the request is a receiver's call that was refused.
+/// Fresh settings keep the size code that they find.
+fn fresh_keeps_size(request: &Request) -> Outcome {
+    let mut outcome = request.carried_out();
+    outcome.reader.settings.size_code = request.reader.settings.size_code;
+    outcome
+}
+
+/// A call first lays the fresh size code over the stored one.
+fn call_lays_fresh_size(request: &Request) -> Outcome {
+    lays_fresh_size(request.kind.is_call(), request)
+}
+
+/// DownChar starts every transfer at the fresh size code.
+fn down_char_lays_fresh_size(request: &Request) -> Outcome {
+    lays_fresh_size(is_command(request, DOWN_CHAR), request)
+}
+
+/// A call takes stored settings that are document 01's fresh ones for fresh.
+fn old_fresh_made_fresh(request: &Request) -> Outcome {
+    let old_fresh = Settings { size_code: 1, ..Settings::fresh() };
+    lays_fresh_size(request.kind.is_call() && request.reader.settings == old_fresh, request)
+}
+
+/// The line switch lays the fresh size code over the stored one.
+fn switch_lays_fresh_size(request: &Request) -> Outcome {
+    lays_fresh_size(request.kind.is_line_switch(), request)
+}
+
+/// Lays the fresh size code over the stored one first, unless the request is refused or a transfer is open.
+fn lays_fresh_size(lays: bool, request: &Request) -> Outcome {
+    let outcome = request.carried_out();
+    if !lays || outcome.answer.refusal != 0 || request.reader.settings.transfer != 0 {
+        return outcome;
+    }
+    let mut asked = request.clone();
+    asked.reader.settings.size_code = Settings::fresh().size_code;
+    asked.carried_out()
+}
+
+/// Whether the request is a call that was carried out.
+fn carried_out(request: &Request, outcome: &Outcome) -> bool {
+    request.kind.is_call() && outcome.answer.refusal == 0
+}
+
+/// Whether the request is a call that was refused.
 fn refused(request: &Request, outcome: &Outcome) -> bool {
-    !request.line_switch && outcome.answer.refusal != 0
+    request.kind.is_call() && outcome.answer.refusal != 0
 }
 
 /// The bytes that a receiver holds afterwards.
@@ -531,7 +592,7 @@ fn answered<'a>(request: &'a Request, outcome: &Outcome) -> Option<Packet<'a>> {
 /// Whether a request is a call with this command.
 fn is_command(request: &Request, code: u8) -> bool {
     let packet = find(&request.run).1;
-    !request.line_switch && packet.map_or(false, |packet| packet.identifier == COMMAND && packet.content[0] == code)
+    request.kind.is_call() && packet.map_or(false, |packet| packet.identifier == COMMAND && packet.content[0] == code)
 }
 
 /// The acknowledge code of an outcome that is not silent.
