@@ -303,6 +303,12 @@ static void measure_receiver(void) {
 }
 
 static void measure_services(void) {
+    begin(&services, "fresh settings", 1);
+    start();
+    fresh_stepped(bystrodol_fresh);
+    turn(step_count);
+    fresh_stepped(plain_fresh);
+    finish(step_count, reader.line.settings.size == 2);
     begin(&services, "line switch", 1);
     start();
     uint8_t ours = line_switch_stepped(bystrodol_line_switch);

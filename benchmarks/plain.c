@@ -1,7 +1,7 @@
 /*
- * The reader of document 01 and its receiver in plain C: what the counts of the proved ones are held against.
- * It is written as C is usually written: each rule once, memory moved by memcpy, memmove and memset, nothing done for a
- * count.
+ * The reader of document 01 and its receiver in plain C, with what document 02 asks of them: what the counts of the proved
+ * ones are held against. It is written as C is usually written: each rule once, memory moved by memcpy, memmove and memset,
+ * nothing done for a count.
  */
 #include "plain.h"
 
@@ -433,6 +433,10 @@ struct bystrodol_answer plain_step(struct bystrodol_settings *settings, uint8_t 
         if (packet != NULL) answer.length = take(&reader, packet);
     }
     return answer;
+}
+
+struct bystrodol_settings plain_fresh(void) {
+    return (struct bystrodol_settings){.address = {0xFF, 0xFF, 0xFF, 0xFF}, .level = 3, .size = 2, .baud = 6};
 }
 
 uint8_t plain_line_switch(struct bystrodol_settings *settings, uint8_t *buffer1, size_t buffer1_length,

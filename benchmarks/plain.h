@@ -4,6 +4,7 @@
 
 #include "bystrodol.h"
 
+__typeof__(bystrodol_fresh) plain_fresh;
 __typeof__(bystrodol_step) plain_step;
 __typeof__(bystrodol_line_switch) plain_line_switch;
 __typeof__(bystrodol_receive) plain_receive;

@@ -91,6 +91,8 @@ struct bystrodol_answer call_stepped(__typeof__(bystrodol_step) *step) {
     return STEPPED(step, step(&reader.line.settings, MEMORY, run, run_length, reader.reply, reply_length));
 }
 
+void fresh_stepped(__typeof__(bystrodol_fresh) *fresh) { reader.line.settings = STEPPED(fresh, fresh()); }
+
 uint8_t line_switch_stepped(__typeof__(bystrodol_line_switch) *line_switch) {
     return STEPPED(line_switch, line_switch(&reader.line.settings, BUFFERS));
 }

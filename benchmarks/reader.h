@@ -63,6 +63,8 @@ struct command command_of(size_t number, size_t capacity);
 
 /* ---- calls of the reader, ours or plain C's, that are stepped through */
 
+/* Fresh settings go into the reader. */
+void fresh_stepped(__typeof__(bystrodol_fresh) *fresh);
 struct bystrodol_answer call_stepped(__typeof__(bystrodol_step) *step);
 uint8_t line_switch_stepped(__typeof__(bystrodol_line_switch) *line_switch);
 

@@ -52,9 +52,9 @@
 /* The version of this header and of the archive. Another major number, or, while that is 0, another minor one, may need a
  * change of the caller. */
 #define BYSTRODOL_VERSION_MAJOR 0
-#define BYSTRODOL_VERSION_MINOR 1
-#define BYSTRODOL_VERSION_PATCH 1
-#define BYSTRODOL_VERSION "0.1.1"
+#define BYSTRODOL_VERSION_MINOR 2
+#define BYSTRODOL_VERSION_PATCH 0
+#define BYSTRODOL_VERSION "0.2.0"
 
 /* ---- lengths, in bytes */
 
@@ -158,7 +158,7 @@ struct bystrodol_settings {
     uint8_t password[4]; /* high byte first; 0 is no password */
     uint8_t address[4];  /* high byte first; FFFFFFFFh is a fresh reader's */
     uint8_t level;       /* security level, 1 to 5 */
-    uint8_t size;        /* size code of data packets: 0, 1, 2 mean 32, 64, 128 bytes */
+    uint8_t size;        /* size code of data packets: 0, 1, 2 mean 32, 64, 128 bytes; 2 is a fresh reader's */
     uint8_t baud;        /* baud factor, 1 to 12 */
     uint8_t transfer;    /* 0: no transfer; 1 or 2: bytes are being received into that buffer */
     uint16_t sensor;     /* sensor type, any number */
@@ -213,8 +213,12 @@ extern "C" {
 /* ---- the whole reader */
 
 /*
- * Fresh settings: password 0, address FFFFFFFFh, level 3, size code 1, baud factor 6, sensor type 0, marks clear, no
+ * Fresh settings: password 0, address FFFFFFFFh, level 3, size code 2, baud factor 6, sensor type 0, marks clear, no
  * transfer, spare 0. With zeroed memory they are a fresh reader.
+ *
+ * So a fresh reader takes and sends data packets of 128 bytes. A host that sends 64 sets size code 1 first (SetSysPara, parameter
+ * 6); otherwise its first data packet is answered 0Eh. Settings that were stored keep the code that they have, be it 0, 1 or 2: do
+ * not lay a fresh one over it, since their host knows its own.
  */
 struct bystrodol_settings bystrodol_fresh(void);
 

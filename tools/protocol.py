@@ -17,7 +17,7 @@ NOTE = 32                               # bytes of a notepad page
 SIZES = {0: 32, 1: 64, 2: 128}          # the bytes in a data packet, by size code
 BAUD = 9600                             # times the baud factor is the speed of the line
 FRESH_ADDRESS = b"\xff" * 4
-FRESH_SIZE_CODE = 1
+FRESH_SIZE_CODE = 2
 FRESH_BAUD_FACTOR = 6
 NO_PASSWORD = bytes(4)
 

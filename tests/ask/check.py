@@ -50,8 +50,8 @@ DONE = "07 00 03 00 00 0a"
 # To a fresh reader, in turn: the words, what goes out and what comes back behind the address, the status, and what is said.
 DIALOGUE = (
     ("handshake", "01 00 03 40 00 44", DONE, 0, "command 40h HandShake", "acknowledge 00h, done"),
-    ("parameters", "01 00 03 0f 00 13", "07 00 13 00 00 00 00 00 00 40 00 03 ff ff ff ff 00 01 00 06 04 60", 0,
-     "capacity 64 (pages)", "security level 3", "64 bytes in a data packet", "57600 baud", "no password verified"),
+    ("parameters", "01 00 03 0f 00 13", "07 00 13 00 00 00 00 00 00 40 00 03 ff ff ff ff 00 02 00 06 04 61", 0,
+     "capacity 64 (pages)", "security level 3", "128 bytes in a data packet", "57600 baud", "no password verified"),
     ("count", "01 00 03 1d 00 21", "07 00 05 00 00 00 00 0c", 0, "templates stored 0"),
     ("index", "01 00 04 1f 00 00 24", "07 00 23 00 00", 0, "index no page"),
     ("note|3|Station 12", "01 00 24 18 03 53 74 61 74 69 6f 6e 20 31 32 00", DONE, 0, 'page 3, text "Station 12"'),
@@ -60,8 +60,8 @@ DIALOGUE = (
     ("note|16", "01 00 04 19 10 00 2e", "07 00 03 1c 00 26", 1, "no such notepad page"),
     ("note|3|-5 V", "01 00 24 18 03 2d 35 20 56 00", DONE, 0),
     ("note|3|", "01 00 24 18 03 00", DONE, 0, 'text ""'),
-    ("download|1|FOLDER/template", "01 00 04 09 01 00 0f", DONE, 0, "host    ef 01 ff ff ff ff 02 00 42",
-     "and 6 more like it", "host    ef 01 ff ff ff ff 08 00 42", "buffer 1 holds the 512 bytes that were sent"),
+    ("download|1|FOLDER/template", "01 00 04 09 01 00 0f", DONE, 0, "host    ef 01 ff ff ff ff 02 00 82",
+     "and 2 more like it", "host    ef 01 ff ff ff ff 08 00 82", "buffer 1 holds the 512 bytes that were sent"),
     ("store|1|7", "01 00 06 06 01 00 07 00 15", DONE, 0, "buffer 1, page 7"),
     ("store|1|8", "01 00 06 06 01 00 08 00 16", DONE, 0),
     ("store|1|11", "01 00 06 06 01 00 0b 00 19", DONE, 0),
@@ -72,8 +72,8 @@ DIALOGUE = (
     ("upload|2|FOLDER/read-back", "01 00 04 08 02 00 0f", "07 00 03 0d 00 17", 1, "the buffer is not filled"),
     ("load|2|7", "01 00 06 07 02 00 07 00 17", DONE, 0, "buffer 2, page 7"),
     ("load|2|9", "01 00 06 07 02 00 09 00 19", "07 00 03 0c 00 16", 1, "nothing is there"),
-    ("set-size|128", "01 00 05 0e 06 02 00 1c", DONE, 0, "number 6, value 2"),
-    ("upload|2|FOLDER/read-back", "01 00 04 08 02 00 0f", DONE, 0, "reader  ef 01 ff ff ff ff 08 00 82",
+    ("set-size|64", "01 00 05 0e 06 01 00 1b", DONE, 0, "number 6, value 1"),
+    ("upload|2|FOLDER/read-back", "01 00 04 08 02 00 0f", DONE, 0, "reader  ef 01 ff ff ff ff 08 00 42",
      "has the 512 bytes"),
     ("set-size|32", "01 00 05 0e 06 00 00 1a", DONE, 0),
     ("download|2|FOLDER/template", "01 00 04 09 02 00 10", DONE, 0, "host    ef 01 ff ff ff ff 08 00 22",
@@ -128,7 +128,7 @@ def watch_progress(port, folder):
     own, other = os.openpty()
     expect(["ask", port, "download", "1", os.path.join(folder, "template")], 0, stderr=other)
     told = os.read(own, 4096).decode()
-    check("download 64 of 512 bytes" in told and "upload 512 of 512 bytes" in told, "no progress is shown: " + told)
+    check("download 128 of 512 bytes" in told and "upload 512 of 512 bytes" in told, "no progress is shown: " + told)
     os.close(own)
     os.close(other)
 

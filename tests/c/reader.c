@@ -495,7 +495,7 @@ static void unfinished(void) {
 }
 
 static void fresh(void) {
-    static const uint8_t bytes[] = {0, 0, 0, 0, 0xFF, 0xFF, 0xFF, 0xFF, 3, 1, 6, 0, 0, 0, 0, 0, 0, 0, 0, 0};
+    static const uint8_t bytes[] = {0, 0, 0, 0, 0xFF, 0xFF, 0xFF, 0xFF, 3, 2, 6, 0, 0, 0, 0, 0, 0, 0, 0, 0};
     struct bystrodol_settings s = bystrodol_fresh();
     check("fresh settings", differ((const uint8_t *)&s, bytes, sizeof bytes), sizeof bytes);
 }

@@ -2,7 +2,7 @@
  * Calls the receiver from C. Each of its calls is held to a call without a receiver, on the bytes that were held and the bytes that
  * were taken, joined: every held count with pieces of every length, and cells behind the held bytes that are not zero. The loop
  * that the header has is held to the same run whole, in pieces of every length. Held counts above 265, the line switch, power-on
- * with stored settings, and a line that falls silent.
+ * with stored settings, a line that falls silent, and the size of data packets in fresh and in stored settings.
  * tests/c/run builds and runs it. It writes one line, 'receiver: N checks passed', and ends with 0; or names each failed check
  * and ends with 1.
  */
@@ -108,14 +108,14 @@ static void add_longest(void) {
 static void make_dialogue(void) {
     static const uint8_t noise[] = {0x00, 0x55, 0xEF, 0xEF, 0x02}, no_packet[] = {0xEF, 0x01, 1, 2, 3, 4, 1, 0x01, 0x2C, 0xEF};
     static const uint8_t elsewhere[] = {0xEF, 0x01, 1, 2, 3, 4, 0x01, 0x00, 0x03, 0x40, 0x00, 0x44};
-    uint8_t data[64];
+    uint8_t data[128];
     run_length = 0;
     COMMAND(BYSTRODOL_COMMAND_HAND_SHAKE);
     add(noise, sizeof noise);
     COMMAND(BYSTRODOL_COMMAND_DOWN_CHAR, 1);
-    for (uint8_t i = 0; i < 8; i++) {
+    for (uint8_t i = 0; i < 4; i++) {
         memset(data, 0xE0 + i, sizeof data);
-        add_packet(i < 7 ? BYSTRODOL_PACKET_DATA : BYSTRODOL_PACKET_LAST_DATA, data, sizeof data);
+        add_packet(i < 3 ? BYSTRODOL_PACKET_DATA : BYSTRODOL_PACKET_LAST_DATA, data, sizeof data);
     }
     COMMAND(BYSTRODOL_COMMAND_STORE, 1, 0, 3);
     add(no_packet, sizeof no_packet);
@@ -354,6 +354,51 @@ static void silence(void) {
     }
 }
 
+/* ---- the size of data packets */
+
+/* DownChar and a template in data packets of so many bytes: it is in buffer 1 then, or the first of them is answered 0Eh. */
+static void downloads(const char *name, size_t size, int is_served) {
+    static const uint8_t zeros[BYSTRODOL_PAGE_BYTES];
+    uint8_t template[BYSTRODOL_PAGE_BYTES];
+    for (size_t i = 0; i < sizeof template; i++) template[i] = (uint8_t)(3 * i + size);
+    run_length = replied = 0;
+    COMMAND(BYSTRODOL_COMMAND_DOWN_CHAR, 1);
+    for (size_t at = 0; at < sizeof template; at += size)
+        add_packet(at + size < sizeof template ? BYSTRODOL_PACKET_DATA : BYSTRODOL_PACKET_LAST_DATA, template + at, size);
+    check_of(name, size, "refusal", serve_piece(&reader, run, run_length), BYSTRODOL_ACCEPTED);
+    check_of(name, size, "reply bytes", replied, is_served ? 12 : 24);
+    check_of(name, size, "DownChar's code", replies[9], BYSTRODOL_CODE_DONE);
+    if (!is_served) check_of(name, size, "the first data packet's code", replies[21], BYSTRODOL_CODE_TRANSFER_FAILED);
+    check_of(name, size, "the filled mark", reader.line.settings.filled1, is_served ? 1 : 0);
+    check_of(name, size, "the transfer", reader.line.settings.transfer, 0);
+    check_of(name, size, "buffer 1", differ(reader.buffer1, is_served ? template : zeros, sizeof template), sizeof template);
+}
+
+/* A fresh reader takes 128 bytes with nothing set; a host that sends 64 sets code 1 first. */
+static void fresh_size(void) {
+    set_up(&reader);
+    downloads("a fresh reader", 128, 1);
+    downloads("a fresh reader, unasked", 64, 0);
+    downloads("a fresh reader, unasked", 32, 0);
+    run_length = 0;
+    COMMAND(BYSTRODOL_COMMAND_SET_SYS_PARA, BYSTRODOL_PARAMETER_SIZE, 1);
+    check("size code 1", code_of(), BYSTRODOL_CODE_DONE);
+    downloads("size code 1", 64, 1);
+    downloads("size code 1", 128, 0);
+}
+
+/* Stored settings keep their own code, over power-on, downloads and a line switch. */
+static void stored_size(void) {
+    for (uint8_t code = 0; code <= 2; code++) {
+        set_up(&reader);
+        reader.line.settings.size = code;
+        check_of("a stored code", code, "power-on", bystrodol_receiver_switch(&reader.line, BUFFERS(&reader)), BYSTRODOL_ACCEPTED);
+        for (uint8_t sent = 0; sent <= 2; sent++) downloads("a stored code", (size_t)32 << sent, sent == code);
+        check_of("a stored code", code, "line switch", bystrodol_receiver_switch(&reader.line, BUFFERS(&reader)), BYSTRODOL_ACCEPTED);
+        check_of("a stored code", code, "the size code", reader.line.settings.size, code);
+    }
+}
+
 int main(void) {
     calls();
     loops();
@@ -361,5 +406,7 @@ int main(void) {
     switches();
     power_on();
     silence();
+    fresh_size();
+    stored_size();
     return report("receiver");
 }

@@ -42,7 +42,7 @@ class Reader:
 
     def __init__(self, capacity):
         self.settings = dict.fromkeys(SETTINGS, 0)
-        self.settings.update(password=bytes(4), address=b"\xff" * 4, level=3, size=1, baud=6)
+        self.settings.update(password=bytes(4), address=b"\xff" * 4, level=3, size=2, baud=6)
         self.memory = {"templates": bytes(PAGE * capacity), "index": bytes(32), "notepad": bytes(512),
                        "buffer1": bytes(512), "buffer2": bytes(512)}
 

@@ -18,7 +18,7 @@ from server import BYSTRODOL, SECONDS, Failed, NoPort, Server, check
 
 ADDRESS = b"\xff" * 4
 OTHER_ADDRESS = b"\x00\x00\x00\x01"
-SIZE = 64               # bytes in a data packet
+SIZE = 128              # bytes in a data packet of a reader that nothing was set in
 COMMAND, DATA, ACKNOWLEDGE, LAST_DATA = 1, 2, 7, 8
 
 
@@ -35,8 +35,8 @@ def acknowledge(code, listed=b""):
     return packet(ACKNOWLEDGE, bytes([code]) + listed)
 
 
-def data_packets(content):
-    parts = [content[at:at + SIZE] for at in range(0, len(content), SIZE)]
+def data_packets(content, size):
+    parts = [content[at:at + size] for at in range(0, len(content), size)]
     return [packet(DATA, part) for part in parts[:-1]] + [packet(LAST_DATA, parts[-1])]
 
 
@@ -99,13 +99,13 @@ class Host:
     def ask(self, what, content, code=0, listed=b""):
         self.exchange(what, next(self.noise) + packet(COMMAND, content), acknowledge(code, listed))
 
-    def download(self, buffer, template):
+    def download(self, buffer, template, size=SIZE):
         self.ask("DownChar", bytes([0x09, buffer]))
-        for one in data_packets(template):
+        for one in data_packets(template, size):
             self.exchange("a data packet", next(self.noise) + one, b"")
 
-    def upload(self, buffer, template):
-        expected = acknowledge(0) + b"".join(data_packets(template))
+    def upload(self, buffer, template, size=SIZE):
+        expected = acknowledge(0) + b"".join(data_packets(template, size))
         self.exchange("UpChar", next(self.noise) + packet(COMMAND, bytes([0x08, buffer])), expected)
 
     def check_silent(self, what):
@@ -127,7 +127,7 @@ def enrol(host, number):
     password = b"\xef\x01\x00" + bytes([number])
 
     host.ask("VfyPwd", b"\x13" + bytes(4))
-    host.ask("ReadSysPara", b"\x0f", 0, bytes.fromhex("0004 0000 0040 0003 FFFFFFFF 0001 0006"))
+    host.ask("ReadSysPara", b"\x0f", 0, bytes.fromhex("0004 0000 0040 0003 FFFFFFFF 0002 0006"))
     host.ask("TempleteNum, none", b"\x1d", 0, two_bytes(0))
     host.ask("ReadIndexTable, none", b"\x1f\x00", 0, index([]))
     host.download(1, bytes(template))
@@ -156,6 +156,21 @@ def enrol(host, number):
     host.ask("ReadIndexTable, deleted", b"\x1f\x00", 0, index([]))
     host.ask("SetPwd, none", b"\x12" + bytes(4))
     host.check_silent("at the end")
+
+
+def send_64(host):
+    """64 bytes to a data packet: without asking, 0Eh for the first; with size code 1 set before, served."""
+    template = bytes(i * i % 256 for i in range(512))
+    first, *others = data_packets(template, 64)
+    host.ask("DownChar, 64 unasked", b"\x09\x01")
+    host.exchange("64 bytes, unasked", next(host.noise) + first, acknowledge(0x0E))
+    for one in others:
+        host.exchange("64 bytes, no transfer is open", next(host.noise) + one, b"")
+    host.ask("UpChar, not filled", b"\x08\x01", 0x0D)
+    host.ask("SetSysPara, size code 1", b"\x0e\x06\x01")
+    host.download(1, template, 64)
+    host.upload(1, template, 64)
+    host.ask("SetSysPara, size code 2", b"\x0e\x06\x02")
 
 
 def disturb(host):
@@ -190,6 +205,7 @@ def talk_over_link(host, link):
             host.open(name)
             host.use(manner)
             enrol(host, number)
+            send_64(host)
             disturb(host)
             host.port.close()
         check_refusal(link)
