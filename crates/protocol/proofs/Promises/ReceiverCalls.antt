@@ -21,6 +21,7 @@ use Rattle.protocol.proofs.Laws.Holding.{few-held, handedBy, receive-ki
 use Rattle.protocol.proofs.Promises.StaysLegal.{Legal}
 use Rattle.protocol.proofs.Promises.ReplyFits.{reply-fits}
 use Rattle.protocol.proofs.Promises.ValidCount.{livePages, valid-count}
+use Rattle.protocol.proofs.Promises.SizeCode.{Unset, code-kept}
 
 -- ---- one call
 
@@ -123,6 +124,11 @@ pub line-count : (σ : Shape) (ok : σ .most ≤ 8 * σ .indexed) (x : Line) →
     → setBits (finallyOn σ x es .reader .guarded .index) ≡ livePages σ ok (x .reader) (runs σ x es)
 line-count σ ok x few z es =
     ap (λ (r : Reader). setBits (r .guarded .index)) (as-calls σ es x few) ∙ valid-count σ ok (x .reader) z (runs σ x es)
+
+-- request [2]'s "Stored settings keep their own code", where no run that was held asks for parameter 6
+pub line-code : (σ : Shape) (x : Line) → x .receiver .count ≤ 265 → (es : List Event) → Unset σ (x .reader) (runs σ x es)
+    → finallyOn σ x es .reader .plain .size ≡ x .reader .plain .size
+line-code σ x few es u = ap (λ (r : Reader). r .plain .size) (as-calls σ es x few) ∙ code-kept σ (runs σ x es) (x .reader) u
 
 -- the reply never exceeds the reply room that is asked for
 pub line-fits : (σ : Shape) (ok : σ .most ≤ 8 * σ .indexed) (x : Line) → x .receiver .count ≤ 265 → Legal σ ok (x .reader) → (piece : List ℕ) (lent : Lent)
