@@ -308,7 +308,8 @@ static void measure_services(void) {
     fresh_stepped(bystrodol_fresh);
     turn(step_count);
     fresh_stepped(plain_fresh);
-    finish(step_count, reader.line.settings.size == 2);
+    finish(step_count, 1);
+    expect(reader.line.settings.size == 2);
     begin(&services, "line switch", 1);
     start();
     uint8_t ours = line_switch_stepped(bystrodol_line_switch);

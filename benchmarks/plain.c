@@ -1,7 +1,7 @@
 /*
- * The reader of document 01 and its receiver in plain C, with what document 02 asks of them: what the counts of the proved
- * ones are held against. It is written as C is usually written: each rule once, memory moved by memcpy, memmove and memset,
- * nothing done for a count.
+ * The reader of document 01 and its receiver in plain C: what the counts of the proved ones are held against.
+ * It is written as C is usually written: each rule once, memory moved by memcpy, memmove and memset, nothing done for a
+ * count.
  */
 #include "plain.h"
 

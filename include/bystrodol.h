@@ -217,8 +217,8 @@ extern "C" {
  * transfer, spare 0. With zeroed memory they are a fresh reader.
  *
  * So a fresh reader takes and sends data packets of 128 bytes. A host that sends 64 sets size code 1 first (SetSysPara, parameter
- * 6); otherwise its first data packet is answered 0Eh. Settings that were stored keep the code that they have, be it 0, 1 or 2: do
- * not lay a fresh one over it, since their host knows its own.
+ * 6); otherwise its first data packet is answered 0Eh. Settings that were stored keep their own code, 0, 1 or 2, and no call
+ * changes it but SetSysPara. So call this only where no settings are stored.
  */
 struct bystrodol_settings bystrodol_fresh(void);
 

@@ -2,7 +2,7 @@
 """A host that talks to the reader over a serial port.
 
 Starts ./bystrodol serve, opens its port with pyserial as host software does, and holds every reply to the bytes that
-document 01 says. The host writes whole packets, single bytes and odd pieces, with noise between them. Then it ends the
+document 01 says, with request [2]'s size in fresh settings. The host writes whole packets, single bytes and odd pieces, with noise between them. Then it ends the
 server, of which nothing may be left. Status: 0 all is well, 1 a check failed, 2 there is no port.
 """
 
@@ -200,13 +200,17 @@ def talk_over_link(host, link):
     with Server(link) as server:
         name = server.port_name()
         check(name == link, "the port's name is %s, not the link's" % name)
+        # Each time a new host: the port stays, and the reader behind it. No size code is set before all have enrolled.
         for number, manner in enumerate(MANNERS):
-            # Each time a new host: the port stays, and the reader behind it.
             host.open(name)
             host.use(manner)
             enrol(host, number)
-            send_64(host)
             disturb(host)
+            host.port.close()
+        for manner in MANNERS:
+            host.open(name)
+            host.use(manner)
+            send_64(host)
             host.port.close()
         check_refusal(link)
         server.end(signal.SIGINT)

@@ -1,7 +1,7 @@
 -- Demand 1, from C: "any settings". What a call and a line switch do for every byte of a mark, and that each contract admits one result. By `called-fit`
 -- and `switched-any` the promises over `callOf` and `switchOf` are promises to C.
 use mathlib.Core.Bool.{Bool, true, false, cond}
-use mathlib.Core.Path.{_≡_, refl, sym, ap}
+use mathlib.Core.Path.{_≡_, refl, sym, ap, _∙_, subst}
 use mathlib.Core.Logic.{_≢_}
 use mathlib.Core.List.{List, [], _∷_}
 use Prim.Native.Nat.{ℕ, zero, suc}
@@ -11,10 +11,11 @@ use borrow.Author.Tests.{ne-eqb}
 use Rattle.protocol.specs.Numbers.{badLength, badRoom, badSetting}
 use Rattle.protocol.specs.Tests.{verdict}
 use Rattle.protocol.specs.Reader.{Reader, withMark, withTransfer, emptied}
-use Rattle.protocol.specs.Step.{wiped, switched}
-use Rattle.protocol.specs.Call.{core, fitLengths, Lent, fitLent, Ended, refused, callOf, switchRefusal, switchAs, switchOf}
+use Rattle.protocol.specs.Step.{hear, wiped, switched}
+use Rattle.protocol.specs.Call.{core, fitLengths, Lent, fitLent, Told, Ended, replyOf, refused, callOf, switchRefusal, switchAs, switchOf}
 use Rattle.protocol.proofs.Laws.Answers.{call-stays, switch-stays}
 use Rattle.protocol.proofs.Promises.OneResult.{OneReader, one-reader}
+use Rattle.protocol.proofs.Promises.SizeCode.{Denied, call-keeps, switch-keeps}
 use Rattle.board.specs.declared.stored.StoredSettings.{StoredSettings}
 use Rattle.board.specs.declared.stored.StoredCalled.{StoredCalled}
 use Rattle.board.specs.declared.stored.StoredSwitched.{StoredSwitched}
@@ -97,6 +98,25 @@ switched-clear k = go (switchRefusal (k .reader .guarded))
     go : (n : ℕ) → storedAfter k (switchAs (k .reader) n) .told .refusal ≡ 0 → storedAfter k (switchAs (k .reader) n) .after .marks ≡ record { verified = 0; filled1 = 0; filled2 = 0; spare = k .marks .spare }
     go zero z = refl
     go (suc n) z = absurd (omega (arith, z))
+
+-- ---- request [2]: "Stored settings keep their own code."
+
+-- unless the run asks for parameter 6 and is answered 00h, whatever bytes the marks are
+pub code-called : (k : StoredReader) (run : List ℕ) (lent : Lent)
+    → Denied (k .reader) (hear (k .reader .plain .address) run) (replyOf (storedCallOf k run lent .told))
+    → storedCallOf k run lent .after .reader .plain .size ≡ k .reader .plain .size
+code-called k run lent = go (fitMarks (k .marks)) refl
+  where
+    go : (b : Bool) → fitMarks (k .marks) ≡ b → Denied (k .reader) (hear (k .reader .plain .address) run) (replyOf (storedCallOf k run lent .told))
+        → storedCallOf k run lent .after .reader .plain .size ≡ k .reader .plain .size
+    go true f d =
+        let o = called-fit k run lent f in
+        ap (λ (r : Reader). r .plain .size) (o .reader)
+        ∙ call-keeps core (k .reader) run lent (subst (λ (t : Told). Denied (k .reader) (hear (k .reader .plain .address) run) (replyOf t)) (o .told) d)
+    go false f d = ap (λ (e : StoredEnd). e .after .reader .plain .size) (called-unfit k run lent f .0)
+
+pub code-switched : (k : StoredReader) → storedSwitchOf k .after .reader .plain .size ≡ k .reader .plain .size
+code-switched k = ap (λ (r : Reader). r .plain .size) (switched-any k .reader) ∙ switch-keeps (k .reader)
 
 -- ---- one result
 

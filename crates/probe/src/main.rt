@@ -1,5 +1,5 @@
-// Single calls of the reader, with a receiver or without, and fresh settings, on memory that is handed over whole: a frame in by standard input, a frame out by standard output, again and
-// again. Nothing is kept between frames. docs/EVIDENCE.md has the frames; tests hold the reader to other readers by them.
+// Single calls of the reader, with a receiver or without, and fresh settings, on memory that is handed over whole: a frame in by standard input, a frame out by
+// standard output, again and again. Nothing is kept between frames. docs/EVIDENCE.md has the frames; tests hold the reader to other readers by them.
 mod frame;
 mod once;
 

@@ -32,6 +32,7 @@ pub mod Caller
 pub mod ComesToRest
 pub mod ReceiverLock
 pub mod ReceiverCalls
+pub mod InPieces
 pub mod ReceiverExample
 pub mod Met
 pub mod Examples

@@ -112,7 +112,7 @@ fn of_receiver() -> Vec<Example> {
     ]
 }
 
-/// The size that a fresh reader starts at, and the one that a stored reader keeps.
+/// What readers with fresh settings and with a stored size code take. That ours start so `of_fresh_settings` shows.
 fn of_sizes() -> Vec<Example> {
     let fresh = fresh_reader(10);
     let mut stored = fresh.clone();

@@ -29,13 +29,14 @@ impl Error {
     }
 }
 
-pub const ERRORS: [(&str, Error); 49] = [
+pub const ERRORS: [(&str, Error); 50] = [
     ("lock-before-sum", OfReader(lock_before_sum)),
     ("delete-keeps-templates", OfReader(delete_keeps_templates)),
     ("sum-in-16-bits", OfReader(sum_in_16_bits)),
     ("two-ends-transfer", OfReader(two_ends_transfer)),
     ("rescans-bad-sum", OfReader(rescans_bad_sum)),
     ("first-packet-only", OfReader(first_packet_only)),
+    ("failed-transfer-stays-open", OfReader(failed_transfer_stays_open)),
     ("reply-room-past", OfReader(reply_room_past)),
     ("settings-before-room", OfReader(settings_before_room)),
     ("always-silent", OfReader(always_silent)),
@@ -125,6 +126,15 @@ fn sum_in_16_bits(request: &Request) -> Outcome {
         }
         _ => outcome,
     }
+}
+
+/// A data packet that is answered 0Eh leaves the transfer open, and the buffer as it is.
+fn failed_transfer_stays_open(request: &Request) -> Outcome {
+    let mut outcome = request.carried_out();
+    if code(&outcome) == Some(0x0E) {
+        outcome.reader = request.reader.clone();
+    }
+    outcome
 }
 
 /// A data packet with identifier 2 is taken as if it had 8 when it makes the transfer whole.
@@ -523,7 +533,7 @@ fn switch_refuses_count(request: &Request, receiver: &Receiver) -> Outcome {
     outcome
 }
 
-/// Fresh settings have document 01's size code.
+/// Fresh settings have size code 1.
 fn fresh_size_1(request: &Request) -> Outcome {
     let mut outcome = request.carried_out();
     outcome.reader.settings.size_code = 1;
@@ -547,7 +557,7 @@ fn down_char_lays_fresh_size(request: &Request) -> Outcome {
     lays_fresh_size(is_command(request, DOWN_CHAR), request)
 }
 
-/// A call takes stored settings that are document 01's fresh ones for fresh.
+/// A call takes stored settings that are fresh but for a size code of 1 for fresh ones.
 fn old_fresh_made_fresh(request: &Request) -> Outcome {
     let old_fresh = Settings { size_code: 1, ..Settings::fresh() };
     lays_fresh_size(request.kind.is_call() && request.reader.settings == old_fresh, request)

@@ -181,7 +181,7 @@ stored-span x p (suc n) f h q =
 
 -- ---- an index of zeros
 
-byte-zeros : (n i : ℕ) → _≡_ {A = ℕ} (byteAt (zeros n) i) 0
+pub byte-zeros : (n i : ℕ) → _≡_ {A = ℕ} (byteAt (zeros n) i) 0
 byte-zeros zero i = refl
 byte-zeros (suc n) zero = refl
 byte-zeros (suc n) (suc i) = byte-zeros n i

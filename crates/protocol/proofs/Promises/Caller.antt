@@ -27,7 +27,7 @@ spoken (b ∷ a) = (b ∷ a) ∷ []
 abbrev pub before : Told → Ran → Ran
 before t d = record { replies = spoken (take (t .length) (t .room)) ++ d .replies; after = d .after; left = d .left }
 
-replied-is : (a : List ℕ) (d : Ran) → replied a d ≡ record { replies = spoken a ++ d .replies; after = d .after; left = d .left }
+pub replied-is : (a : List ℕ) (d : Ran) → replied a d ≡ record { replies = spoken a ++ d .replies; after = d .after; left = d .left }
 unfolding replied
 replied-is [] d = refl
 replied-is (b ∷ a) d = refl

@@ -1,20 +1,22 @@
--- The premises of demand 3 can be met: two legal locked readers of ten pages, one empty and one full, with the same settings but for the
--- filled marks.
-use mathlib.Core.Path.{_≡_, refl}
+-- The premises of the promises can be met: of demand 3's by two legal locked readers of ten pages, one empty and one full, with the same settings but for the
+-- filled marks; of others by every new vault.
+use mathlib.Core.Path.{_≡_, refl, ap, _∙_}
 use mathlib.Core.List.{[], _∷_}
+use Prim.Native.Nat.{ℕ, _*_, _/_, _%_, _^_, _≤_}
 use native.Mathlib.Omega.{arith}
-use lib.Dec.{T}
-use lib.ListN.{replicate}
+use lib.Dec.{T, lit≤, lit<}
+use lib.ListN.{replicate, length-replicate}
 use Rattle.protocol.specs.Numbers.{pageBytes, highestSize, longest, holds}
 use Rattle.protocol.specs.Bytes.{zeros, four, same, lay}
 use Rattle.protocol.specs.Tests.{within, every}
 use Rattle.protocol.specs.Index.{bit, stored, clearFrom}
 use Rattle.protocol.specs.Reader.{closed, Reader, capacity, keyed, locked, bufferOf, emptied, filledWith, withPassword, fresh, zeroed, contents, reader}
 use Rattle.protocol.specs.Call.{core, fitLibrary, fitBuffers, fitLengths, fitPlain, fitTransfer, sound, legal}
+use Rattle.protocol.specs.Records.{freshOf}
 use Rattle.protocol.specs.Receiver.{holding, line}
-use Rattle.protocol.proofs.Laws.Index.{fine-zeros}
+use Rattle.protocol.proofs.Laws.Index.{byte-zeros, bit-zero, fine-zeros}
 use Rattle.protocol.proofs.Promises.Examples.{keyed10, fresh10}
-use Rattle.protocol.proofs.Promises.LegalMeans.{core-holds}
+use Rattle.protocol.proofs.Promises.LegalMeans.{core-holds, means-legal}
 use Rattle.protocol.proofs.Promises.StaysLegal.{Legal}
 use Rattle.protocol.proofs.Promises.ComesToRest.{Ready}
 
@@ -37,10 +39,42 @@ pub premises-met : Met keyed10 full10
 unfolding keyed10 fresh10 full10 fresh zeroed withPassword emptied filledWith four same within every bit stored clearFrom capacity keyed locked bufferOf core fitLibrary fitBuffers fitLengths fitPlain fitTransfer sound legal highestSize
 premises-met = record { one = tt; other = tt; locks = tt; keys = tt; still = refl; settings = refl; pages = refl }
 
--- and a fresh reader is legal, with what its types say
+-- fresh settings and zeroed memory are legal: every new vault, of 1 to 256 pages
+pub new-vault : (c : ℕ) → 1 ≤ c → c ≤ 256 → Legal core core-holds (freshOf (replicate (512 * c) 0) (replicate 32 0) (replicate 512 0) (replicate 512 0) (replicate 512 0))
+unfolding fresh four bit
+new-vault c low high =
+    record {
+      typed = record { password = refl; address = refl; index = fine-zeros 32 .bytes };
+      legal =
+          means-legal _
+          record {
+            lengths =
+                record {
+                  pages = c;
+                  templates = length-replicate {A = ℕ} (512 * c) 0;
+                  least = low;
+                  most = high;
+                  index = length-replicate {A = ℕ} 32 0;
+                  notepad = length-replicate {A = ℕ} 512 0;
+                  buffer1 = length-replicate {A = ℕ} 512 0;
+                  buffer2 = length-replicate {A = ℕ} 512 0;
+                };
+            settings =
+                record {
+                  level = (lit≤ tt, lit≤ tt);
+                  size = lit≤ tt;
+                  baud = (lit≤ tt, lit≤ tt);
+                  sensor = lit< tt;
+                  transfer = tt;
+                  clear = λ k q e l. ap (λ (b : ℕ). b / 2 ^ (q % 8) % 2) (byte-zeros 32 (q / 8)) ∙ bit-zero (q % 8);
+                };
+          };
+    }
+
+-- P1's too
 pub fresh-legal : Legal core core-holds fresh10
-unfolding fresh10 fresh zeroed emptied four same within every bit stored clearFrom capacity keyed locked core fitLibrary fitBuffers fitLengths fitPlain fitTransfer sound legal highestSize
-fresh-legal = record { typed = record { password = refl; address = refl; index = fine-zeros 32 .bytes }; legal = tt }
+unfolding fresh10 zeroed emptied core
+fresh-legal = new-vault 10 (lit≤ tt) (lit≤ tt)
 
 -- and with an empty receiver it is ready for pieces
 pub fresh-ready : Ready core core-holds (line fresh10 (holding []))

@@ -1,4 +1,4 @@
--- The five are told apart by the tests; what the reader alone ends at has the receiver beside it, and what a line switch or fresh settings end at the reply room.
+-- The five are told apart by the tests; what the reader alone ends at has the receiver beside it, and a line switch and fresh settings the reply room.
 use mathlib.Core.Path.{ap}
 use borrow.Author.Tests.{eq-eqb, ne-eqb}
 use denote.Ref.{now}

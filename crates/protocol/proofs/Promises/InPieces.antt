@@ -1,0 +1,143 @@
+-- Packets sent one to a call, and the same packets behind a receiver, as the cable gives them: answered alike. So the first download of request [2] is served
+-- however it is cut.
+use mathlib.Core.Bool.{Bool, true, false, cond}
+use mathlib.Core.Path.{_≡_, refl, sym, ap, ap₂, _∙_, subst}
+use mathlib.Core.List.{List, [], _∷_, _++_, map}
+use Prim.Native.Nat.{ℕ, zero, suc, _+_, _*_}
+use native.Mathlib.Nat.{suc-mul}
+use native.Mathlib.Omega.{arith}
+use lib.Dec.{T, eqb}
+use lib.ListN.{length, take, drop, length-drop, replicate, drop-of-length-le}
+use lib.Seq.{length-take-le}
+use Rattle.protocol.specs.Numbers.{dataPacket, lastPacket, longest}
+use Rattle.protocol.specs.Bytes.{joined}
+use Rattle.protocol.specs.Packet.{packet, lengthOf, accepts, limit, isIdentifier}
+use Rattle.protocol.specs.Finder.{findOf, usedOf}
+use Rattle.protocol.specs.Reader.{closed, Reader}
+use Rattle.protocol.specs.Data.{acknowledge, packets}
+use Rattle.protocol.specs.Step.{stepOf}
+use Rattle.protocol.specs.Call.{Lent, fitRoom, fitLent, replyOf, callOf, core}
+use Rattle.protocol.specs.Records.{freshOf}
+use Rattle.protocol.specs.Dialogue.{received, on, finally, Exchange, exchanges}
+use Rattle.protocol.specs.Receiver.{holding, line}
+use Rattle.protocol.specs.Caller.{Try, Ran, replied, offers, served, Rests, resting, atRest, drain, drained}
+use Rattle.protocol.proofs.Laws.Finder.{length-packet}
+use Rattle.protocol.proofs.Laws.Drain.{drained-more}
+use Rattle.protocol.proofs.Laws.Holding.{in-holding}
+use Rattle.protocol.proofs.Promises.Told.{Numbered, blank, WithBuffer}
+use Rattle.protocol.proofs.Promises.LegalMeans.{core-holds}
+use Rattle.protocol.proofs.Promises.StaysLegal.{Legal, stays-legal}
+use Rattle.protocol.proofs.Promises.ReadBack.{packet-reads}
+use Rattle.protocol.proofs.Promises.Download.{deliver}
+use Rattle.protocol.proofs.Promises.Cuts.{rests-drained, drains-by-call}
+use Rattle.protocol.proofs.Promises.Caller.{spoken, replied-is}
+use Rattle.protocol.proofs.Promises.FirstDownload.{A, downPacket, sizePacket, full, Talks, first-download, unasked-64, asked-64}
+
+-- ---- one to a call, or all behind one another
+
+-- each run is used whole
+abbrev pub UsedWhole : List (List ℕ) → Type 0
+UsedWhole [] = Unit {0}
+UsedWhole (p ∷ ps) = (usedOf (findOf p) ≡ length p) × UsedWhole ps
+
+-- the answers, without silence
+abbrev pub spokenAll : List (List ℕ) → List (List ℕ)
+spokenAll [] = []
+spokenAll (a ∷ answers) = spoken a ++ spokenAll answers
+
+-- a caller came to this: these answers in turn, such a reader, and nothing held
+pub record Comes (d : Ran) (answers : List (List ℕ)) (Left : Reader → Type 0) : Type 0 where
+  pub replies : d .replies ≡ answers
+  pub reader : Left (d .after .reader)
+  pub held : d .after .receiver ≡ holding []
+
+-- the runs behind one another, offered to an empty receiver: however they are cut, as long as no call is refused, and once the caller is at rest
+abbrev pub HoweverCut : Reader → List (List ℕ) → List (List ℕ) → (Reader → Type 0) → Type 0
+HoweverCut r sent answers Left = (ts : List Try) (last : Lent) → T (served core ts (line r (holding [])) (joined sent))
+    → Rests core (offers core ts (line r (holding [])) (joined sent)) last → Comes (resting core (offers core ts (line r (holding [])) (joined sent)) last) answers Left
+
+module _ (lent : ℕ → Lent) (f : (n : ℕ) → T (fitLent (lent n))) where
+  -- document 01's call again and again on all of them
+  drained-all : (sent : List (List ℕ)) (r : Reader) → Legal core core-holds r → UsedWhole sent
+      → drained r (joined sent)
+      ≡ record {
+        replies = spokenAll (map (λ (x : Exchange). x .reply) (exchanges core r (deliver lent sent)));
+        after = line (finally core r (deliver lent sent)) (holding []);
+        left = [];
+      }
+  unfolding drained drain atRest joined exchanges deliver finally on
+  drained-all [] r l w = refl
+  drained-all (p ∷ ps) r l (w, ws) =
+      let given : Lent = lent (length ps) in
+      let by = drains-by-call core r p given (l .legal) (f (length ps)) in
+      let gone : drop (usedOf (findOf p)) p ++ joined ps ≡ joined ps = ap (λ (s : List ℕ). s ++ joined ps) (drop-of-length-le p {i = usedOf (findOf p)} (omega arith)) in
+      let rest = drained-all ps (callOf core r p given .after) (stays-legal core core-holds r l (received p given)) ws in
+      drained-more r p (joined ps)
+      ∙ ap (λ (s : List ℕ). replied (stepOf r p .reply) (drained (stepOf r p .after) s)) gone
+      ∙ ap₂ (λ (a : List ℕ) (x : Reader). replied a (drained x (joined ps))) (sym (by .1 .0)) (sym (by .1 .1))
+      ∙ ap (replied (replyOf (callOf core r p given .told))) rest
+      ∙ replied-is (replyOf (callOf core r p given .told)) _
+
+  pub in-pieces : (r : Reader) → Legal core core-holds r → (sent answers : List (List ℕ)) (Left : Reader → Type 0) → Talks lent f r sent answers Left → UsedWhole sent
+      → HoweverCut r sent (spokenAll answers) Left
+  in-pieces r l sent answers Left t w ts last v rests =
+      let all =
+      rests-drained core ts (line r (holding [])) (joined sent) last v rests ∙ ap (λ (b : List ℕ). drained r (b ++ joined sent)) (in-holding []) ∙ drained-all sent r l w
+      in
+      record {
+        replies = ap (λ (d : Ran). d .replies) all ∙ ap spokenAll (t .answered);
+        reader = subst Left (sym (ap (λ (d : Ran). d .after .reader) all)) (t .leaves);
+        held = ap (λ (d : Ran). d .after .receiver) all;
+      }
+
+-- ---- a host's packets are used whole
+
+packet-whole : (i : ℕ) (c : List ℕ) → T (accepts i (lengthOf c)) → usedOf (findOf (packet A i c)) ≡ length (packet A i c)
+unfolding usedOf
+packet-whole i c ok = ap usedOf (packet-reads A i c refl ok .found) ∙ omega (arith, length-packet A i c refl)
+
+packets-whole : (k n : ℕ) (s : List ℕ) → T (accepts dataPacket (n + 2)) → T (accepts lastPacket (n + 2)) → length s ≡ k * n → UsedWhole (packets A k n s)
+unfolding packets
+packets-whole zero n s d e long = tt
+packets-whole (suc k) n s d e long =
+    let one : length (take n s) ≡ n = length-take-le n s (omega (arith, suc-mul k n)) in
+    (packet-whole (cond (eqb k 0) lastPacket dataPacket) (take n s) (rw one (go (eqb k 0))), packets-whole k n (drop n s) d e (length-drop n s ∙ omega (arith, suc-mul k n)))
+  where
+    go : (b : Bool) → T (accepts (cond b lastPacket dataPacket) (n + 2))
+    go true = e
+    go false = d
+
+-- ---- the first download, however it is cut
+
+module _ (t i n c d : List ℕ) (l : Legal core core-holds (freshOf t i n c d)) (b : ℕ) (which : Numbered b) (s : List ℕ) (long : length s ≡ 512) where
+  abbrev r : Reader
+  r = freshOf t i n c d
+
+  abbrev room : ℕ → Lent
+  room k = record { room = replicate 700 0 }
+
+  -- four data packets of 128 bytes
+  pub first-download-cut : HoweverCut r (downPacket b ∷ packets A 4 128 s) (acknowledge A 0x00 [] ∷ []) (WithBuffer b (full s) closed r)
+  unfolding fitRoom accepts limit isIdentifier longest acknowledge packet
+  first-download-cut =
+      in-pieces room (λ k. tt) r l _ _ _ (first-download room (λ k. tt) t i n c d l b which s long)
+      (packet-whole 0x01 (0x09 ∷ b ∷ []) tt, packets-whole 4 128 s tt tt (long ∙ omega arith))
+
+  -- eight of 64, without asking
+  pub unasked-64-cut : HoweverCut r (downPacket b ∷ packets A 8 64 s) (acknowledge A 0x00 [] ∷ acknowledge A 0x0e [] ∷ []) (WithBuffer b blank closed r)
+  unfolding fitRoom accepts limit isIdentifier longest acknowledge packet
+  unasked-64-cut =
+      in-pieces room (λ k. tt) r l _ _ _ (unasked-64 room (λ k. tt) t i n c d l b which s long)
+      (packet-whole 0x01 (0x09 ∷ b ∷ []) tt, packets-whole 8 64 s tt tt (long ∙ omega arith))
+
+  -- and with code 1 set first
+  pub asked-64-cut : HoweverCut r (sizePacket 1 ∷ downPacket b ∷ packets A 8 64 s) (acknowledge A 0x00 [] ∷ acknowledge A 0x00 [] ∷ [])
+      (WithBuffer b (full s) closed
+      record {
+        plain = record { password = 0 ∷ 0 ∷ 0 ∷ 0 ∷ []; address = A; level = 3; size = 1; baud = 6; sensor = 0; verified = false; transfer = closed };
+        guarded = r .guarded;
+      })
+  unfolding fitRoom accepts limit isIdentifier longest acknowledge packet
+  asked-64-cut =
+      in-pieces room (λ k. tt) r l _ _ _ (asked-64 room (λ k. tt) t i n c d l b which s long)
+      (packet-whole 0x01 (0x0e ∷ 6 ∷ 1 ∷ []) tt, (packet-whole 0x01 (0x09 ∷ b ∷ []) tt, packets-whole 8 64 s tt tt (long ∙ omega arith)))
