@@ -11,7 +11,7 @@ use lib.Seq.{length-take-le, take-append-seam}
 use Rattle.protocol.specs.Numbers.{dataPacket, lastPacket, longest}
 use Rattle.protocol.specs.Bytes.{four, same}
 use Rattle.protocol.specs.Packet.{packet, accepts, limit, isIdentifier}
-use Rattle.protocol.specs.Reader.{Transfer, closed, opened, Plain, Buffer, Reader, fresh, sizeOf, keyed, locked, withTransfer}
+use Rattle.protocol.specs.Reader.{Transfer, closed, opened, Plain, Buffer, Guarded, Reader, fresh, sizeOf, keyed, locked, withTransfer}
 use Rattle.protocol.specs.Commands.{downChar, setSysPara, barred, command}
 use Rattle.protocol.specs.Data.{acknowledge, packets}
 use Rattle.protocol.specs.Step.{order, piece, hearAs, hear, ended, rested}
@@ -41,6 +41,14 @@ sizePacket v = packet A 0x01 (0x0e ∷ 6 ∷ v ∷ [])
 -- a buffer with a template and its mark
 abbrev pub full : List ℕ → Buffer
 full s = record { bytes = s; filled = true }
+
+-- fresh settings, but for size code 1
+abbrev pub withCode1 : Guarded → Reader
+withCode1 g =
+    record {
+      plain = record { password = 0 ∷ 0 ∷ 0 ∷ 0 ∷ []; address = A; level = 3; size = 1; baud = 6; sensor = 0; verified = false; transfer = closed };
+      guarded = g;
+    }
 
 counted : (k n : ℕ) (s : List ℕ) → length (packets A k n s) ≡ k
 unfolding packets
@@ -76,10 +84,10 @@ module _ (lent : ℕ → Lent) (f : (n : ℕ) → T (fitLent (lent n))) where
   replied a s k e o = rw (o .long, o .room) (take-append-seam a (drop (length a) (lent k .room)))
 
   -- the first packet, which leaves the reader t, and then the others
-  andThen : (r t : Reader) (p a : List ℕ) (ps answers : List (List ℕ)) (Left : Reader → Type 0) → Gives a t p (lent (length ps)) (callOf core r p (lent (length ps)))
+  and-then : (r t : Reader) (p a : List ℕ) (ps answers : List (List ℕ)) (Left : Reader → Type 0) → Gives a t p (lent (length ps)) (callOf core r p (lent (length ps)))
       → Talks t ps answers Left → Talks r (p ∷ ps) (a ∷ answers) Left
   unfolding deliver exchanges finally on
-  andThen r t p a ps answers Left o rest =
+  and-then r t p a ps answers Left o rest =
       let called : Ended = callOf core r p (lent (length ps)) in
       let on : Talks (called .after) ps answers Left = subst (λ (x : Reader). Talks x ps answers Left) (sym (o .after)) rest in
       record { answered = ap₂ (λ (x : List ℕ) (xs : List (List ℕ)). x ∷ xs) (replied a p (length ps) called (o .told)) (on .answered); leaves = on .leaves }
@@ -122,7 +130,7 @@ module _ (lent : ℕ → Lent) (f : (n : ℕ) → T (fitLent (lent n))) where
         let address : t .plain .address ≡ A = ap (λ (x : Plain). x .address) settings ∙ home in
         let size : t .plain .size ≡ r .plain .size = ap (λ (x : Plain). x .size) settings in
         let sent : template core core-holds lent f t s ≡ deliver lent ps = rw (address, size, many, each) refl in
-        andThen r t (downPacket b) (acknowledge A 0x00 []) ps (replicate k []) (WithBuffer b (full s) closed r) record { told = o .told; after = refl }
+        and-then r t (downPacket b) (acknowledge A 0x00 []) ps (replicate k []) (WithBuffer b (full s) closed r) record { told = o .told; after = refl }
         record {
           answered =
               silently ps t (subst (λ (es : List Event). Silent (exchanges core t es)) sent (d .silent)) ∙ ap (λ (j : ℕ). replicate j []) (counted k n s);
@@ -141,7 +149,7 @@ module _ (lent : ℕ → Lent) (f : (n : ℕ) → T (fitLent (lent n))) where
       let one : length (take 64 s) ≡ 64 = length-take-le 64 s (omega arith) in
       let ps : List (List ℕ) = packets A k 64 (drop 64 s) in
       let p : List ℕ = packet A (cond (eqb k 0) lastPacket dataPacket) (take 64 s) in
-      andThen r r p [] ps (replicate k []) (λ (x : Reader). x ≡ r)
+      and-then r r p [] ps (replicate k []) (λ (x : Reader). x ≡ r)
       (piece-ignored core r p (lent (length ps)) (l .legal) (f (length ps)) (eqb k 0) true (take 64 s) (heard-64 (r .plain .address) home (eqb k 0) (take 64 s) one) still)
       (ignored k (drop 64 s) (length-drop 64 s ∙ omega arith) r l home still)
 
@@ -178,18 +186,14 @@ module _ (lent : ℕ → Lent) (f : (n : ℕ) → T (fitLent (lent n))) where
         ignored 7 (drop 64 s) (length-drop 64 s ∙ omega arith) y (stays-legal core core-holds x legal (received first (lent (length ps))))
         (ap (λ (p : Plain). p .address) (stopped .settings) ∙ address) (ap (λ (p : Plain). p .transfer) (stopped .settings))
         in
-        andThen r x (downPacket b) (acknowledge A 0x00 []) (first ∷ ps) (acknowledge A 0x0e [] ∷ replicate 7 []) (WithBuffer b blank closed r) record { told = o .told; after = refl }
-        (andThen x y first (acknowledge A 0x0e []) ps (replicate 7 []) (WithBuffer b blank closed r)
+        and-then r x (downPacket b) (acknowledge A 0x00 []) (first ∷ ps) (acknowledge A 0x0e [] ∷ replicate 7 []) (WithBuffer b blank closed r) record { told = o .told; after = refl }
+        (and-then x y first (acknowledge A 0x0e []) ps (replicate 7 []) (WithBuffer b blank closed r)
         record { told = subst (λ (a : List ℕ). Replies (acknowledge a 0x0e []) first (lent (length ps)) (callOf core x first (lent (length ps)))) address (q .told); after = refl }
         record { answered = silent .answered; leaves = subst (WithBuffer b blank closed r) (sym (silent .leaves)) (again b _ _ _ _ r x y (o .after) stopped) })
 
     -- and with code 1 set first
     pub asked-64 : Talks r (sizePacket 1 ∷ downPacket b ∷ packets A 8 64 s) (acknowledge A 0x00 [] ∷ acknowledge A 0x00 [] ∷ replicate 8 [])
-        (WithBuffer b (full s) closed
-        record {
-          plain = record { password = 0 ∷ 0 ∷ 0 ∷ 0 ∷ []; address = A; level = 3; size = 1; baud = 6; sensor = 0; verified = false; transfer = closed };
-          guarded = r .guarded;
-        })
+        (WithBuffer b (full s) closed (withCode1 (r .guarded)))
     unfolding fresh four sizeOf locked keyed same rested ended accepts limit isIdentifier longest on
     asked-64 =
         let ps : List (List ℕ) = downPacket b ∷ packets A 8 64 s in
@@ -197,4 +201,4 @@ module _ (lent : ℕ → Lent) (f : (n : ℕ) → T (fitLent (lent n))) where
         let asks : hear A (sizePacket 1) ≡ order (command (barred (setSysPara 6 1))) = asked-by A (0x0e ∷ 6 ∷ 1 ∷ []) (barred (setSysPara 6 1)) refl tt (parameters .set-read 6 1) in
         let o = sets-size core r (sizePacket 1) given (l .legal) (f (length ps)) refl 1 asks (lit≤ tt) in
         let legal = subst (Legal core core-holds) (o .after) (stays-legal core core-holds r l (received (sizePacket 1) given)) in
-        andThen r _ (sizePacket 1) (acknowledge A 0x00 []) ps _ _ o (served _ legal refl refl refl b which s long 8 64 refl refl)
+        and-then r _ (sizePacket 1) (acknowledge A 0x00 []) ps _ _ o (served _ legal refl refl refl b which s long 8 64 refl refl)

@@ -9,8 +9,9 @@ use native.Mathlib.Omega.{arith}
 use lib.Dec.{T, eqb}
 use lib.ListN.{length, take, drop, length-drop, replicate, drop-of-length-le}
 use lib.Seq.{length-take-le}
-use Rattle.protocol.specs.Numbers.{dataPacket, lastPacket, longest}
-use Rattle.protocol.specs.Bytes.{joined}
+use Rattle.protocol.specs.declared.Receiver.{Receiver}
+use Rattle.protocol.specs.Numbers.{dataPacket, lastPacket, longest, holds}
+use Rattle.protocol.specs.Bytes.{lay, joined}
 use Rattle.protocol.specs.Packet.{packet, lengthOf, accepts, limit, isIdentifier}
 use Rattle.protocol.specs.Finder.{findOf, usedOf}
 use Rattle.protocol.specs.Reader.{closed, Reader}
@@ -19,11 +20,10 @@ use Rattle.protocol.specs.Step.{stepOf}
 use Rattle.protocol.specs.Call.{Lent, fitRoom, fitLent, replyOf, callOf, core}
 use Rattle.protocol.specs.Records.{freshOf}
 use Rattle.protocol.specs.Dialogue.{received, on, finally, Exchange, exchanges}
-use Rattle.protocol.specs.Receiver.{holding, line}
+use Rattle.protocol.specs.Receiver.{bytesIn, holding, line}
 use Rattle.protocol.specs.Caller.{Try, Ran, replied, offers, served, Rests, resting, atRest, drain, drained}
 use Rattle.protocol.proofs.Laws.Finder.{length-packet}
 use Rattle.protocol.proofs.Laws.Drain.{drained-more}
-use Rattle.protocol.proofs.Laws.Holding.{in-holding}
 use Rattle.protocol.proofs.Promises.Told.{Numbered, blank, WithBuffer}
 use Rattle.protocol.proofs.Promises.LegalMeans.{core-holds}
 use Rattle.protocol.proofs.Promises.StaysLegal.{Legal, stays-legal}
@@ -31,7 +31,7 @@ use Rattle.protocol.proofs.Promises.ReadBack.{packet-reads}
 use Rattle.protocol.proofs.Promises.Download.{deliver}
 use Rattle.protocol.proofs.Promises.Cuts.{rests-drained, drains-by-call}
 use Rattle.protocol.proofs.Promises.Caller.{spoken, replied-is}
-use Rattle.protocol.proofs.Promises.FirstDownload.{A, downPacket, sizePacket, full, Talks, first-download, unasked-64, asked-64}
+use Rattle.protocol.proofs.Promises.FirstDownload.{A, downPacket, sizePacket, full, withCode1, Talks, first-download, unasked-64, asked-64}
 
 -- ---- one to a call, or all behind one another
 
@@ -45,16 +45,20 @@ abbrev pub spokenAll : List (List ℕ) → List (List ℕ)
 spokenAll [] = []
 spokenAll (a ∷ answers) = spoken a ++ spokenAll answers
 
+-- a receiver that holds nothing
+abbrev pub vacant : Receiver
+vacant = record { held = replicate 265 0; count = 0 }
+
 -- a caller came to this: these answers in turn, such a reader, and nothing held
 pub record Comes (d : Ran) (answers : List (List ℕ)) (Left : Reader → Type 0) : Type 0 where
   pub replies : d .replies ≡ answers
   pub reader : Left (d .after .reader)
-  pub held : d .after .receiver ≡ holding []
+  pub held : d .after .receiver ≡ vacant
 
 -- the runs behind one another, offered to an empty receiver: however they are cut, as long as no call is refused, and once the caller is at rest
 abbrev pub HoweverCut : Reader → List (List ℕ) → List (List ℕ) → (Reader → Type 0) → Type 0
-HoweverCut r sent answers Left = (ts : List Try) (last : Lent) → T (served core ts (line r (holding [])) (joined sent))
-    → Rests core (offers core ts (line r (holding [])) (joined sent)) last → Comes (resting core (offers core ts (line r (holding [])) (joined sent)) last) answers Left
+HoweverCut r sent answers Left = (ts : List Try) (last : Lent) → T (served core ts (line r vacant) (joined sent))
+    → Rests core (offers core ts (line r vacant) (joined sent)) last → Comes (resting core (offers core ts (line r vacant) (joined sent)) last) answers Left
 
 module _ (lent : ℕ → Lent) (f : (n : ℕ) → T (fitLent (lent n))) where
   -- document 01's call again and again on all of them
@@ -62,10 +66,10 @@ module _ (lent : ℕ → Lent) (f : (n : ℕ) → T (fitLent (lent n))) where
       → drained r (joined sent)
       ≡ record {
         replies = spokenAll (map (λ (x : Exchange). x .reply) (exchanges core r (deliver lent sent)));
-        after = line (finally core r (deliver lent sent)) (holding []);
+        after = line (finally core r (deliver lent sent)) vacant;
         left = [];
       }
-  unfolding drained drain atRest joined exchanges deliver finally on
+  unfolding drained drain atRest holding lay holds longest joined exchanges deliver finally on
   drained-all [] r l w = refl
   drained-all (p ∷ ps) r l (w, ws) =
       let given : Lent = lent (length ps) in
@@ -80,10 +84,9 @@ module _ (lent : ℕ → Lent) (f : (n : ℕ) → T (fitLent (lent n))) where
 
   pub in-pieces : (r : Reader) → Legal core core-holds r → (sent answers : List (List ℕ)) (Left : Reader → Type 0) → Talks lent f r sent answers Left → UsedWhole sent
       → HoweverCut r sent (spokenAll answers) Left
+  unfolding bytesIn
   in-pieces r l sent answers Left t w ts last v rests =
-      let all =
-      rests-drained core ts (line r (holding [])) (joined sent) last v rests ∙ ap (λ (b : List ℕ). drained r (b ++ joined sent)) (in-holding []) ∙ drained-all sent r l w
-      in
+      let all = rests-drained core ts (line r vacant) (joined sent) last v rests ∙ drained-all sent r l w in
       record {
         replies = ap (λ (d : Ran). d .replies) all ∙ ap spokenAll (t .answered);
         reader = subst Left (sym (ap (λ (d : Ran). d .after .reader) all)) (t .leaves);
@@ -132,11 +135,7 @@ module _ (t i n c d : List ℕ) (l : Legal core core-holds (freshOf t i n c d)) 
 
   -- and with code 1 set first
   pub asked-64-cut : HoweverCut r (sizePacket 1 ∷ downPacket b ∷ packets A 8 64 s) (acknowledge A 0x00 [] ∷ acknowledge A 0x00 [] ∷ [])
-      (WithBuffer b (full s) closed
-      record {
-        plain = record { password = 0 ∷ 0 ∷ 0 ∷ 0 ∷ []; address = A; level = 3; size = 1; baud = 6; sensor = 0; verified = false; transfer = closed };
-        guarded = r .guarded;
-      })
+      (WithBuffer b (full s) closed (withCode1 (r .guarded)))
   unfolding fitRoom accepts limit isIdentifier longest acknowledge packet
   asked-64-cut =
       in-pieces room (λ k. tt) r l _ _ _ (asked-64 room (λ k. tt) t i n c d l b which s long)
