@@ -2,7 +2,7 @@
 """A host that talks to the reader over a serial port.
 
 Starts ./bystrodol serve, opens its port with pyserial as host software does, and holds every reply to the bytes that
-document 01 says, with request [2]'s size in fresh settings. The host writes whole packets, single bytes and odd pieces, with noise between them. Then it ends the
+document 01 says. The host writes whole packets, single bytes and odd pieces, with noise between them. Then it ends the
 server, of which nothing may be left. Status: 0 all is well, 1 a check failed, 2 there is no port.
 """
 
