@@ -74,9 +74,13 @@ again b c c′ m m′ r t x one two =
     }
 
 module _ (lent : ℕ → Lent) (f : (n : ℕ) → T (fitLent (lent n))) where
-  -- packets sent one to a call: what each is answered, and what the reader is in the end
+  -- what packets sent one to a call are answered
+  abbrev pub answersTo : Reader → List (List ℕ) → List (List ℕ)
+  answersTo r sent = map (λ (x : Exchange). x .reply) (exchanges core r (deliver lent sent))
+
+  -- and what the reader is in the end
   pub record Talks (r : Reader) (sent answers : List (List ℕ)) (Left : Reader → Type 0) : Type 0 where
-    pub answered : map (λ (x : Exchange). x .reply) (exchanges core r (deliver lent sent)) ≡ answers
+    pub answered : answersTo r sent ≡ answers
     pub leaves : Left (finally core r (deliver lent sent))
 
   replied : (a s : List ℕ) (k : ℕ) (e : Ended) → Replies a s (lent k) e → replyOf (e .told) ≡ a
@@ -92,8 +96,7 @@ module _ (lent : ℕ → Lent) (f : (n : ℕ) → T (fitLent (lent n))) where
       let on : Talks (called .after) ps answers Left = subst (λ (x : Reader). Talks x ps answers Left) (sym (o .after)) rest in
       record { answered = ap₂ (λ (x : List ℕ) (xs : List (List ℕ)). x ∷ xs) (replied a p (length ps) called (o .told)) (on .answered); leaves = on .leaves }
 
-  silently : (ps : List (List ℕ)) (t : Reader) → Silent (exchanges core t (deliver lent ps))
-      → map (λ (x : Exchange). x .reply) (exchanges core t (deliver lent ps)) ≡ replicate (length ps) []
+  silently : (ps : List (List ℕ)) (t : Reader) → Silent (exchanges core t (deliver lent ps)) → answersTo t ps ≡ replicate (length ps) []
   unfolding deliver exchanges
   silently [] t q = refl
   silently (p ∷ ps) t (e, q) = ap₂ (λ (x : List ℕ) (xs : List (List ℕ)). x ∷ xs) e (silently ps (callOf core t p (lent (length ps)) .after) q)

@@ -2,7 +2,7 @@
 -- however it is cut.
 use mathlib.Core.Bool.{Bool, true, false, cond}
 use mathlib.Core.Path.{_≡_, refl, sym, ap, ap₂, _∙_, subst}
-use mathlib.Core.List.{List, [], _∷_, _++_, map}
+use mathlib.Core.List.{List, [], _∷_, _++_}
 use Prim.Native.Nat.{ℕ, zero, suc, _+_, _*_}
 use native.Mathlib.Nat.{suc-mul}
 use native.Mathlib.Omega.{arith}
@@ -19,7 +19,7 @@ use Rattle.protocol.specs.Data.{acknowledge, packets}
 use Rattle.protocol.specs.Step.{stepOf}
 use Rattle.protocol.specs.Call.{Lent, fitRoom, fitLent, replyOf, callOf, core}
 use Rattle.protocol.specs.Records.{freshOf}
-use Rattle.protocol.specs.Dialogue.{received, on, finally, Exchange, exchanges}
+use Rattle.protocol.specs.Dialogue.{received, on, finally, exchanges}
 use Rattle.protocol.specs.Receiver.{bytesIn, holding, line}
 use Rattle.protocol.specs.Caller.{Try, Ran, replied, offers, served, Rests, resting, atRest, drain, drained}
 use Rattle.protocol.proofs.Laws.Finder.{length-packet}
@@ -31,7 +31,7 @@ use Rattle.protocol.proofs.Promises.ReadBack.{packet-reads}
 use Rattle.protocol.proofs.Promises.Download.{deliver}
 use Rattle.protocol.proofs.Promises.Cuts.{rests-drained, drains-by-call}
 use Rattle.protocol.proofs.Promises.Caller.{spoken, replied-is}
-use Rattle.protocol.proofs.Promises.FirstDownload.{A, downPacket, sizePacket, full, withCode1, Talks, first-download, unasked-64, asked-64}
+use Rattle.protocol.proofs.Promises.FirstDownload.{A, downPacket, sizePacket, full, withCode1, answersTo, Talks, first-download, unasked-64, asked-64}
 
 -- ---- one to a call, or all behind one another
 
@@ -65,7 +65,7 @@ module _ (lent : ℕ → Lent) (f : (n : ℕ) → T (fitLent (lent n))) where
   drained-all : (sent : List (List ℕ)) (r : Reader) → Legal core core-holds r → UsedWhole sent
       → drained r (joined sent)
       ≡ record {
-        replies = spokenAll (map (λ (x : Exchange). x .reply) (exchanges core r (deliver lent sent)));
+        replies = spokenAll (answersTo lent f r sent);
         after = line (finally core r (deliver lent sent)) vacant;
         left = [];
       }
