@@ -20,7 +20,8 @@
  *     starts as zeros: so it holds nothing. Then, first of all, bystrodol_receiver_switch: what was stored may say that a
  *     password was given. It takes any bytes. Then one bystrodol_receive with a piece of 0 bytes: it changes nothing, and its
  *     refusal tells whether the stored settings and index are legal. Any password and any address are, so keep a sum of your
- *     own over what is stored. Fresh settings have no password: do not fall back to them where the memory has templates.
+ *     own over what is stored. Fresh settings have no password: do not fall back to them where the memory has templates. And save
+ *     them at once: so such a memory always has its settings, and a later version's fresh settings never take their place.
  *   A loop. Read what the port has, a piece of any length, and offer it until a call takes nothing and leaves the held count:
  *     then, if it was not refused, all is taken, nothing was answered, and there is nothing left to do. How the bytes were cut
  *     makes no difference. MEMORY stands for the arguments from templates to buffer2_length; piece is not NULL here.
@@ -217,8 +218,8 @@ extern "C" {
  * transfer, spare 0. With zeroed memory they are a fresh reader.
  *
  * So a fresh reader takes and sends data packets of 128 bytes. A host that sends 64 sets size code 1 first (SetSysPara, parameter
- * 6); otherwise its first data packet is answered 0Eh. Settings that were stored keep their own code, 0, 1 or 2, and no call
- * changes it but SetSysPara. So call this only where no settings are stored.
+ * 6); otherwise its first data packet is answered 0Eh. Settings that were stored keep their own code, 0, 1 or 2: neither the line
+ * switch nor any call but SetSysPara changes it. So call this only where no settings are stored, and save what it gives.
  */
 struct bystrodol_settings bystrodol_fresh(void);
 

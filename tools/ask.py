@@ -88,8 +88,8 @@ FORMS = (
     Form("empty", (), "Empty", "deletes all pages; asks first, unless --yes is given"),
     Form("store", (BUFFER, PAGE), "Store", "from buffer 1 or 2 to a page"),
     Form("load", (BUFFER, PAGE), "LoadChar", "from a page to a buffer"),
-    Form("upload", (BUFFER, FILE), "UpChar", "from a buffer to a new file"),
-    Form("download", (BUFFER, FILE), "DownChar", "from a file of 512 bytes to a buffer; reads it back and compares"),
+    Form("upload", (BUFFER, FILE), "UpChar", "from a buffer to a new file, in the size that the reader has"),
+    Form("download", (BUFFER, FILE), "DownChar", "from a file of 512 bytes to a buffer, in that size; reads it back and compares"),
 )
 
 
@@ -183,6 +183,8 @@ def tell_next(form, values):
         print("from now on: --address %s" % values[0].hex().upper())
     elif form.word == "set-password" and values[0] != NO_PASSWORD:
         print("from now on the reader is locked: --password %s" % values[0].hex().upper())
+    elif form.word == "set-size":
+        print("from now on every host sends and gets %d bytes in a data packet" % SIZES[values[0]])
     elif form.word == "set-baud":
         print("the reply came at the old speed; once the board has switched its port: --baud %d" % (BAUD * values[0]))
 

@@ -55,7 +55,7 @@ ACKNOWLEDGES = {
     0x0B: "no such page",
     0x0C: "nothing is there",
     0x0D: "the buffer is not filled",
-    TRANSFER_FAILED: "the transfer failed",
+    TRANSFER_FAILED: "the transfer failed: a data packet does not fit in size, sum or total",
     0x10: "no such pages",
     0x13: "wrong password",
     UNKNOWN: "unknown command",

@@ -72,7 +72,7 @@ DIALOGUE = (
     ("upload|2|FOLDER/read-back", "01 00 04 08 02 00 0f", "07 00 03 0d 00 17", 1, "the buffer is not filled"),
     ("load|2|7", "01 00 06 07 02 00 07 00 17", DONE, 0, "buffer 2, page 7"),
     ("load|2|9", "01 00 06 07 02 00 09 00 19", "07 00 03 0c 00 16", 1, "nothing is there"),
-    ("set-size|64", "01 00 05 0e 06 01 00 1b", DONE, 0, "number 6, value 1"),
+    ("set-size|64", "01 00 05 0e 06 01 00 1b", DONE, 0, "number 6, value 1", "every host sends and gets 64 bytes"),
     ("upload|2|FOLDER/read-back", "01 00 04 08 02 00 0f", DONE, 0, "reader  ef 01 ff ff ff ff 08 00 42",
      "has the 512 bytes"),
     ("set-size|32", "01 00 05 0e 06 00 00 1a", DONE, 0),
