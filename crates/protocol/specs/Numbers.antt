@@ -64,6 +64,7 @@ freshAddress = 0xffffffff
 abbrev pub freshLevel : ℕ
 freshLevel = 3
 
+-- by request [2]: 128 data bytes
 abbrev pub freshSize : ℕ
 freshSize = 2
 
