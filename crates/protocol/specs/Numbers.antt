@@ -52,7 +52,7 @@ highestBaud = 12
 
 -- the largest size code
 unfoldable pub highestSize : ℕ
-highestSize = 2
+highestSize = 3
 
 -- fresh settings
 abbrev pub freshPassword : ℕ
@@ -118,12 +118,16 @@ acknowledgePacket = 7
 abbrev pub lastPacket : ℕ
 lastPacket = 8
 
--- the length field of one byte of content, and the largest (source 002's maximum)
+-- the length field of one byte of content
 abbrev pub shortest : ℕ
 shortest = 3
 
+-- the largest, which data packets have (request [3]); and that of commands and acknowledges (source 002's maximum)
 unfoldable pub longest : ℕ
-longest = 256
+longest = 258
+
+abbrev pub longestOther : ℕ
+longestOther = 256
 
 -- what a receiver holds at most: the longest packet (request [1])
 unfoldable pub holds : ℕ

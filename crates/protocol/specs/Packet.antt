@@ -1,10 +1,10 @@
 -- A packet: EF 01, address (4), identifier (1), length (2), content, sum (2); its limits, its parts, and the builder.
-use mathlib.Core.Bool.{Bool, _&&_, _||_}
+use mathlib.Core.Bool.{Bool, _&&_, _||_, cond}
 use mathlib.Core.List.{List, [], _∷_, _++_}
 use Prim.Native.Nat.{ℕ, zero, suc, _+_, _-_, _%_}
 use lib.Dec.{eqb, leb}
 use lib.ListN.{length}
-use Rattle.protocol.specs.Numbers.{firstMark, secondMark, headBytes, frameBytes, commandPacket, dataPacket, acknowledgePacket, lastPacket, shortest, longest, fourBytes, badRoom, badContent}
+use Rattle.protocol.specs.Numbers.{firstMark, secondMark, headBytes, frameBytes, commandPacket, dataPacket, acknowledgePacket, lastPacket, shortest, longest, longestOther, fourBytes, badRoom, badContent}
 use Rattle.protocol.specs.Bytes.{two, byteAt, wordAt, part, total, lay}
 use Rattle.protocol.specs.Tests.{verdict}
 
@@ -25,9 +25,13 @@ packet address identifier content =
 unfoldable pub isIdentifier : ℕ → Bool
 isIdentifier i = eqb i commandPacket || eqb i dataPacket || eqb i acknowledgePacket || eqb i lastPacket
 
--- the largest length field of an identifier's packets
+-- a data packet, the last one too
+abbrev pub isData : ℕ → Bool
+isData i = eqb i dataPacket || eqb i lastPacket
+
+-- the largest length field of an identifier's packets: 258 for identifiers 2 and 8; 1 and 7 keep 256 (request [3])
 unfoldable pub limit : ℕ → ℕ
-limit i = longest
+limit i = cond (isData i) longest longestOther
 
 -- an identifier and a length field that a packet can have
 unfoldable pub accepts : ℕ → ℕ → Bool
@@ -63,7 +67,7 @@ pub record Made : Type 0 where
   pub length : ℕ
   pub room : List ℕ
 
--- refusal 4: identifier not 1, 2, 7, 8, or content not 1 to 254 bytes; then 2: room below content + 11
+-- refusal 4: identifier not 1, 2, 7, 8, or content not 1 to 256 bytes for 2 and 8, 1 to 254 for 1 and 7; then 2: room below content + 11
 unfoldable pub buildRefusal : ℕ → List ℕ → List ℕ → ℕ
 buildRefusal i c room = verdict ((accepts i (lengthOf c), badContent) ∷ (leb (length c + frameBytes) (length room), badRoom) ∷ [])
 

@@ -10,7 +10,7 @@ use Rattle.protocol.specs.Tests.{verdict}
 use Rattle.protocol.specs.Reader.{Reader}
 use Rattle.protocol.specs.Call.{Shape, fitLengths, Lent, fitLent, sound, Told, Ended, refused, callOf, switchOf}
 
--- ---- "a receiver that holds up to 265 bytes between calls"
+-- ---- "a receiver that holds up to 265 bytes between calls"; by request [3] "up to 267"
 
 -- the bytes held: so many of the cells, from the first on
 unfoldable pub bytesIn : Receiver → List ℕ
@@ -49,7 +49,7 @@ handed h piece e =
       after = line (e .after) (holding (drop (e .told .used) (runOf h piece)));
     }
 
--- ---- "Refusals: held count above 265 is 3; a refused call takes and drops nothing."
+-- ---- "Refusals: held count above 265 is 3; a refused call takes and drops nothing." By request [3] above 267
 
 -- document 01's order: 1, 2, 3
 unfoldable pub receiveRefusal : Shape → Line → Lent → ℕ

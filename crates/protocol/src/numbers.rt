@@ -30,7 +30,10 @@ pub const LOWEST_BAUD: u8 = 1;
 
 pub const HIGHEST_BAUD: u8 = 12;
 
-pub const HIGHEST_SIZE: u8 = 2;
+pub const HIGHEST_SIZE: u8 = 3;
+
+// The data bytes of size code 0; each code after it has twice those of the one before.
+pub const SMALLEST_SIZE: usize = 32;
 
 // Fresh settings.
 pub const FRESH_PASSWORD: [u8; 4] = [0, 0, 0, 0];
@@ -64,10 +67,12 @@ pub const HEAD: usize = 9;
 
 pub const FRAME: usize = 11;
 
-// The least and the greatest length field.
+// The least length field; the greatest, which data packets have (request [3]); and that of commands and acknowledges.
 pub const SHORTEST: usize = 3;
 
-pub const LONGEST: usize = 256;
+pub const LONGEST: usize = 258;
+
+pub const LONGEST_OTHER: usize = 256;
 
 // What a receiver holds at most: the longest packet (request [1]).
 pub const HOLDS: usize = HEAD + LONGEST;

@@ -12,10 +12,10 @@ use borrow.Author.Tests.{le-leb}
 use borrow.Rule.Slice.PartMut.{putMid}
 use Rattle.protocol.specs.declared.Built.{Built}
 use Rattle.protocol.specs.Reader.{sizeOf}
-use Rattle.protocol.specs.Numbers.{pageBytes, highestSize, frameBytes, dataPacket, lastPacket}
+use Rattle.protocol.specs.Numbers.{pageBytes, highestSize, frameBytes, acknowledgePacket, dataPacket, lastPacket}
 use Rattle.protocol.specs.Bytes.{lay, follow, joined}
 use Rattle.protocol.specs.Tests.{verdict}
-use Rattle.protocol.specs.Packet.{lengthOf, packet, isIdentifier, accepts, Made, buildRefusal, buildAs, buildOf}
+use Rattle.protocol.specs.Packet.{lengthOf, packet, isIdentifier, limit, accepts, Made, buildRefusal, buildAs, buildOf}
 use Rattle.protocol.specs.Data.{acknowledge, packets, dataPackets}
 use Rattle.protocol.specs.Records.{madeOf}
 use Rattle.protocol.proofs.Laws.Logic.{T→true}
@@ -23,13 +23,14 @@ use Rattle.protocol.proofs.Laws.Lists.{follow-append, lay-lay, lay-whole}
 use Rattle.protocol.proofs.Laws.Finder.{length-packet, accepts-of}
 use Rattle.protocol.proofs.Laws.Sizes.{Size, sizes, length-packets, length-data}
 use Rattle.library.proofs.Parts.{part-laid}
-use Rattle.reader.specs.Answers.{listedBytes, contentBytes, uploadBytes}
+use Rattle.reader.specs.Answers.{listedBytes, uploadBytes}
 
 -- ---- a packet that the builder does not refuse
 
--- an identifier of a packet, and content that is not too long
-pub accepted : (i : ℕ) (c : List ℕ) → isIdentifier i ≡ true → 1 ≤ length c → length c ≤ contentBytes → T (accepts i (lengthOf c))
-accepted i c e l h = accepts-of i (lengthOf c) (rw e tt) (omega arith) (omega arith)
+-- an acknowledge: a code, and listed bytes behind it
+pub accepted : (c : List ℕ) → 1 ≤ length c → length c ≤ 1 + listedBytes → T (accepts acknowledgePacket (lengthOf c))
+unfolding isIdentifier limit
+accepted c l h = accepts-of acknowledgePacket (lengthOf c) tt (omega arith) (omega arith)
 
 pub build-laid : (a : List ℕ) (i : ℕ) (c room : List ℕ) → T (accepts i (lengthOf c)) → length c + frameBytes ≤ length room
     → buildOf a i c room ≡ record { refusal = 0; length = length (packet a i c); room = lay 0 (packet a i c) room }
@@ -64,11 +65,6 @@ content-laid code bytes e = rw e (rw append-nil)
 -- the identifier of a data packet after which k follow
 abbrev pub dataId : ℕ → ℕ
 dataId k = cond (eqb k 0) lastPacket dataPacket
-
-pub data-identifier : (b : Bool) → isIdentifier (cond b 8 2) ≡ true
-unfolding isIdentifier
-data-identifier true = refl
-data-identifier false = refl
 
 -- one packet more of a size
 pub one-less : (left size : ℕ) → 0 < left → left * size ≡ (left - 1) * size + size
@@ -119,13 +115,15 @@ few-all false n h = omega arith
 -- ---- the sizes, in the code's numbers
 
 pub record CodeSize (z : ℕ) : Type 0 where
+  pub carries : accepts dataPacket (z + 2) ≡ true
+  pub ends : accepts lastPacket (z + 2) ≡ true
   pub all : pageBytes / z * z ≡ pageBytes
   pub room : pageBytes / z * (z + frameBytes) ≤ uploadBytes
 
 pub code-size : (code : ℕ) → code ≤ highestSize → CodeSize (sizeOf code)
 code-size code h =
     let z : Size (sizeOf code) = sizes code h in
-    record { all = ap (λ (k : ℕ). k * sizeOf code) (z .count) ∙ z .whole; room = rw (z .count) (omega (arith, z .room)) }
+    record { carries = T→true (accepts dataPacket (sizeOf code + 2)) (z .carries); ends = T→true (accepts lastPacket (sizeOf code + 2)) (z .ends); all = ap (λ (k : ℕ). k * sizeOf code) (z .count) ∙ z .whole; room = rw (z .count) (omega (arith, z .room)) }
 
 pub sent-length : (a : List ℕ) (code : ℕ) (s : List ℕ) → length a ≡ 4 → code ≤ highestSize → length s ≡ pageBytes → length (dataPackets a (sizeOf code) s) ≤ uploadBytes
 sent-length a code s h l m = omega (arith, length-data a (sizeOf code) s (sizes code l) h m)

@@ -20,10 +20,6 @@ use Rattle.reader.specs.Buffers.{chosenOf}
 abbrev pub listedBytes : ℕ
 listedBytes = 32
 
--- the most bytes in a packet's content
-abbrev pub contentBytes : ℕ
-contentBytes = 254
-
 -- a buffer in data packets takes this much of the reply room at most
 abbrev pub uploadBytes : ℕ
 uploadBytes = 688

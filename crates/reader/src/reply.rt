@@ -7,10 +7,10 @@ ghost use lib.Dec.{eqb};
 ghost use lib.ListN.{length, take};
 ghost use Rattle.protocol.specs.Numbers.{pageBytes, frameBytes, replyRoom, dataPacket, lastPacket, highestSize};
 ghost use Rattle.protocol.specs.Bytes.{lay, joined};
-ghost use Rattle.protocol.specs.Packet.{packet, isIdentifier};
+ghost use Rattle.protocol.specs.Packet.{lengthOf, packet, accepts};
 ghost use Rattle.protocol.specs.Reader.{sizeOf};
 ghost use Rattle.protocol.specs.Data.{acknowledge, packets, dataPackets};
-ghost use Rattle.reader.specs.Answers.{spokenOf, Ready, listedBytes, contentBytes, uploadBytes};
+ghost use Rattle.reader.specs.Answers.{spokenOf, Ready, listedBytes, uploadBytes};
 use crate::answers::Answer;
 use crate::buffers;
 use protocol::Settings;
@@ -71,7 +71,7 @@ fn put_packet(
     address: [u8; 4],
     content: &[u8],
 ) -> usize
-    requires { ⌜ (at + length (now content) + frameBytes ≤ length (now reply)) × ((1 ≤ length (now content)) × ((length (now content) ≤ contentBytes) × (isIdentifier identifier ≡ true))) ⌝ }
+    requires { ⌜ (at + length (now content) + frameBytes ≤ length (now reply)) × (accepts identifier (lengthOf (now content)) ≡ true) ⌝ }
     ensures { λ r. ⌜ (r ≡ at + length (now (content .entry)) + frameBytes) × (now (reply .exit) ≡ lay at (packet address identifier (now (content .entry))) (now (reply .entry))) ⌝ }
 {
     let e = at + content.len() + numbers::FRAME;
@@ -88,7 +88,7 @@ fn put_data(
     count: usize,
     src: &[u8],
 ) -> usize
-    requires { ⌜ (1 ≤ size) × ((size ≤ contentBytes) × ((length (now src) ≡ count * size) × (at + count * (size + frameBytes) ≤ length (now reply)))) ⌝ }
+    requires { ⌜ (accepts dataPacket (size + 2) ≡ true) × ((accepts lastPacket (size + 2) ≡ true) × ((length (now src) ≡ count * size) × (at + count * (size + frameBytes) ≤ length (now reply)))) ⌝ }
     ensures { λ r. ⌜ (r ≡ at + count * (size + frameBytes)) × (now (reply .exit) ≡ lay at (joined (packets address count size (now (src .entry)))) (now (reply .entry))) ⌝ }
 {
     let mut left = count;

@@ -1,17 +1,20 @@
 -- Size codes: the data bytes of each, and that a legal code is not changed by the cap.
-use mathlib.Core.Path.{_≡_, refl}
-use Prim.Native.Nat.{ℕ, _≤_, _<_}
+use mathlib.Core.Path.{_≡_, sym, _∙_}
+use Prim.Native.Nat.{ℕ, _*_, _%_, _^_, _≤_, _<_}
+use native.Mathlib.Nat.{suc-mul}
 use native.Mathlib.Omega.{arith}
-use native.Mathlib.Decide.{decLt}
+use lib.Dec.{lit<}
+use lib.Pow.{pow-add, shl-exact}
 use lib.ListN.{length, length-replicate}
 use mathlib.Core.Bool.{Bool}
 use mathlib.Core.List.{List}
 use borrow.Author.Tests.{le-leb, lt-leb}
 use Rattle.protocol.specs.declared.Settings.{Settings}
-use Rattle.protocol.specs.Numbers.{highestSize}
+use Rattle.protocol.specs.Numbers.{highestSize, wrapsAt}
 use Rattle.protocol.specs.Reader.{sizeOf}
 use Rattle.protocol.specs.Step.{fits}
 use Rattle.protocol.specs.Records.{plainOf}
+use Rattle.protocol.proofs.Laws.Sizes.{Size, sizes}
 use Rattle.rules.specs.Settings.{cappedCode, SizeOf}
 use Rattle.rules.specs.Transfer.{doesFit}
 
@@ -23,23 +26,26 @@ capped-legal code h = rw (le-leb code highestSize h)
 pub size-legal : (code r : ℕ) → SizeOf code r → code ≤ highestSize → r ≡ sizeOf code
 size-legal code r z h = rw capped-legal at (z .is)
 
--- ---- each code
+-- ---- the data bytes of a code
 
-pub size-zero : (code : ℕ) → code ≡ 0 → SizeOf code 32
-unfolding sizeOf cappedCode highestSize
-size-zero code e = rw e (record { is = refl; low = omega arith; high = omega arith })
+-- 32 shifted by the code
+shifted : (code : ℕ) → code ≤ highestSize → 32 * 2 ^ code % wrapsAt ≡ sizeOf code
+unfolding sizeOf highestSize
+shifted code h = shl-exact 6 code 64 (lit< tt) (omega arith) ∙ sym (pow-add 2 5 code)
 
-pub size-one : (code : ℕ) → code ≡ 1 → SizeOf code 64
-unfolding sizeOf cappedCode highestSize
-size-one code e = rw e (record { is = refl; low = omega arith; high = omega arith })
+-- whatever code it counts as, which is a legal one
+counted : (code k : ℕ) → cappedCode code ≡ k → k ≤ highestSize → SizeOf code (32 * 2 ^ k % wrapsAt)
+counted code k e h =
+    let z : Size (sizeOf k) = sizes k h in
+    let s = shifted k h in
+    record { is = rw e s; low = omega (arith, s, z .some); high = omega (arith, s, z .whole, suc-mul (z .more) (sizeOf k)) }
 
-pub size-other : (code : ℕ) → (code ≡ 0 → ⊥) → (code ≡ 1 → ⊥) → SizeOf code 128
-unfolding sizeOf cappedCode highestSize
-size-other code n m = record { is = go (decLt 2 code); low = omega arith; high = omega arith }
-  where
-    go : Dec (2 < code) → 128 ≡ sizeOf (cappedCode code)
-    go (yes h) = rw (lt-leb code 2 h)
-    go (no h) = let e : code ≡ 2 = omega arith in rw e
+pub size-known : (code : ℕ) → code ≤ highestSize → SizeOf code (32 * 2 ^ code % wrapsAt)
+size-known code h = counted code code (capped-legal code h) h
+
+pub size-above : (code : ℕ) → highestSize < code → SizeOf code (32 * 2 ^ highestSize % wrapsAt)
+unfolding cappedCode
+size-above code h = counted code highestSize (rw (lt-leb code highestSize h)) (omega arith)
 
 -- ---- a data packet
 

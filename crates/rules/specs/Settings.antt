@@ -5,7 +5,7 @@ use mathlib.Core.Path.{_≡_}
 use Prim.Native.Nat.{ℕ, _≤_}
 use lib.Dec.{leb}
 use Rattle.protocol.specs.declared.Settings.{Settings}
-use Rattle.protocol.specs.Numbers.{highestSize}
+use Rattle.protocol.specs.Numbers.{pageBytes, highestSize}
 use Rattle.protocol.specs.Reader.{Reader, sizeOf}
 use Rattle.protocol.specs.Call.{fitPlain, fitTransfer}
 use Rattle.protocol.specs.Records.{readerOf}
@@ -42,17 +42,11 @@ cappedCode code = cond (leb code highestSize) code highestSize
 abbrev pub capped : Settings → Settings
 capped s = withTuning (s .baud) (s .level) (cappedCode (s .size)) s
 
--- the data bytes of the lowest code, and of the highest
-abbrev pub smallestSize : ℕ
-smallestSize = 32
-
-abbrev pub largestSize : ℕ
-largestSize = 128
-
+-- they are at least one, and at most a page
 pub record SizeOf (code r : ℕ) : Type 0 where
   pub is : r ≡ sizeOf (cappedCode code)
-  pub low : smallestSize ≤ r
-  pub high : r ≤ largestSize
+  pub low : 1 ≤ r
+  pub high : r ≤ pageBytes
 
 -- ---- legal settings
 

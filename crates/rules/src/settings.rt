@@ -109,13 +109,10 @@ pub fn is_locked(s: Settings) -> bool
 pub fn size_of(code: u8) -> usize
     ensures { λ r. ⌜ SizeOf code r ⌝ }
 {
-    if code == 0 {
-        return 32;
+    if numbers::HIGHEST_SIZE < code {
+        return numbers::SMALLEST_SIZE << numbers::HIGHEST_SIZE;
     }
-    if code == 1 {
-        return 64;
-    }
-    128
+    numbers::SMALLEST_SIZE << code
 }
 
 // Whether level, size code and baud factor are in their ranges.

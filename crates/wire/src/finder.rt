@@ -4,7 +4,7 @@ ghost use Prim.Native.Nat.{_+_, _%_, _<_};
 ghost use lib.ListN.{length};
 ghost use Rattle.protocol.specs.Numbers.{wrapsAt};
 ghost use Rattle.protocol.specs.Bytes.{wordAt};
-ghost use Rattle.protocol.specs.Packet.{isIdentifier, accepts};
+ghost use Rattle.protocol.specs.Packet.{isIdentifier, limit, accepts};
 ghost use Rattle.protocol.specs.Finder.{startOf, allBut, findOf, usedOf};
 ghost use Rattle.protocol.specs.Services.{usedService};
 use crate::bytes;
@@ -58,6 +58,19 @@ pub fn is_identifier(i: u8) -> bool
     }
 }
 
+// The largest length field of an identifier's packets.
+pub fn limit_of(i: u8) -> usize
+    ensures { λ r. ⌜ r ≡ limit i ⌝ }
+{
+    if i == numbers::DATA_PACKET {
+        return numbers::LONGEST;
+    }
+    if i == numbers::LAST_PACKET {
+        return numbers::LONGEST;
+    }
+    numbers::LONGEST_OTHER
+}
+
 // Whether a packet can have this identifier and this length field.
 pub fn is_head(i: u8, n: usize) -> bool
     ensures { λ r. ⌜ r ≡ accepts i n ⌝ }
@@ -67,7 +80,7 @@ pub fn is_head(i: u8, n: usize) -> bool
         if n < numbers::SHORTEST {
             return false;
         }
-        return n <= numbers::LONGEST;
+        return n <= limit_of(i);
     }
     false
 }

@@ -13,9 +13,9 @@ use Rattle.protocol.specs.declared.Start.{Start}
 use Rattle.protocol.specs.declared.Start.the-variants.{Nowhere, At}
 use Rattle.protocol.specs.declared.Found.{Found}
 use Rattle.protocol.specs.declared.Found.the-variants.{Noise, Unfinished, Unfit, Whole}
-use Rattle.protocol.specs.Numbers.{firstMark, secondMark, headBytes, frameBytes, fourBytes, shortest, longest}
+use Rattle.protocol.specs.Numbers.{firstMark, secondMark, headBytes, frameBytes, fourBytes, shortest, longest, longestOther}
 use Rattle.protocol.specs.Bytes.{two, byteAt}
-use Rattle.protocol.specs.Packet.{packet, isIdentifier, limit, accepts, addressAt, identifierAt, lengthAt, contentAt, endAt, rightAt}
+use Rattle.protocol.specs.Packet.{packet, isIdentifier, isData, limit, accepts, addressAt, identifierAt, lengthAt, contentAt, endAt, rightAt}
 use Rattle.protocol.specs.Finder.{marksAt, later, startOf, allBut, findFrom, findOf, usedOf}
 use Rattle.protocol.specs.Step.{hearAs, hearAt}
 use Rattle.protocol.proofs.Laws.Logic.{T→true, and-l, and-r, and-i, and-false}
@@ -31,18 +31,30 @@ pub accepts-least : (i n : ℕ) → T (accepts i n) → shortest ≤ n
 unfolding accepts
 accepts-least i n t = leb→le shortest n (search (and-l, and-r))
 
-pub accepts-most : (i n : ℕ) → T (accepts i n) → n ≤ longest
-unfolding accepts limit
-accepts-most i n t = leb→le n longest (search (and-r))
+pub accepts-limit : (i n : ℕ) → T (accepts i n) → n ≤ limit i
+unfolding accepts
+accepts-limit i n t = leb→le n (limit i) (search (and-r))
 
-pub accepts-of : (i n : ℕ) → T (isIdentifier i) → shortest ≤ n → n ≤ 256 → T (accepts i n)
-unfolding accepts limit longest
+pub accepts-of : (i n : ℕ) → T (isIdentifier i) → shortest ≤ n → n ≤ limit i → T (accepts i n)
+unfolding accepts
 accepts-of i n t l h =
-    and-i (isIdentifier i && leb shortest n) (leb n 256) (and-i (isIdentifier i) (leb shortest n) t (le→leb shortest n l)) (le→leb n 256 h)
+    and-i (isIdentifier i && leb shortest n) (leb n (limit i)) (and-i (isIdentifier i) (leb shortest n) t (le→leb shortest n l)) (le→leb n (limit i) h)
+
+-- no identifier has a longer packet
+limit-most : (i : ℕ) → limit i ≤ longest
+unfolding limit longest
+limit-most i = go (isData i)
+  where
+    go : (b : Bool) → cond b 258 longestOther ≤ 258
+    go true = omega arith
+    go false = omega arith
+
+pub accepts-most : (i n : ℕ) → T (accepts i n) → n ≤ longest
+accepts-most i n t = omega (arith, accepts-limit i n t, limit-most i)
 
 pub too-long : (i n : ℕ) → longest < n → accepts i n ≡ false
-unfolding accepts limit
-too-long i n h = and-false (isIdentifier i && leb shortest n) (leb n longest) (lt-leb n longest h)
+unfolding accepts
+too-long i n h = and-false (isIdentifier i && leb shortest n) (leb n (limit i)) (lt-leb n (limit i) (omega (arith, limit-most i)))
 
 -- a length field has two bytes
 pub longest-word : longest < 65536

@@ -30,7 +30,8 @@ unfolding sizeOf highestSize accepts isIdentifier limit longest
 sizes zero h = record { more = 15; count = refl; whole = refl; some = lit≤ tt; carries = tt; ends = tt; room = lit≤ tt }
 sizes (suc zero) h = record { more = 7; count = refl; whole = refl; some = lit≤ tt; carries = tt; ends = tt; room = lit≤ tt }
 sizes (suc (suc zero)) h = record { more = 3; count = refl; whole = refl; some = lit≤ tt; carries = tt; ends = tt; room = lit≤ tt }
-sizes (suc (suc (suc n))) h = absurd (omega arith)
+sizes (suc (suc (suc zero))) h = record { more = 1; count = refl; whole = refl; some = lit≤ tt; carries = tt; ends = tt; room = lit≤ tt }
+sizes (suc (suc (suc (suc n)))) h = absurd (omega arith)
 
 -- k packets of n bytes
 pub length-packets : (a : List ℕ) (k n : ℕ) (s : List ℕ) → length a ≡ fourBytes → length s ≡ k * n → length (joined (packets a k n s)) ≡ k * (n + frameBytes)

@@ -34,11 +34,11 @@ eager [] = true
 eager (t ∷ ts) = leb 1 (t .size) && eager ts
 
 module _ (σ : Shape) (ok : σ .most ≤ 8 * σ .indexed) where
-  -- a legal reader, and a receiver of 265 cells with at most as many held bytes
+  -- a legal reader, and a receiver of 267 cells with at most as many held bytes
   pub record Ready (x : Line) : Type 0 where
     pub legal : Legal σ ok (x .reader)
-    pub cells : length (x .receiver .held) ≡ 265
-    pub few : x .receiver .count ≤ 265
+    pub cells : length (x .receiver .held) ≡ 267
+    pub few : x .receiver .count ≤ 267
 
   module _ (x : Line) (k : Ready x) where
     few-holds : x .receiver .count ≤ holds
@@ -182,7 +182,7 @@ module _ (σ : Shape) (ok : σ .most ≤ 8 * σ .indexed) where
         stuck : length (fitting (x .receiver) piece) ≡ 0 → n ≡ 0 → 1 ≤ length s → goal
         stuck a z h =
             let big : 1 ≤ length piece = omega (arith, length-take (t .size) s, leb→le 1 (t .size) (and-l (leb 1 (t .size)) (eager ts) w)) in
-            let full : x .receiver .count ≡ 265 = none-fits σ (x .receiver) piece (k .few) big a in
+            let full : x .receiver .count ≡ 267 = none-fits σ (x .receiver) piece (k .few) big a in
             absurd (omega (arith, full-drops σ x piece (t .lent) (k .cells) e full, count-after σ x piece (t .lent) e, length-held σ x piece (t .lent) (k .cells) e))
 
         rest : length (fitting (x .receiver) piece) ≡ 0 → n ≡ 0 → Dec (1 ≤ length s) → goal

@@ -149,38 +149,38 @@ module _ (σ : Shape) where
       → Rests σ (offers σ ts x s) one → Rests σ (offers σ us x s) other → resting σ (offers σ ts x s) one ≡ resting σ (offers σ us x s) other
   cut-free x s ts us one other t u f g = rests-drained ts x s one t f ∙ sym (rests-drained us x s other u g)
 
-  -- ---- 265 cells are enough: a full receiver drops something, and a call that is offered a byte takes or drops one
+  -- ---- 267 cells are enough: a full receiver drops something, and a call that is offered a byte takes or drops one
 
-  waits-few : (s : List ℕ) → usedOf (findOf s) ≡ 0 → length s < 265
+  waits-few : (s : List ℕ) → usedOf (findOf s) ≡ 0 → length s < 267
   waits-few s z = go (found-waits s z)
     where
-      go : Waiting s → length s < 265
+      go : Waiting s → length s < 267
       go (inl e) = let m : length s ≡ 0 = ap (λ (y : List ℕ). length y) e in omega arith
       go (inr (inl e)) = let m : length s ≡ 1 = ap (λ (y : List ℕ). length y) e in omega arith
       go (inr (inr w)) = omega (arith, w .few)
 
   -- a call that is carried out leaves room for a byte
-  pub leaves-room : (x : Line) (piece : List ℕ) (lent : Lent) → receiveOf σ x piece lent .told .refusal ≡ 0 → receiveOf σ x piece lent .after .receiver .count ≤ 264
+  pub leaves-room : (x : Line) (piece : List ℕ) (lent : Lent) → receiveOf σ x piece lent .told .refusal ≡ 0 → receiveOf σ x piece lent .after .receiver .count ≤ 266
   unfolding holds longest
   leaves-room x piece lent e = go (decLe 1 (usedOf (findOf run)))
     where
       run : List ℕ
       run = runOf (x .receiver) piece
 
-      few : length run ≤ 265
+      few : length run ≤ 267
       few = few-held (x .receiver) piece (accepted σ x piece lent e .few)
 
-      go : Dec (1 ≤ usedOf (findOf run)) → receiveOf σ x piece lent .after .receiver .count ≤ 264
+      go : Dec (1 ≤ usedOf (findOf run)) → receiveOf σ x piece lent .after .receiver .count ≤ 266
       go (yes h) = omega (arith, few, count-after σ x piece lent e)
       go (no h) = let u : usedOf (findOf run) ≡ 0 = omega arith in omega (arith, count-after σ x piece lent e, waits-few run u)
 
   -- of a piece that has a byte, nothing fits: the receiver is full
-  pub none-fits : (h : Receiver) (piece : List ℕ) → h .count ≤ 265 → 1 ≤ length piece → length (fitting h piece) ≡ 0 → h .count ≡ 265
+  pub none-fits : (h : Receiver) (piece : List ℕ) → h .count ≤ 267 → 1 ≤ length piece → length (fitting h piece) ≡ 0 → h .count ≡ 267
   unfolding fitting holds longest
-  none-fits h piece l m e = omega (arith, length-take (265 - h .count) piece)
+  none-fits h piece l m e = omega (arith, length-take (267 - h .count) piece)
 
-  module _ (x : Line) (piece : List ℕ) (lent : Lent) (z : length (x .receiver .held) ≡ 265) (e : receiveOf σ x piece lent .told .refusal ≡ 0) where
-    few : x .receiver .count ≤ 265
+  module _ (x : Line) (piece : List ℕ) (lent : Lent) (z : length (x .receiver .held) ≡ 267) (e : receiveOf σ x piece lent .told .refusal ≡ 0) where
+    few : x .receiver .count ≤ 267
     unfolding holds longest
     few = accepted σ x piece lent e .few
 
@@ -189,7 +189,7 @@ module _ (σ : Shape) where
     length-held = omega (arith, length-run (x .receiver) piece, all-in (x .receiver) z few)
 
     -- a full receiver always drops something
-    pub full-drops : x .receiver .count ≡ 265 → receiveOf σ x piece lent .after .receiver .count < 265
+    pub full-drops : x .receiver .count ≡ 267 → receiveOf σ x piece lent .after .receiver .count < 267
     full-drops full = omega (arith, leaves-room x piece lent e)
 
     -- how a caller sees the end by two numbers: a call that takes nothing and leaves the held count
@@ -213,7 +213,7 @@ module _ (σ : Shape) where
         where
           go : Dec (1 ≤ length piece) → length piece ≡ 0
           go (yes h) =
-              let full : x .receiver .count ≡ 265 = none-fits (x .receiver) piece few h (ap (λ (y : List ℕ). length y) none) in
+              let full : x .receiver .count ≡ 267 = none-fits (x .receiver) piece few h (ap (λ (y : List ℕ). length y) none) in
               absurd (omega (arith, full-drops full))
           go (no h) = omega arith
 
@@ -242,7 +242,7 @@ module _ (σ : Shape) where
             leaves = ap (λ (y : Handed). bytesIn (y .after .receiver)) o ∙ in-holding (bytesIn (x .receiver));
           }
 
-      -- what stays held is nothing, a lone EF, or an unfinished packet of at most 264 bytes
+      -- what stays held is nothing, a lone EF, or an unfinished packet of at most 266 bytes
       pub holds-waiting : Waiting (take (x .receiver .count) (x .receiver .held))
       unfolding bytesIn
       holds-waiting = found-waits (bytesIn (x .receiver)) still

@@ -42,6 +42,7 @@ pub record Into (p : Plain) (filled : Bool) (got : ℕ) : Type 0 where
   pub size0 : p .size ≡ 0 → got % 32 ≡ 0
   pub size1 : p .size ≡ 1 → got % 64 ≡ 0
   pub size2 : p .size ≡ 2 → got % 128 ≡ 0
+  pub size3 : p .size ≡ 3 → got % 256 ≡ 0
   pub below : got < 512
   pub clear : filled ≡ false
   pub free : (p .password ≡ 0 ∷ 0 ∷ 0 ∷ 0 ∷ []) ⊎ (p .verified ≡ true)
@@ -53,10 +54,11 @@ LegalTransfer p g (opened false got) = Into p (g .buffer1 .filled) got
 LegalTransfer p g (opened true got) = Into p (g .buffer2 .filled) got
 LegalTransfer p g (unfit b k) = ⊥
 
--- "security level 1 to 5; size code 0 to 2; baud factor 1 to 12; sensor type, any 16-bit number"; the transfer; and no index bit at or above C
+-- "security level 1 to 5; size code 0 to 2; baud factor 1 to 12; sensor type, any 16-bit number", by request [3] size code 0 to 3; the transfer; and no
+-- index bit at or above C
 pub record Settled (r : Reader) : Type 0 where
   pub level : (1 ≤ r .plain .level) × (r .plain .level ≤ 5)
-  pub size : r .plain .size ≤ 2
+  pub size : r .plain .size ≤ 3
   pub baud : (1 ≤ r .plain .baud) × (r .plain .baud ≤ 12)
   pub sensor : r .plain .sensor < 65536
   pub transfer : LegalTransfer (r .plain) (r .guarded) (r .plain .transfer)
@@ -108,7 +110,7 @@ not-locked p = (go (same (p .password) (four 0)) (p .verified) refl refl, back)
     back (inl e) = rw (e, same-refl (four 0)) refl
     back (inr f) = rw f (and-false (keyed p) false refl)
 
-into : (p : Plain) (g : Guarded) (w : Bool) (got : ℕ) → p .size ≤ 2 → T (fitTransfer p g (opened w got)) ↔ Into p (bufferOf w g .filled) got
+into : (p : Plain) (g : Guarded) (w : Bool) (got : ℕ) → p .size ≤ 3 → T (fitTransfer p g (opened w got)) ↔ Into p (bufferOf w g .filled) got
 unfolding sizeOf
 into p g w got z = (to, from)
   where
@@ -119,21 +121,23 @@ into p g w got z = (to, from)
           size0 = λ e. rw e at (m .whole);
           size1 = λ e. rw e at (m .whole);
           size2 = λ e. rw e at (m .whole);
+          size3 = λ e. rw e at (m .whole);
           below = m .below;
           clear = m .unfilled;
           free = not-locked p .0 (m .free);
         }
 
-    whole : Into p (bufferOf w g .filled) got → (k : ℕ) → p .size ≡ k → k ≤ 2 → got % sizeOf k ≡ 0
+    whole : Into p (bufferOf w g .filled) got → (k : ℕ) → p .size ≡ k → k ≤ 3 → got % sizeOf k ≡ 0
     whole m zero e l = m .size0 e
     whole m (suc zero) e l = m .size1 e
     whole m (suc (suc zero)) e l = m .size2 e
-    whole m (suc (suc (suc k))) e l = absurd (omega arith)
+    whole m (suc (suc (suc zero))) e l = m .size3 e
+    whole m (suc (suc (suc (suc k)))) e l = absurd (omega arith)
 
     from : Into p (bufferOf w g .filled) got → T (fitTransfer p g (opened w got))
     from m = fit-opened p g w got (whole m (p .size) refl z) (m .below) (m .clear) (not-locked p .1 (m .free))
 
-transfer-means : (p : Plain) (g : Guarded) → p .size ≤ 2 → (t : Transfer) → T (fitTransfer p g t) ↔ LegalTransfer p g t
+transfer-means : (p : Plain) (g : Guarded) → p .size ≤ 3 → (t : Transfer) → T (fitTransfer p g t) ↔ LegalTransfer p g t
 unfolding fitTransfer bufferOf
 transfer-means p g z closed = (λ t. tt, λ t. tt)
 transfer-means p g z (opened false got) = into p g false got z
@@ -187,7 +191,7 @@ settings-mean r m = (to, from)
 
     to : T (sound r) → Settled r
     to t =
-        let z : r .plain .size ≤ 2 = leb→le (r .plain .size) 2 (search (and-l, and-r) depth 9) in
+        let z : r .plain .size ≤ 3 = leb→le (r .plain .size) 3 (search (and-l, and-r) depth 9) in
         record {
           level = (leb→le 1 (r .plain .level) (search (and-l, and-r) depth 9), leb→le (r .plain .level) 5 (search (and-l, and-r) depth 9));
           size = z;
@@ -201,7 +205,7 @@ settings-mean r m = (to, from)
     from s =
         let l1 = le→leb 1 (r .plain .level) (s .level .0) in
         let l2 = le→leb (r .plain .level) 5 (s .level .1) in
-        let z = le→leb (r .plain .size) 2 (s .size) in
+        let z = le→leb (r .plain .size) 3 (s .size) in
         let d1 = le→leb 1 (r .plain .baud) (s .baud .0) in
         let d2 = le→leb (r .plain .baud) 12 (s .baud .1) in
         let k = lt→ltb (r .plain .sensor) 65536 (s .sensor) in

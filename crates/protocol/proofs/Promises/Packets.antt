@@ -14,7 +14,7 @@ use Rattle.protocol.specs.Packet.{lengthOf, sumOf, packet, isIdentifier,
 use Rattle.protocol.specs.Data.{acknowledge}
 use Rattle.protocol.proofs.Laws.Logic.{T→false, and-l, and-r}
 use Rattle.protocol.proofs.Laws.Lists.{total-added}
-use Rattle.protocol.proofs.Laws.Finder.{accepts-of}
+use Rattle.protocol.proofs.Laws.Finder.{accepts-least, accepts-limit, accepts-most, accepts-of}
 
 -- identifier 1, 2, 7 or 8
 abbrev pub Identifier : ℕ → Type 0
@@ -37,16 +37,29 @@ identifier-means i = (to (eqb i 1) (eqb i 2) (eqb i 7) (eqb i 8) refl refl refl 
     from (inr (inr (inl e))) = rw e tt
     from (inr (inr (inr e))) = rw e tt
 
--- an identifier and a length field, 3 to 256, that a packet can have
+-- an identifier and a length field that a packet can have: request [3]'s "length 3 to 258 for identifiers 2 and 8; 1 and 7 keep 256"
 pub record Accepted (i n : ℕ) : Type 0 where
   pub identifier : Identifier i
   pub least : 3 ≤ n
-  pub most : n ≤ 256
+  pub most : n ≤ 258
+  pub kept : (i ≡ 1) ⊎ (i ≡ 7) → n ≤ 256
 
 pub accepts-means : (i n : ℕ) → T (accepts i n) ↔ Accepted i n
 unfolding accepts limit longest
-accepts-means i n =
-    (λ t. record { identifier = identifier-means i .0 (search (and-l)); least = leb→le 3 n (search (and-l, and-r)); most = leb→le n 256 (search (and-r)) }, λ a. accepts-of i n (identifier-means i .1 (a .identifier)) (a .least) (a .most))
+accepts-means i n = (to, λ a. accepts-of i n (identifier-means i .1 (a .identifier)) (a .least) (below a (a .identifier)))
+  where
+    keeps : n ≤ limit i → (i ≡ 1) ⊎ (i ≡ 7) → n ≤ 256
+    keeps h (inl e) = rw e at h
+    keeps h (inr e) = rw e at h
+
+    to : T (accepts i n) → Accepted i n
+    to t = record { identifier = identifier-means i .0 (search (and-l)); least = accepts-least i n t; most = accepts-most i n t; kept = keeps (accepts-limit i n t) }
+
+    below : Accepted i n → Identifier i → n ≤ limit i
+    below a (inl e) = rw e (a .kept (inl e))
+    below a (inr (inl e)) = rw e (a .most)
+    below a (inr (inr (inl e))) = rw e (a .kept (inr e))
+    below a (inr (inr (inr e))) = rw e (a .most)
 
 pub refuses-other : (i n : ℕ) → (Accepted i n → ⊥) → accepts i n ≡ false
 refuses-other i n k = T→false (accepts i n) (not-T (accepts i n) (λ t. k (accepts-means i n .0 t)))
@@ -77,11 +90,11 @@ module _ (a b c d i : ℕ) (content : List ℕ) where
   abbrev sum : ℕ
   sum = (i + n / 256 + n % 256 + foldr _+_ 0 content) % 65536
 
-  summed : length content ≤ 254 → sumOf i content ≡ sum
+  summed : length content ≤ 256 → sumOf i content ≡ sum
   unfolding sumOf two total
   summed h = let e : n / 256 % 256 ≡ n / 256 = omega arith in rw (e, total-added content) (ap (λ (m : ℕ). m % 65536) (omega arith))
 
-  pub packet-is : length content ≤ 254
+  pub packet-is : length content ≤ 256
       → packet (a ∷ b ∷ c ∷ d ∷ []) i content ≡ 0xef ∷ 0x01 ∷ a ∷ b ∷ c ∷ d ∷ i ∷ n / 256 ∷ n % 256 ∷ (content ++ (sum / 256 ∷ sum % 256 ∷ []))
   unfolding packet two
   packet-is h =

@@ -37,7 +37,7 @@ Hands x lent o (suc n) = Unused (lent .room) (bare o) (suc n) × (o .after ≡ x
 -- document 01's, and "held count above 265 is 3"
 abbrev pub receive-lines : Line → Lent → List Unless
 receive-lines x lent =
-    unless (Lengths (x .reader .guarded)) 1 ∷ unless (700 ≤ length (lent .room)) 2 ∷ unless (Settled (x .reader)) 3 ∷ unless (x .receiver .count ≤ 265) 3 ∷ []
+    unless (Lengths (x .reader .guarded)) 1 ∷ unless (700 ≤ length (lent .room)) 2 ∷ unless (Settled (x .reader)) 3 ∷ unless (x .receiver .count ≤ 267) 3 ∷ []
 
 module _ (x : Line) (piece : List ℕ) (lent : Lent) where
   hands : (n : ℕ) → Hands x lent (receiveAs core x piece lent n) n
@@ -45,9 +45,9 @@ module _ (x : Line) (piece : List ℕ) (lent : Lent) where
   hands zero = refl
   hands (suc n) = (record { refusal = refl; used = refl; length = refl; room = refl }, refl)
 
-  few : T (leb (x .receiver .count) holds) ↔ (x .receiver .count ≤ 265)
+  few : T (leb (x .receiver .count) holds) ↔ (x .receiver .count ≤ 267)
   unfolding holds longest
-  few = (leb→le (x .receiver .count) 265, le→leb (x .receiver .count) 265)
+  few = (leb→le (x .receiver .count) 267, le→leb (x .receiver .count) 267)
 
   -- in document 01's order
   pub receive-refusals : Follows (receive-lines x lent) (Hands x lent (receiveOf core x piece lent))
@@ -58,8 +58,8 @@ module _ (x : Line) (piece : List ℕ) (lent : Lent) where
       (receive-lines x lent) (Hands x lent (receiveOf core x piece lent))
       (lengths-mean (x .reader .guarded), (refl, λ m. (fit-room lent, (refl, λ u. (settings-mean (x .reader) m, (refl, λ k. (few, (refl, λ c. tt)))))))) (hands (receiveRefusal core x lent))
 
-  -- so, of a legal reader with at most 265 held bytes and a fit reply room, no call is refused
-  pub never-refused : Means (x .reader) → 700 ≤ length (lent .room) → x .receiver .count ≤ 265 → receiveOf core x piece lent .told .refusal ≡ 0
+  -- so, of a legal reader with at most 267 held bytes and a fit reply room, no call is refused
+  pub never-refused : Means (x .reader) → 700 ≤ length (lent .room) → x .receiver .count ≤ 267 → receiveOf core x piece lent .told .refusal ≡ 0
   never-refused m u c = receive-refusals .0 (m .lengths) .0 u .0 (m .settings) .0 c
 
 -- ---- a call that is carried out
@@ -68,20 +68,20 @@ module _ (x : Line) (piece : List ℕ) (lent : Lent) where
 pub record Takes (x : Line) (piece : List ℕ) (e : Ended) (o : Handed) : Type 0 where
   pub called : e .told .refusal ≡ 0
   -- "takes what fits of the piece", and says how many bytes
-  pub taken : o .told .used ≡ min (265 - x .receiver .count) (length piece)
+  pub taken : o .told .used ≡ min (267 - x .receiver .count) (length piece)
   -- how many are held then: all, but those used
-  pub count : o .after .receiver .count ≡ length (take (x .receiver .count) (x .receiver .held) ++ take (265 - x .receiver .count) piece) - e .told .used
+  pub count : o .after .receiver .count ≡ length (take (x .receiver .count) (x .receiver .held) ++ take (267 - x .receiver .count) piece) - e .told .used
   -- "does document 01's call": its reply, and its reader after it
   pub length : o .told .length ≡ e .told .length
   pub room : o .told .room ≡ e .told .room
   pub reader : o .after .reader ≡ e .after
   -- "and drops those used"
-  pub held : take (o .after .receiver .count) (o .after .receiver .held) ≡ drop (e .told .used) (take (x .receiver .count) (x .receiver .held) ++ take (265 - x .receiver .count) piece)
+  pub held : take (o .after .receiver .count) (o .after .receiver .held) ≡ drop (e .told .used) (take (x .receiver .count) (x .receiver .held) ++ take (267 - x .receiver .count) piece)
   -- every cell past the held bytes is zero, whatever it was
-  pub zero : drop (o .after .receiver .count) (o .after .receiver .held) ≡ replicate (265 - o .after .receiver .count) 0
+  pub zero : drop (o .after .receiver .count) (o .after .receiver .held) ≡ replicate (267 - o .after .receiver .count) 0
 
 pub takes-what-fits : (x : Line) (piece : List ℕ) (lent : Lent) → receiveOf core x piece lent .told .refusal ≡ 0
-    → Takes x piece (callOf core (x .reader) (take (x .receiver .count) (x .receiver .held) ++ take (265 - x .receiver .count) piece) lent) (receiveOf core x piece lent)
+    → Takes x piece (callOf core (x .reader) (take (x .receiver .count) (x .receiver .held) ++ take (267 - x .receiver .count) piece) lent) (receiveOf core x piece lent)
 unfolding handed carried bytesIn fitting runOf holding holds longest
 takes-what-fits x piece lent e =
     let c : Carried core x piece lent = accepted core x piece lent e in
@@ -90,7 +90,7 @@ takes-what-fits x piece lent e =
     rw (c .does, call-legal core (x .reader) run lent (c .legal) (c .roomy))
     record {
       called = refl;
-      taken = length-take (265 - x .receiver .count) piece;
+      taken = length-take (267 - x .receiver .count) piece;
       count = length-drop (stepOf (x .reader) run .used) run;
       length = refl;
       room = refl;
@@ -106,11 +106,11 @@ pub data Deals (run : List ℕ) (r : Reader) (lent : Lent) (o : Handed) : Type 0
   one : (p n : ℕ) → WholeAt run p n → take (o .after .receiver .count) (o .after .receiver .held) ≡ drop (p + 9 + n) run → Deals run r lent o
 
 pub deals-with-one : (x : Line) (piece : List ℕ) (lent : Lent) → receiveOf core x piece lent .told .refusal ≡ 0
-    → Deals (take (x .receiver .count) (x .receiver .held) ++ take (265 - x .receiver .count) piece) (x .reader) lent (receiveOf core x piece lent)
+    → Deals (take (x .receiver .count) (x .receiver .held) ++ take (267 - x .receiver .count) piece) (x .reader) lent (receiveOf core x piece lent)
 deals-with-one x piece lent e = go (findOf run) refl
   where
     run : List ℕ
-    run = take (x .receiver .count) (x .receiver .held) ++ take (265 - x .receiver .count) piece
+    run = take (x .receiver .count) (x .receiver .held) ++ take (267 - x .receiver .count) piece
 
     call : Ended
     call = callOf core (x .reader) run lent
@@ -143,7 +143,7 @@ deals-with-one x piece lent e = go (findOf run) refl
 abbrev pub Empties : Line → Handed → ℕ → Type 0
 Empties x o zero =
     Unused [] (bare o) 0
-    × ((o .after .reader ≡ switchOf (x .reader) .after) × ((o .after .receiver .count ≡ 0) × (o .after .receiver .held ≡ replicate 265 0)))
+    × ((o .after .reader ≡ switchOf (x .reader) .after) × ((o .after .receiver .count ≡ 0) × (o .after .receiver .held ≡ replicate 267 0)))
 Empties x o (suc n) = Unused [] (bare o) (suc n) × (o .after ≡ x)
 
 module _ (x : Line) where

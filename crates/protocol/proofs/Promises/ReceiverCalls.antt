@@ -37,26 +37,26 @@ unfolding handed
 as-handed x piece e zero z = record { refusal = sym z; length = refl; room = refl; reader = refl }
 as-handed x piece e (suc k) z = record { refusal = refl; length = refl; room = refl; reader = refl }
 
-module _ (σ : Shape) (x : Line) (few : x .receiver .count ≤ 265) (piece : List ℕ) (lent : Lent) where
+module _ (σ : Shape) (x : Line) (few : x .receiver .count ≤ 267) (piece : List ℕ) (lent : Lent) where
   pub as-call : AsCall (callOf σ (x .reader) (runOf (x .receiver) piece) lent) (receiveOf σ x piece lent)
   unfolding holds longest
   as-call =
       let e : Ended = callOf σ (x .reader) (runOf (x .receiver) piece) lent in
-      rw (receive-call σ x piece lent (T→true (leb (x .receiver .count) 265) (le→leb (x .receiver .count) 265 few))) (as-handed x piece e (e .told .refusal) refl)
+      rw (receive-call σ x piece lent (T→true (leb (x .receiver .count) 267) (le→leb (x .receiver .count) 267 few))) (as-handed x piece e (e .told .refusal) refl)
 
   -- and no more is held than the cells have
-  pub stays-few : receiveOf σ x piece lent .after .receiver .count ≤ 265
+  pub stays-few : receiveOf σ x piece lent .after .receiver .count ≤ 267
   unfolding handed carried holding holds longest
   stays-few =
-      receive-kinds σ x piece lent (λ (o : Handed). o .after .receiver .count ≤ 265) (λ k. few)
+      receive-kinds σ x piece lent (λ (o : Handed). o .after .receiver .count ≤ 267) (λ k. few)
       (λ t u l.
       let run : List ℕ = runOf (x .receiver) piece in
       omega (arith, length-drop (stepOf (x .reader) run .used) run, few-held (x .receiver) piece l))
 
 module _ (x : Line) where
-  switch-few : x .receiver .count ≤ 265 → lineSwitchOf x .after .receiver .count ≤ 265
+  switch-few : x .receiver .count ≤ 267 → lineSwitchOf x .after .receiver .count ≤ 267
   unfolding holding
-  switch-few few = switch-kinds x (λ (o : Handed). o .after .receiver .count ≤ 265) (λ k e. few) (λ e. omega arith)
+  switch-few few = switch-kinds x (λ (o : Handed). o .after .receiver .count ≤ 267) (λ k e. few) (λ e. omega arith)
 
   switch-reader : lineSwitchOf x .after .reader ≡ switchOf (x .reader) .after
   switch-reader =
@@ -65,7 +65,7 @@ module _ (x : Line) where
 
 -- ---- any sequence of pieces and line switches
 
-pub as-calls : (σ : Shape) (es : List Event) (x : Line) → x .receiver .count ≤ 265 → finallyOn σ x es .reader ≡ finally σ (x .reader) (runs σ x es)
+pub as-calls : (σ : Shape) (es : List Event) (x : Line) → x .receiver .count ≤ 267 → finallyOn σ x es .reader ≡ finally σ (x .reader) (runs σ x es)
 unfolding finallyOn onLine runs finally on
 as-calls σ [] x few = refl
 as-calls σ (received piece lent ∷ es) x few =
@@ -80,7 +80,7 @@ pub record AsDialogue (σ : Shape) (x : Line) (d : Talk) (e : Dialogue) : Type 0
   pub events : runs σ x (d .events) ≡ e .events
   pub last : d .last .reader ≡ e .last
 
-pub as-dialogue : (σ : Shape) (es : List Event) (x : Line) → x .receiver .count ≤ 265 → AsDialogue σ x (talk σ x es) (dialogue σ (x .reader) (runs σ x es))
+pub as-dialogue : (σ : Shape) (es : List Event) (x : Line) → x .receiver .count ≤ 267 → AsDialogue σ x (talk σ x es) (dialogue σ (x .reader) (runs σ x es))
 unfolding talk onLine endsAt begins runs dialogue on over first
 as-dialogue σ [] x few = record { events = refl; last = refl }
 as-dialogue σ (received piece lent ∷ es) x few =
@@ -120,17 +120,17 @@ as-dialogue σ (switch ∷ es) x few =
     go false i = record { events = ap (λ (y : List Event). switch ∷ y) (i .events); last = i .last }
 
 -- demand 2's valid count, of the runs that were held and the replies to them
-pub line-count : (σ : Shape) (ok : σ .most ≤ 8 * σ .indexed) (x : Line) → x .receiver .count ≤ 265 → x .reader .guarded .index ≡ zeros (σ .indexed) → (es : List Event)
+pub line-count : (σ : Shape) (ok : σ .most ≤ 8 * σ .indexed) (x : Line) → x .receiver .count ≤ 267 → x .reader .guarded .index ≡ zeros (σ .indexed) → (es : List Event)
     → setBits (finallyOn σ x es .reader .guarded .index) ≡ livePages σ ok (x .reader) (runs σ x es)
 line-count σ ok x few z es =
     ap (λ (r : Reader). setBits (r .guarded .index)) (as-calls σ es x few) ∙ valid-count σ ok (x .reader) z (runs σ x es)
 
 -- request [2]'s "Stored settings keep their own code", where no run that was held asks for parameter 6
-pub line-code : (σ : Shape) (x : Line) → x .receiver .count ≤ 265 → (es : List Event) → Unset σ (x .reader) (runs σ x es)
+pub line-code : (σ : Shape) (x : Line) → x .receiver .count ≤ 267 → (es : List Event) → Unset σ (x .reader) (runs σ x es)
     → finallyOn σ x es .reader .plain .size ≡ x .reader .plain .size
 line-code σ x few es u = ap (λ (r : Reader). r .plain .size) (as-calls σ es x few) ∙ code-kept σ (runs σ x es) (x .reader) u
 
 -- the reply never exceeds the reply room that is asked for
-pub line-fits : (σ : Shape) (ok : σ .most ≤ 8 * σ .indexed) (x : Line) → x .receiver .count ≤ 265 → Legal σ ok (x .reader) → (piece : List ℕ) (lent : Lent)
+pub line-fits : (σ : Shape) (ok : σ .most ≤ 8 * σ .indexed) (x : Line) → x .receiver .count ≤ 267 → Legal σ ok (x .reader) → (piece : List ℕ) (lent : Lent)
     → receiveOf σ x piece lent .told .length ≤ 700
 line-fits σ ok x few l piece lent = rw (as-call σ x few piece lent .length) (reply-fits σ ok (x .reader) l (runOf (x .receiver) piece) lent)

@@ -2,7 +2,7 @@
 -- Document 01's "Numbers a caller gets back", each as a table of lines: the first that does not hold gives its number, and where all hold the
 -- call is carried out.
 use mathlib.Core.Path.{_≡_, refl}
-use mathlib.Core.Logic.{_↔_}
+use mathlib.Core.Logic.{_⊎_, _↔_}
 use mathlib.Core.List.{List, [], _∷_}
 use Prim.Native.Nat.{ℕ, zero, suc, _+_, _≤_}
 use native.Mathlib.Omega.{arith}
@@ -97,15 +97,22 @@ abbrev pub Builds : List ℕ → List ℕ → Made → ℕ → Type 0
 Builds c lent m zero = (m .refusal ≡ 0) × ((m .length ≡ length c + 11) × (drop (length c + 11) (m .room) ≡ drop (length c + 11) lent))
 Builds c lent m (suc n) = (m .refusal ≡ suc n) × ((m .length ≡ 0) × (m .room ≡ lent))
 
--- "4: builder only: identifier not 1, 2, 7, 8, or content not 1 to 254 bytes"; "2: .. for the builder, below content + 11"
+-- an identifier, and how many bytes of content a packet of it can have: 1 to 256 for identifiers 2 and 8 (request [3]), 1 to 254 for 1 and 7
+pub record Contained (i n : ℕ) : Type 0 where
+  pub identifier : Identifier i
+  pub least : 1 ≤ n
+  pub most : n ≤ 256
+  pub kept : (i ≡ 1) ⊎ (i ≡ 7) → n ≤ 254
+
+-- "4: builder only: identifier not 1, 2, 7, 8, or content not" so many bytes; "2: .. for the builder, below content + 11"
 abbrev pub build-lines : ℕ → List ℕ → List ℕ → List Line
-build-lines i c room = unless (Identifier i × ((1 ≤ length c) × (length c ≤ 254))) 4 ∷ unless (length c + 11 ≤ length room) 2 ∷ []
+build-lines i c room = unless (Contained i (length c)) 4 ∷ unless (length c + 11 ≤ length room) 2 ∷ []
 
 module _ (a : List ℕ) (i : ℕ) (c room : List ℕ) (four : length a ≡ 4) where
-  contents : T (accepts i (lengthOf c)) ↔ (Identifier i × ((1 ≤ length c) × (length c ≤ 254)))
+  contents : T (accepts i (lengthOf c)) ↔ Contained i (length c)
   contents = (
-    λ t. (let a = accepts-means i (lengthOf c) .0 t in (a .identifier, (omega (arith, a .least), omega (arith, a .most)))),
-    λ m. accepts-means i (lengthOf c) .1 record { identifier = m .0; least = omega (arith, m .1 .0); most = omega (arith, m .1 .1) },
+    λ t. (let a = accepts-means i (lengthOf c) .0 t in record { identifier = a .identifier; least = omega (arith, a .least); most = omega (arith, a .most); kept = λ o. omega (arith, a .kept o) }),
+    λ m. accepts-means i (lengthOf c) .1 record { identifier = m .identifier; least = omega (arith, m .least); most = omega (arith, m .most); kept = λ o. omega (arith, m .kept o) },
   )
 
   built : (n : ℕ) → Builds c room (buildAs (packet a i c) room n) n

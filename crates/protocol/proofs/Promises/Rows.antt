@@ -26,7 +26,7 @@ use Rattle.protocol.proofs.Promises.Told.{Replies, Says, answered, page
 
 -- the range of a parameter: 4 is the baud factor, 5 the level, 6 the size code
 abbrev pub InRange : ℕ → ℕ → Type 0
-InRange k v = (k ≡ 4 → (1 ≤ v) × (v ≤ 12)) × ((k ≡ 5 → (1 ≤ v) × (v ≤ 5)) × (k ≡ 6 → v ≤ 2))
+InRange k v = (k ≡ 4 → (1 ≤ v) × (v ≤ 12)) × ((k ≡ 5 → (1 ≤ v) × (v ≤ 5)) × (k ≡ 6 → v ≤ 3))
 
 -- the table: of the reader t, unless this holds, that code
 abbrev pub lines : Reader → Barred → List Line
@@ -84,7 +84,7 @@ range : (k v : ℕ) → (k ≡ 4) ⊎ ((k ≡ 5) ⊎ (k ≡ 6)) → T (inRange k
 unfolding inRange highestSize
 range k v (inl e) = rw e (λ t. (λ x. between 1 v 12 .0 t, (λ x. absurd (omega arith), λ x. absurd (omega arith))), λ h. between 1 v 12 .1 (h .0 refl))
 range k v (inr (inl e)) = rw e (λ t. (λ x. absurd (omega arith), (λ x. between 1 v 5 .0 t, λ x. absurd (omega arith))), λ h. between 1 v 5 .1 (h .1 .0 refl))
-range k v (inr (inr e)) = rw e (λ t. (λ x. absurd (omega arith), (λ x. absurd (omega arith), λ x. leb→le v 2 t)), λ h. le→leb v 2 (h .1 .1 refl))
+range k v (inr (inr e)) = rw e (λ t. (λ x. absurd (omega arith), (λ x. absurd (omega arith), λ x. leb→le v 3 t)), λ h. le→leb v 3 (h .1 .1 refl))
 
 -- ---- the statement
 

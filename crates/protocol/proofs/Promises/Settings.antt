@@ -64,13 +64,13 @@ module _ (σ : Shape) (r : Reader) (s : List ℕ) (lent : Lent) (f : T (legal σ
   unfolding carryAs follow rule apply inRange withParameter withTuning within
   sets-level v h m n = given (setSysPara 5 v) h (range 1 v 5 m n)
 
-  -- 6 the size code, 0 to 2
-  pub sets-size : (v : ℕ) → Asks (setSysPara 6 v) → v ≤ 2
+  -- 6 the size code, 0 to 3
+  pub sets-size : (v : ℕ) → Asks (setSysPara 6 v) → v ≤ 3
       → Ends (p .address) []
       record { password = p .password; address = p .address; level = p .level; size = v; baud = p .baud; sensor = p .sensor; verified = p .verified; transfer = p .transfer }
       g
   unfolding carryAs follow rule apply inRange withParameter withTuning within highestSize
-  sets-size v h m = given (setSysPara 6 v) h (and-i (leb v 2) true (le→leb v 2 m) tt)
+  sets-size v h m = given (setSysPara 6 v) h (and-i (leb v 3) true (le→leb v 3 m) tt)
 
   -- ReadSysPara: 16 bytes: status, type, C, level, address, size code, baud factor; the status word is 4 if the verified mark is set, otherwise 0
   pub reads-parameters : Asks readSysPara

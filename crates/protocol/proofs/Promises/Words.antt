@@ -8,7 +8,7 @@ use native.Mathlib.Omega.{arith}
 use lib.Dec.{T, eqb, T-not, not-T}
 use borrow.Author.Tests.{eqb-true, eq-eqb}
 use lib.ListN.{length, getD, take, replicate}
-use Rattle.protocol.specs.Numbers.{pageBytes, leastPages, mostPages, indexBytes, indexPageBytes, notepadBytes, noteBytes, replyRoom, fourBytes, lowestLevel, highestLevel, lowestBaud, highestBaud, highestSize, baudParameter, levelParameter, sizeParameter, verifiedStatus, firstMark, secondMark, headBytes, frameBytes, commandPacket, dataPacket, acknowledgePacket, lastPacket, shortest, longest, holds, done, badPacket, badPage, nothingThere, nothingToSend, transferFailed, badRange, wrongPassword, unknownCommand, badParameter, badValue, badNotePage, passwordFirst, badLength, badRoom, badSetting, badContent, noCount}
+use Rattle.protocol.specs.Numbers.{pageBytes, leastPages, mostPages, indexBytes, indexPageBytes, notepadBytes, noteBytes, replyRoom, fourBytes, lowestLevel, highestLevel, lowestBaud, highestBaud, highestSize, baudParameter, levelParameter, sizeParameter, verifiedStatus, firstMark, secondMark, headBytes, frameBytes, commandPacket, dataPacket, acknowledgePacket, lastPacket, shortest, longest, longestOther, holds, done, badPacket, badPage, nothingThere, nothingToSend, transferFailed, badRange, wrongPassword, unknownCommand, badParameter, badValue, badNotePage, passwordFirst, badLength, badRoom, badSetting, badContent, noCount}
 use Rattle.protocol.specs.Bytes.{Bytes, two, four, same, lay, joined}
 use Rattle.protocol.specs.Index.{bit, stored, setBits}
 use Rattle.protocol.specs.Reader.{closed, opened, unfit, Plain, Guarded, capacity, sizeOf, keyed, locked, bufferOf, emptied, filledWith, fresh, zeroed}
@@ -26,12 +26,12 @@ pub record Numbers : Type 0 where
   pub memory :
       (pageBytes ∷ leastPages ∷ mostPages ∷ indexBytes ∷ indexPageBytes ∷ notepadBytes ∷ noteBytes ∷ replyRoom ∷ fourBytes ∷ [])
       ≡ (512 ∷ 1 ∷ 256 ∷ 32 ∷ 32 ∷ 512 ∷ 32 ∷ 700 ∷ 4 ∷ [])
-  -- level 1 to 5, baud factor 1 to 12, size code up to 2
-  pub ranges : (lowestLevel ∷ highestLevel ∷ lowestBaud ∷ highestBaud ∷ highestSize ∷ []) ≡ (1 ∷ 5 ∷ 1 ∷ 12 ∷ 2 ∷ [])
+  -- level 1 to 5, baud factor 1 to 12, size code up to 3
+  pub ranges : (lowestLevel ∷ highestLevel ∷ lowestBaud ∷ highestBaud ∷ highestSize ∷ []) ≡ (1 ∷ 5 ∷ 1 ∷ 12 ∷ 3 ∷ [])
   pub parameters : (baudParameter ∷ levelParameter ∷ sizeParameter ∷ verifiedStatus ∷ []) ≡ (4 ∷ 5 ∷ 6 ∷ 4 ∷ [])
   pub refusals : (badLength ∷ badRoom ∷ badSetting ∷ badContent ∷ noCount ∷ []) ≡ (1 ∷ 2 ∷ 3 ∷ 4 ∷ 0xffff ∷ [])
-  -- the last is what a receiver holds
-  pub packets : (firstMark ∷ secondMark ∷ headBytes ∷ frameBytes ∷ shortest ∷ longest ∷ holds ∷ []) ≡ (0xef ∷ 0x01 ∷ 9 ∷ 11 ∷ 3 ∷ 256 ∷ 265 ∷ [])
+  -- the length field's limits, 3, 258 for identifiers 2 and 8, 256 for 1 and 7; the last is what a receiver holds
+  pub packets : (firstMark ∷ secondMark ∷ headBytes ∷ frameBytes ∷ shortest ∷ longest ∷ longestOther ∷ holds ∷ []) ≡ (0xef ∷ 0x01 ∷ 9 ∷ 11 ∷ 3 ∷ 258 ∷ 256 ∷ 267 ∷ [])
   pub identifiers : (commandPacket ∷ dataPacket ∷ acknowledgePacket ∷ lastPacket ∷ []) ≡ (1 ∷ 2 ∷ 7 ∷ 8 ∷ [])
   pub codes :
       (done ∷ badPacket ∷ badPage ∷ nothingThere ∷ nothingToSend ∷ transferFailed ∷ badRange ∷ wrongPassword ∷ unknownCommand ∷ badParameter ∷ badValue ∷ badNotePage ∷ passwordFirst ∷ [])
@@ -97,8 +97,8 @@ pub record Kept : Type 0 where
             };
         guarded = record { templates = t; index = i; notepad = n; buffer1 = record { bytes = b; filled = false }; buffer2 = record { bytes = d; filled = false } };
       }
-  -- size codes 0, 1, 2 mean 32, 64, 128 data bytes
-  pub sizes : (sizeOf 0 ∷ sizeOf 1 ∷ sizeOf 2 ∷ []) ≡ (32 ∷ 64 ∷ 128 ∷ [])
+  -- size codes 0, 1, 2, 3 mean 32, 64, 128, 256 data bytes
+  pub sizes : (sizeOf 0 ∷ sizeOf 1 ∷ sizeOf 2 ∷ sizeOf 3 ∷ []) ≡ (32 ∷ 64 ∷ 128 ∷ 256 ∷ [])
   -- locked: password not zero and verified mark clear
   pub keyed-means : (p : Plain) → T (keyed p) ↔ (p .password ≢ 0 ∷ 0 ∷ 0 ∷ 0 ∷ [])
   pub locked-means : (p : Plain) → T (locked p) ↔ ((p .password ≢ 0 ∷ 0 ∷ 0 ∷ 0 ∷ []) × (p .verified ≡ false))

@@ -1,4 +1,5 @@
 -- Document 01: "So, refusals apart, 0 bytes used means that the run is empty, a lone EF, or an unfinished packet of at most 264 bytes."
+-- Request [3]: "the longest unfinished packet grows to 266".
 use mathlib.Core.Path.{_≡_, refl, ap}
 use mathlib.Core.Logic.{_⊎_, inl, inr, _≢_}
 use mathlib.Core.List.{List, [], _∷_}
@@ -18,7 +19,7 @@ use Rattle.protocol.proofs.Promises.Finding.{Marks, First, lengthField,
 pub record UnfinishedPacket (s : List ℕ) : Type 0 where
   pub starts : Marks s 0
   pub short : (length s < 9) ⊎ (Accepted (getD s 6 0) (lengthField s 0) × (length s < 9 + lengthField s 0))
-  pub few : length s ≤ 264
+  pub few : length s ≤ 266
 
 -- the three runs of which nothing is used
 abbrev pub Waiting : List ℕ → Type 0

@@ -7,7 +7,7 @@ use lib.ListN.{length, take}
 use Rattle.protocol.specs.declared.Built.{Built}
 use Rattle.protocol.specs.Numbers.{fourBytes, frameBytes, replyRoom, acknowledgePacket}
 use Rattle.protocol.specs.Bytes.{lay}
-use Rattle.protocol.specs.Packet.{packet, isIdentifier, buildOf}
+use Rattle.protocol.specs.Packet.{packet, buildOf}
 use Rattle.protocol.specs.Data.{acknowledge}
 use Rattle.protocol.specs.Records.{madeOf}
 use Rattle.reader.specs.declared.answers.Answer.{Answer}
@@ -22,8 +22,7 @@ use Rattle.reader.proofs.reply.put_acknowledge.Tie as tie
 module _ (a : Answer) (y y′ : List ℕ) (m : Built) (four : length (a .settings .address) ≡ fourBytes) (room : replyRoom ≤ length y) where
   module _ (z : a .count ≡ 0) (e : madeOf m y′ ≡ buildOf (a .settings .address) acknowledgePacket (a .code ∷ []) y) where
     alone : (m .length ≡ length (a .code ∷ []) + frameBytes) × (y′ ≡ lay 0 (packet (a .settings .address) acknowledgePacket (a .code ∷ [])) y)
-    unfolding isIdentifier
-    alone = front-packet (a .settings .address) acknowledgePacket (a .code ∷ []) y y′ m four (accepted acknowledgePacket (a .code ∷ []) refl (omega arith) (omega arith)) (omega arith) e
+    alone = front-packet (a .settings .address) acknowledgePacket (a .code ∷ []) y y′ m four (accepted (a .code ∷ []) (omega arith) (omega arith)) (omega arith) e
 
     alone-long : m .length ≡ a .count + 1 + frameBytes
     alone-long = alone .0 ∙ omega (arith, z)
@@ -38,10 +37,9 @@ module _ (a : Answer) (y y′ : List ℕ) (m : Built) (four : length (a .setting
     long = length-take-le (a .count + 1) x (omega arith)
 
     listed : (m .length ≡ length (take (a .count + 1) x) + frameBytes) × (y′ ≡ lay 0 (packet (a .settings .address) acknowledgePacket (take (a .count + 1) x)) y)
-    unfolding isIdentifier
     listed =
         front-packet (a .settings .address) acknowledgePacket (take (a .count + 1) x) y y′ m four
-        (accepted acknowledgePacket (take (a .count + 1) x) refl (omega (arith, long)) (omega (arith, long))) (omega (arith, long)) e
+        (accepted (take (a .count + 1) x) (omega (arith, long)) (omega (arith, long))) (omega (arith, long)) e
 
     listed-long : m .length ≡ a .count + 1 + frameBytes
     listed-long = listed .0 ∙ omega (arith, long)

@@ -9,17 +9,16 @@ use borrow.Rule.Slice.PartMut.{putMid}
 use Rattle.protocol.specs.declared.Built.{Built}
 use Rattle.protocol.specs.Numbers.{fourBytes, frameBytes}
 use Rattle.protocol.specs.Bytes.{lay}
-use Rattle.protocol.specs.Packet.{packet, isIdentifier, buildOf}
+use Rattle.protocol.specs.Packet.{lengthOf, packet, accepts, buildOf}
 use Rattle.protocol.specs.Records.{madeOf}
-use Rattle.reader.specs.Answers.{contentBytes}
-use Rattle.reader.proofs.Replies.{accepted, part-packet}
+use Rattle.reader.proofs.Replies.{part-packet}
 use borrow.Author.Needs.{needs}
 use Rattle.reader.proofs.reply.put_packet.Statement.{statement}
 use Rattle.reader.proofs.reply.put_packet.Tie as tie
 
-laid : (a c xs ys : List ℕ) (i at : ℕ) (m : Built) → length a ≡ fourBytes → isIdentifier i ≡ true → 1 ≤ length c → length c ≤ contentBytes → at + length c + frameBytes ≤ length xs
+laid : (a c xs ys : List ℕ) (i at : ℕ) (m : Built) → length a ≡ fourBytes → accepts i (lengthOf c) ≡ true → at + length c + frameBytes ≤ length xs
     → madeOf m ys ≡ buildOf a i c (take (at + length c + frameBytes - at) (drop at xs)) → putMid at (at + length c + frameBytes - at) xs ys ≡ lay at (packet a i c) xs
-laid a c xs ys i at m four k l h r e = part-packet a i c xs ys m at four (accepted i c k l h) r e
+laid a c xs ys i at m four k r e = part-packet a i c xs ys m at four (rw k tt) r e
 
 add-e : tie.Need-add-e
 add-e c = search needs

@@ -1,12 +1,14 @@
 -- A buffer is a whole number of packets of each size, and they fit the room.
 use mathlib.Core.Path.{_≡_, sym, _∙_}
+use mathlib.Core.Bool.{true}
 use mathlib.Core.List.{List}
 use Prim.Native.Nat.{ℕ, _+_, _*_, _/_, _≤_}
 use native.Mathlib.Omega.{arith}
 use lib.ListN.{length}
 use borrow.Author.Needs.{needs}
-use Rattle.protocol.specs.Numbers.{pageBytes, fourBytes, highestSize, frameBytes}
+use Rattle.protocol.specs.Numbers.{pageBytes, fourBytes, highestSize, frameBytes, dataPacket, lastPacket}
 use Rattle.protocol.specs.Bytes.{lay, joined}
+use Rattle.protocol.specs.Packet.{accepts}
 use Rattle.protocol.specs.Reader.{sizeOf}
 use Rattle.protocol.specs.Data.{packets, dataPackets}
 use Rattle.protocol.proofs.Laws.Sizes.{length-packets}
@@ -18,6 +20,12 @@ use Rattle.reader.proofs.reply.send.Statement.{statement}
 use Rattle.reader.proofs.reply.send.Tie as tie
 
 module _ (code z : ℕ) (e : SizeOf code z) (l : code ≤ highestSize) (x : List ℕ) (h : length x ≡ pageBytes) where
+  carries : accepts dataPacket (z + 2) ≡ true
+  carries = rw (size-legal code z e l) (code-size code l .carries)
+
+  ends : accepts lastPacket (z + 2) ≡ true
+  ends = rw (size-legal code z e l) (code-size code l .ends)
+
   all : length x ≡ pageBytes / z * z
   all = rw (size-legal code z e l) (h ∙ sym (code-size code l .all))
 
@@ -43,7 +51,7 @@ div-k : tie.Need-div-k
 div-k c = search needs
 
 put-data-requires : tie.Need-put-data-requires
-put-data-requires c κs = (omega arith, (omega arith, (search all, search fits)))
+put-data-requires c κs = (search carries, (search ends, (search all, search fits)))
 
 same-length : tie.Need-same-length
 same-length c = search needs
