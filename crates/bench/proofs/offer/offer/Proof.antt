@@ -46,7 +46,7 @@ returns c =
     let s = start (called c) in
     let p : length (s .args .settings .password) ≡ fourBytes = search (needs, s .good) in
     let a : length (s .args .settings .address) ≡ fourBytes = search (needs, s .good) in
-    let h : length (s .args .receiver .held) ≡ 265 = search (needs, s .good) in
+    let h : length (s .args .receiver .held) ≡ 267 = search (needs, s .good) in
     search offer-within
 
 pub offer-spec : {M : Type 1} → statement M
