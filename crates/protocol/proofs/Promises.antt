@@ -33,6 +33,7 @@ pub mod ComesToRest
 pub mod ReceiverLock
 pub mod ReceiverCalls
 pub mod InPieces
+pub mod LongData
 pub mod ReceiverExample
 pub mod Met
 pub mod Examples

@@ -2,8 +2,10 @@
 -- itself or send 128", and otherwise gets 0Eh.
 use mathlib.Core.Bool.{Bool, true, false, cond}
 use mathlib.Core.Path.{_≡_, refl, sym, ap, ap₂, _∙_, subst}
+use mathlib.Core.Logic.{_≢_}
 use mathlib.Core.List.{List, [], _∷_, map}
-use Prim.Native.Nat.{ℕ, zero, suc, _*_, _/_}
+use Prim.Native.Nat.{ℕ, zero, suc, _+_, _*_, _/_, _≤_}
+use native.Mathlib.Nat.{suc-mul}
 use native.Mathlib.Omega.{arith}
 use lib.Dec.{T, eqb, lit≤}
 use lib.ListN.{length, take, drop, length-drop, replicate}
@@ -42,11 +44,11 @@ sizePacket v = packet A 0x01 (0x0e ∷ 6 ∷ v ∷ [])
 abbrev pub full : List ℕ → Buffer
 full s = record { bytes = s; filled = true }
 
--- fresh settings, but for size code 1
-abbrev pub withCode1 : Guarded → Reader
-withCode1 g =
+-- fresh settings, but for the size code v
+abbrev pub withCode : ℕ → Guarded → Reader
+withCode v g =
     record {
-      plain = record { password = 0 ∷ 0 ∷ 0 ∷ 0 ∷ []; address = A; level = 3; size = 1; baud = 6; sensor = 0; verified = false; transfer = closed };
+      plain = record { password = 0 ∷ 0 ∷ 0 ∷ 0 ∷ []; address = A; level = 3; size = v; baud = 6; sensor = 0; verified = false; transfer = closed };
       guarded = g;
     }
 
@@ -55,10 +57,14 @@ unfolding packets
 counted zero n s = refl
 counted (suc k) n s = ap suc (counted k n (drop n s))
 
-heard-64 : (a : List ℕ) → a ≡ A → (last : Bool) (c : List ℕ) → length c ≡ 64 → hear a (packet A (cond last lastPacket dataPacket) c) ≡ piece last true c
-unfolding hearAs accepts limit isIdentifier longest
-heard-64 a home true c one = rw home (heard-packet A lastPacket c refl (rw one tt))
-heard-64 a home false c one = rw home (heard-packet A dataPacket c refl (rw one tt))
+-- data packets of n bytes, the last with identifier 8 and the others 2
+abbrev pub Sendable : ℕ → Type 0
+Sendable n = T (accepts dataPacket (n + 2)) × T (accepts lastPacket (n + 2))
+
+heard-data : (n : ℕ) → Sendable n → (a : List ℕ) → a ≡ A → (last : Bool) (c : List ℕ) → length c ≡ n → hear a (packet A (cond last lastPacket dataPacket) c) ≡ piece last true c
+unfolding hearAs
+heard-data n ok a home true c one = rw home (heard-packet A lastPacket c refl (rw one (ok .1)))
+heard-data n ok a home false c one = rw home (heard-packet A dataPacket c refl (rw one (ok .0)))
 
 -- buffer b written a second time
 again : (b : ℕ) (c c′ : Buffer) (m m′ : Transfer) (r t x : Reader) → WithBuffer b c m r t → WithBuffer b c′ m′ t x → WithBuffer b c′ m′ r x
@@ -144,17 +150,17 @@ module _ (lent : ℕ → Lent) (f : (n : ℕ) → T (fitLent (lent n))) where
         }
 
   -- data packets that no transfer waits for
-  ignored : (k : ℕ) (s : List ℕ) → length s ≡ k * 64 → (r : Reader) → Legal core core-holds r → r .plain .address ≡ A → r .plain .transfer ≡ closed
-      → Talks r (packets A k 64 s) (replicate k []) (λ (x : Reader). x ≡ r)
+  ignored : (n : ℕ) → Sendable n → (k : ℕ) (s : List ℕ) → length s ≡ k * n → (r : Reader) → Legal core core-holds r → r .plain .address ≡ A → r .plain .transfer ≡ closed
+      → Talks r (packets A k n s) (replicate k []) (λ (x : Reader). x ≡ r)
   unfolding packets deliver exchanges finally
-  ignored zero s long r l home still = record { answered = refl; leaves = refl }
-  ignored (suc k) s long r l home still =
-      let one : length (take 64 s) ≡ 64 = length-take-le 64 s (omega arith) in
-      let ps : List (List ℕ) = packets A k 64 (drop 64 s) in
-      let p : List ℕ = packet A (cond (eqb k 0) lastPacket dataPacket) (take 64 s) in
+  ignored n ok zero s long r l home still = record { answered = refl; leaves = refl }
+  ignored n ok (suc k) s long r l home still =
+      let one : length (take n s) ≡ n = length-take-le n s (omega (arith, suc-mul k n)) in
+      let ps : List (List ℕ) = packets A k n (drop n s) in
+      let p : List ℕ = packet A (cond (eqb k 0) lastPacket dataPacket) (take n s) in
       and-then r r p [] ps (replicate k []) (λ (x : Reader). x ≡ r)
-      (piece-ignored core r p (lent (length ps)) (l .legal) (f (length ps)) (eqb k 0) true (take 64 s) (heard-64 (r .plain .address) home (eqb k 0) (take 64 s) one) still)
-      (ignored k (drop 64 s) (length-drop 64 s ∙ omega arith) r l home still)
+      (piece-ignored core r p (lent (length ps)) (l .legal) (f (length ps)) (eqb k 0) true (take n s) (heard-data n ok (r .plain .address) home (eqb k 0) (take n s) one) still)
+      (ignored n ok k (drop n s) (length-drop n s ∙ omega (arith, suc-mul k n)) r l home still)
 
   module _ (t i n c d : List ℕ) (l : Legal core core-holds (freshOf t i n c d)) (b : ℕ) (which : Numbered b) (s : List ℕ) (long : length s ≡ 512) where
     abbrev r : Reader
@@ -165,43 +171,55 @@ module _ (lent : ℕ → Lent) (f : (n : ℕ) → T (fitLent (lent n))) where
     unfolding fresh four sizeOf locked keyed same
     first-download = served r l refl refl refl b which s long 4 128 refl refl
 
-    -- eight of 64, without asking: the first is answered 0Eh and ends the transfer, the others find none
-    pub unasked-64 : Talks r (downPacket b ∷ packets A 8 64 s) (acknowledge A 0x00 [] ∷ acknowledge A 0x0e [] ∷ replicate 7 []) (WithBuffer b blank closed r)
+    -- of another size, without asking: the first is answered 0Eh and ends the transfer, the others find none
+    pub unasked : (z : ℕ) → Sendable z → z ≢ 128 → (k : ℕ) → suc k * z ≡ 512
+        → Talks r (downPacket b ∷ packets A (suc k) z s) (acknowledge A 0x00 [] ∷ acknowledge A 0x0e [] ∷ replicate k []) (WithBuffer b blank closed r)
     unfolding packets fresh four sizeOf locked keyed same on
-    unasked-64 =
-        let first : List ℕ = packet A dataPacket (take 64 s) in
-        let ps : List (List ℕ) = packets A 7 64 (drop 64 s) in
-        let one : length (take 64 s) ≡ 64 = length-take-le 64 s (omega arith) in
+    unasked z ok other k many =
+        let last : Bool = eqb k 0 in
+        let first : List ℕ = packet A (cond last lastPacket dataPacket) (take z s) in
+        let ps : List (List ℕ) = packets A k z (drop z s) in
+        let one : length (take z s) ≡ z = length-take-le z s (omega (arith, suc-mul k z)) in
         let o = opens r l refl refl refl b which (length (first ∷ ps)) in
         let x : Reader = callOf core r (downPacket b) (lent (length (first ∷ ps))) .after in
         let legal : Legal core core-holds x = opened-legal r l refl refl refl b which (length (first ∷ ps)) in
         let settings = o .after .settings in
         let address : x .plain .address ≡ A = ap (λ (p : Plain). p .address) settings in
         let size : sizeOf (x .plain .size) ≡ 128 = ap (λ (p : Plain). sizeOf (p .size)) settings in
-        let short : GoesIn (x .plain) 0 false true (take 64 s) → ⊥ = λ g. let e = g .long in absurd (omega arith) in
+        let misfit : GoesIn (x .plain) 0 last true (take z s) → ⊥ = λ g. other (sym one ∙ g .long ∙ size) in
         let q =
-        piece-fails core x first (lent (length ps)) (legal .legal) (f (length ps)) false true (take 64 s) (heard-64 (x .plain .address) address false (take 64 s) one)
-        (eqb b 2) 0 (ap (λ (p : Plain). p .transfer) settings) short
+        piece-fails core x first (lent (length ps)) (legal .legal) (f (length ps)) last true (take z s) (heard-data z ok (x .plain .address) address last (take z s) one)
+        (eqb b 2) 0 (ap (λ (p : Plain). p .transfer) settings) misfit
         in
         let y : Reader = callOf core x first (lent (length ps)) .after in
         let stopped : WithBuffer b blank closed x y = subst (λ (j : ℕ). WithBuffer j blank closed x y) (number-is b which) (q .after) in
         let silent =
-        ignored 7 (drop 64 s) (length-drop 64 s ∙ omega arith) y (stays-legal core core-holds x legal (received first (lent (length ps))))
+        ignored z ok k (drop z s) (length-drop z s ∙ omega (arith, suc-mul k z)) y (stays-legal core core-holds x legal (received first (lent (length ps))))
         (ap (λ (p : Plain). p .address) (stopped .settings) ∙ address) (ap (λ (p : Plain). p .transfer) (stopped .settings))
         in
-        and-then r x (downPacket b) (acknowledge A 0x00 []) (first ∷ ps) (acknowledge A 0x0e [] ∷ replicate 7 []) (WithBuffer b blank closed r) record { told = o .told; after = refl }
-        (and-then x y first (acknowledge A 0x0e []) ps (replicate 7 []) (WithBuffer b blank closed r)
+        and-then r x (downPacket b) (acknowledge A 0x00 []) (first ∷ ps) (acknowledge A 0x0e [] ∷ replicate k []) (WithBuffer b blank closed r) record { told = o .told; after = refl }
+        (and-then x y first (acknowledge A 0x0e []) ps (replicate k []) (WithBuffer b blank closed r)
         record { told = subst (λ (a : List ℕ). Replies (acknowledge a 0x0e []) first (lent (length ps)) (callOf core x first (lent (length ps)))) address (q .told); after = refl }
         record { answered = silent .answered; leaves = subst (WithBuffer b blank closed r) (sym (silent .leaves)) (again b _ _ _ _ r x y (o .after) stopped) })
 
-    -- and with code 1 set first
-    pub asked-64 : Talks r (sizePacket 1 ∷ downPacket b ∷ packets A 8 64 s) (acknowledge A 0x00 [] ∷ acknowledge A 0x00 [] ∷ replicate 8 [])
-        (WithBuffer b (full s) closed (withCode1 (r .guarded)))
-    unfolding fresh four sizeOf locked keyed same rested ended accepts limit isIdentifier longest on
-    asked-64 =
-        let ps : List (List ℕ) = downPacket b ∷ packets A 8 64 s in
+    -- and with a size code set first: k packets of its z bytes
+    pub asked : (v k z : ℕ) → v ≤ 3 → 512 / sizeOf v ≡ k → sizeOf v ≡ z
+        → Talks r (sizePacket v ∷ downPacket b ∷ packets A k z s) (acknowledge A 0x00 [] ∷ acknowledge A 0x00 [] ∷ replicate k []) (WithBuffer b (full s) closed (withCode v (r .guarded)))
+    unfolding fresh four locked keyed same rested ended accepts limit isIdentifier longest on
+    asked v k z few many each =
+        let ps : List (List ℕ) = downPacket b ∷ packets A k z s in
         let given : Lent = lent (length ps) in
-        let asks : hear A (sizePacket 1) ≡ order (command (barred (setSysPara 6 1))) = asked-by A (0x0e ∷ 6 ∷ 1 ∷ []) (barred (setSysPara 6 1)) refl tt (parameters .set-read 6 1) in
-        let o = sets-size core r (sizePacket 1) given (l .legal) (f (length ps)) refl 1 asks (lit≤ tt) in
-        let legal = subst (Legal core core-holds) (o .after) (stays-legal core core-holds r l (received (sizePacket 1) given)) in
-        and-then r _ (sizePacket 1) (acknowledge A 0x00 []) ps _ _ o (served _ legal refl refl refl b which s long 8 64 refl refl)
+        let asks : hear A (sizePacket v) ≡ order (command (barred (setSysPara 6 v))) = asked-by A (0x0e ∷ 6 ∷ v ∷ []) (barred (setSysPara 6 v)) refl tt (parameters .set-read 6 v) in
+        let o = sets-size core r (sizePacket v) given (l .legal) (f (length ps)) refl v asks few in
+        let legal = subst (Legal core core-holds) (o .after) (stays-legal core core-holds r l (received (sizePacket v) given)) in
+        and-then r _ (sizePacket v) (acknowledge A 0x00 []) ps _ _ o (served _ legal refl refl refl b which s long k z many each)
+
+    -- eight packets of 64: without asking, and with code 1 set first
+    pub unasked-64 : Talks r (downPacket b ∷ packets A 8 64 s) (acknowledge A 0x00 [] ∷ acknowledge A 0x0e [] ∷ replicate 7 []) (WithBuffer b blank closed r)
+    unfolding accepts limit isIdentifier longest
+    unasked-64 = unasked 64 (tt, tt) (λ e. omega arith) 7 refl
+
+    pub asked-64 : Talks r (sizePacket 1 ∷ downPacket b ∷ packets A 8 64 s) (acknowledge A 0x00 [] ∷ acknowledge A 0x00 [] ∷ replicate 8 [])
+        (WithBuffer b (full s) closed (withCode 1 (r .guarded)))
+    unfolding sizeOf
+    asked-64 = asked 1 8 64 (lit≤ tt) refl refl

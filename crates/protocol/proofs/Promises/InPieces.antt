@@ -2,11 +2,12 @@
 -- however it is cut.
 use mathlib.Core.Bool.{Bool, true, false, cond}
 use mathlib.Core.Path.{_≡_, refl, sym, ap, ap₂, _∙_, subst}
+use mathlib.Core.Logic.{_≢_}
 use mathlib.Core.List.{List, [], _∷_, _++_}
-use Prim.Native.Nat.{ℕ, zero, suc, _+_, _*_}
+use Prim.Native.Nat.{ℕ, zero, suc, _+_, _*_, _/_, _≤_}
 use native.Mathlib.Nat.{suc-mul}
 use native.Mathlib.Omega.{arith}
-use lib.Dec.{T, eqb}
+use lib.Dec.{T, eqb, lit≤}
 use lib.ListN.{length, take, drop, length-drop, replicate, drop-of-length-le}
 use lib.Seq.{length-take-le}
 use Rattle.protocol.specs.declared.Receiver.{Receiver}
@@ -14,7 +15,7 @@ use Rattle.protocol.specs.Numbers.{dataPacket, lastPacket, longest, hold
 use Rattle.protocol.specs.Bytes.{lay, joined}
 use Rattle.protocol.specs.Packet.{packet, lengthOf, accepts, limit, isIdentifier}
 use Rattle.protocol.specs.Finder.{findOf, usedOf}
-use Rattle.protocol.specs.Reader.{closed, Reader}
+use Rattle.protocol.specs.Reader.{closed, Reader, sizeOf}
 use Rattle.protocol.specs.Data.{acknowledge, packets}
 use Rattle.protocol.specs.Step.{stepOf}
 use Rattle.protocol.specs.Call.{Lent, fitRoom, fitLent, replyOf, callOf, core}
@@ -31,7 +32,7 @@ use Rattle.protocol.proofs.Promises.ReadBack.{packet-reads}
 use Rattle.protocol.proofs.Promises.Download.{deliver}
 use Rattle.protocol.proofs.Promises.Cuts.{rests-drained, drains-by-call}
 use Rattle.protocol.proofs.Promises.Caller.{spoken, replied-is}
-use Rattle.protocol.proofs.Promises.FirstDownload.{A, downPacket, sizePacket, full, withCode1, answersTo, Talks, first-download, unasked-64, asked-64}
+use Rattle.protocol.proofs.Promises.FirstDownload.{A, downPacket, sizePacket, full, withCode, Sendable, answersTo, Talks, first-download, unasked, asked}
 
 -- ---- one to a call, or all behind one another
 
@@ -112,12 +113,17 @@ packets-whole (suc k) n s d e long =
 
 -- ---- the first download, however it is cut
 
+-- a reply room for each call
+abbrev room : ℕ → Lent
+room k = record { room = replicate 700 0 }
+
+silent-all : (k : ℕ) → spokenAll (replicate k []) ≡ []
+silent-all zero = refl
+silent-all (suc k) = silent-all k
+
 module _ (t i n c d : List ℕ) (l : Legal core core-holds (freshOf t i n c d)) (b : ℕ) (which : Numbered b) (s : List ℕ) (long : length s ≡ 512) where
   abbrev r : Reader
   r = freshOf t i n c d
-
-  abbrev room : ℕ → Lent
-  room k = record { room = replicate 700 0 }
 
   -- four data packets of 128 bytes
   pub first-download-cut : HoweverCut r (downPacket b ∷ packets A 4 128 s) (acknowledge A 0x00 [] ∷ []) (WithBuffer b (full s) closed r)
@@ -126,17 +132,31 @@ module _ (t i n c d : List ℕ) (l : Legal core core-holds (freshOf t i n c d)) 
       in-pieces room (λ k. tt) r l _ _ _ (first-download room (λ k. tt) t i n c d l b which s long)
       (packet-whole 0x01 (0x09 ∷ b ∷ []) tt, packets-whole 4 128 s tt tt (long ∙ omega arith))
 
-  -- eight of 64, without asking
-  pub unasked-64-cut : HoweverCut r (downPacket b ∷ packets A 8 64 s) (acknowledge A 0x00 [] ∷ acknowledge A 0x0e [] ∷ []) (WithBuffer b blank closed r)
+  -- of another size, without asking
+  pub unasked-cut : (z : ℕ) → Sendable z → z ≢ 128 → (k : ℕ) → suc k * z ≡ 512
+      → HoweverCut r (downPacket b ∷ packets A (suc k) z s) (acknowledge A 0x00 [] ∷ acknowledge A 0x0e [] ∷ []) (WithBuffer b blank closed r)
   unfolding fitRoom accepts limit isIdentifier longest acknowledge packet
-  unasked-64-cut =
-      in-pieces room (λ k. tt) r l _ _ _ (unasked-64 room (λ k. tt) t i n c d l b which s long)
-      (packet-whole 0x01 (0x09 ∷ b ∷ []) tt, packets-whole 8 64 s tt tt (long ∙ omega arith))
+  unasked-cut z ok other k many =
+      subst (λ (rest : List (List ℕ)). HoweverCut r (downPacket b ∷ packets A (suc k) z s) (acknowledge A 0x00 [] ∷ acknowledge A 0x0e [] ∷ rest) (WithBuffer b blank closed r)) (silent-all k)
+      (in-pieces room (λ j. tt) r l _ _ _ (unasked room (λ j. tt) t i n c d l b which s long z ok other k many)
+      (packet-whole 0x01 (0x09 ∷ b ∷ []) tt, packets-whole (suc k) z s (ok .0) (ok .1) (long ∙ sym many)))
 
-  -- and with code 1 set first
-  pub asked-64-cut : HoweverCut r (sizePacket 1 ∷ downPacket b ∷ packets A 8 64 s) (acknowledge A 0x00 [] ∷ acknowledge A 0x00 [] ∷ [])
-      (WithBuffer b (full s) closed (withCode1 (r .guarded)))
+  -- and with a size code set first
+  pub asked-cut : (v k z : ℕ) → v ≤ 3 → 512 / sizeOf v ≡ k → sizeOf v ≡ z → Sendable z → k * z ≡ 512
+      → HoweverCut r (sizePacket v ∷ downPacket b ∷ packets A k z s) (acknowledge A 0x00 [] ∷ acknowledge A 0x00 [] ∷ []) (WithBuffer b (full s) closed (withCode v (r .guarded)))
   unfolding fitRoom accepts limit isIdentifier longest acknowledge packet
-  asked-64-cut =
-      in-pieces room (λ k. tt) r l _ _ _ (asked-64 room (λ k. tt) t i n c d l b which s long)
-      (packet-whole 0x01 (0x0e ∷ 6 ∷ 1 ∷ []) tt, (packet-whole 0x01 (0x09 ∷ b ∷ []) tt, packets-whole 8 64 s tt tt (long ∙ omega arith)))
+  asked-cut v k z few number each ok many =
+      subst (λ (rest : List (List ℕ)). HoweverCut r (sizePacket v ∷ downPacket b ∷ packets A k z s) (acknowledge A 0x00 [] ∷ acknowledge A 0x00 [] ∷ rest) (WithBuffer b (full s) closed (withCode v (r .guarded))))
+      (silent-all k)
+      (in-pieces room (λ j. tt) r l _ _ _ (asked room (λ j. tt) t i n c d l b which s long v k z few number each)
+      (packet-whole 0x01 (0x0e ∷ 6 ∷ v ∷ []) tt, (packet-whole 0x01 (0x09 ∷ b ∷ []) tt, packets-whole k z s (ok .0) (ok .1) (long ∙ sym many))))
+
+  -- eight packets of 64: without asking, and with code 1 set first
+  pub unasked-64-cut : HoweverCut r (downPacket b ∷ packets A 8 64 s) (acknowledge A 0x00 [] ∷ acknowledge A 0x0e [] ∷ []) (WithBuffer b blank closed r)
+  unfolding accepts limit isIdentifier longest
+  unasked-64-cut = unasked-cut 64 (tt, tt) (λ e. omega arith) 7 refl
+
+  pub asked-64-cut : HoweverCut r (sizePacket 1 ∷ downPacket b ∷ packets A 8 64 s) (acknowledge A 0x00 [] ∷ acknowledge A 0x00 [] ∷ [])
+      (WithBuffer b (full s) closed (withCode 1 (r .guarded)))
+  unfolding sizeOf accepts limit isIdentifier longest
+  asked-64-cut = asked-cut 1 8 64 (lit≤ tt) refl refl (tt, tt) refl

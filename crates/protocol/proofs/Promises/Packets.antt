@@ -5,14 +5,14 @@ use mathlib.Core.Logic.{_⊎_, inl, inr, _↔_}
 use mathlib.Core.List.{List, [], _∷_, _++_, foldr}
 use Prim.Native.Nat.{ℕ, _+_, _-_, _*_, _/_, _%_, _≤_}
 use native.Mathlib.Omega.{arith}
-use lib.Dec.{T, eqb, leb→le, not-T}
+use lib.Dec.{T, eqb, not-T}
 use borrow.Author.Tests.{eqb-true}
 use lib.ListN.{length, getD, take, drop}
 use Rattle.protocol.specs.Numbers.{longest}
 use Rattle.protocol.specs.Bytes.{two, wordAt, total}
 use Rattle.protocol.specs.Packet.{lengthOf, sumOf, packet, isIdentifier, limit, accepts, addressAt, identifierAt, lengthAt, contentAt, endAt}
 use Rattle.protocol.specs.Data.{acknowledge}
-use Rattle.protocol.proofs.Laws.Logic.{T→false, and-l, and-r}
+use Rattle.protocol.proofs.Laws.Logic.{T→false, and-l}
 use Rattle.protocol.proofs.Laws.Lists.{total-added}
 use Rattle.protocol.proofs.Laws.Finder.{accepts-least, accepts-limit, accepts-most, accepts-of}
 

@@ -1,8 +1,8 @@
 -- The reply never exceeds 700 bytes, so the room that document 01 asks for is enough.
 use mathlib.Core.Bool.{Bool, true, false}
-use mathlib.Core.Path.{_≡_, refl, _∙_, subst}
-use mathlib.Core.List.{List, [], _∷_}
-use Prim.Native.Nat.{ℕ, zero, suc, _+_, _*_, _≤_}
+use mathlib.Core.Path.{_≡_, refl, sym, _∙_, subst}
+use mathlib.Core.List.{List, [], _∷_, _++_}
+use Prim.Native.Nat.{ℕ, zero, suc, _+_, _*_, _/_, _≤_}
 use native.Mathlib.Omega.{arith}
 use lib.Dec.{T, leb, leb→le}
 use lib.ListN.{length, drop, length-append, length-take}
@@ -10,7 +10,7 @@ use Rattle.protocol.specs.Numbers.{pageBytes, fourBytes, replyRoom, high
 use Rattle.protocol.specs.Bytes.{two, joined}
 use Rattle.protocol.specs.Reader.{Plain, Reader, sizeOf, locked, bufferOf, withMark}
 use Rattle.protocol.specs.Commands.{Free, verifyPassword, handShake, Barred, store, loadChar, upChar, downChar, deletChar, empty, setSysPara, readSysPara, setPassword, setAddress, writeNotepad, readNotepad, templeteNum, readIndexTable}
-use Rattle.protocol.specs.Data.{acknowledge}
+use Rattle.protocol.specs.Data.{acknowledge, packets, dataPackets}
 use Rattle.protocol.specs.Table.{Row, rule, apply, second, Public, freeRule, publicOf}
 use Rattle.protocol.specs.Step.{Heard, hear, Said, silence, says, carryAs, carryFree, rested, takeAs, answer, stepOf}
 use Rattle.protocol.specs.Call.{Shape, Lent, fitRoom, fitPlain, Ended, refused, carried, callOf}
@@ -19,7 +19,7 @@ use Rattle.protocol.proofs.Laws.Lists.{follow-append, length-lay, drop-
 use Rattle.protocol.proofs.Laws.Commands.{Long, LongHeard, long-heard}
 use Rattle.protocol.proofs.Laws.Answers.{answer-kinds, call-kinds}
 use Rattle.protocol.proofs.Laws.Legal.{buffer-long, Good}
-use Rattle.protocol.proofs.Laws.Sizes.{Size, sizes, length-data}
+use Rattle.protocol.proofs.Laws.Sizes.{Size, sizes, length-packets, length-data}
 use Rattle.protocol.proofs.Laws.Finder.{length-packet}
 use Rattle.protocol.proofs.Promises.StaysLegal.{Legal, good, good-rested, row-good}
 
@@ -110,3 +110,18 @@ module _ (σ : Shape) (ok : σ .most ≤ 8 * σ .indexed) where
       let a : List ℕ = answer r (hear (r .plain .address) s) .reply in
       let m : length a ≤ replyRoom = answer-fits r (good σ ok r l) (hear (r .plain .address) s) (long-heard (r .plain .address) s) in
       (drop-lay a (lent .room), length-lay 0 a (lent .room) (omega (arith, leb→le replyRoom (length (lent .room)) u))))
+
+-- what an upload takes of it at each size code: the acknowledge's 12 bytes, and 16 data packets of 43, 8 of 75, 4 of 139 or 2 of 267
+module _ (a s : List ℕ) (h : length a ≡ 4) (long : length s ≡ 512) where
+  abbrev pub uploadLength : ℕ → ℕ
+  uploadLength code = length (acknowledge a 0x00 [] ++ dataPackets a (sizeOf code) s)
+
+  upload-length : (code k z : ℕ) → sizeOf code ≡ z → 512 / z ≡ k → k * z ≡ 512 → uploadLength code ≡ 12 + k * (z + 11)
+  unfolding dataPackets
+  upload-length code k z e many all =
+      rw (e, many, length-append (acknowledge a 0x00 []) (joined (packets a k z s)))
+      (omega (arith, length-acknowledge a 0x00 [] h, length-packets a k z s h (long ∙ sym all)))
+
+  pub upload-lengths : (uploadLength 0 ∷ uploadLength 1 ∷ uploadLength 2 ∷ uploadLength 3 ∷ []) ≡ (700 ∷ 612 ∷ 568 ∷ 546 ∷ [])
+  unfolding sizeOf
+  upload-lengths = rw (upload-length 0 16 32 refl refl refl, upload-length 1 8 64 refl refl refl, upload-length 2 4 128 refl refl refl, upload-length 3 2 256 refl refl refl) refl

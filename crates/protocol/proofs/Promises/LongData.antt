@@ -1,0 +1,208 @@
+-- Document 02, request [3]: "Hosts that use it are ignored. Allow length 3 to 258 for identifiers 2 and 8; 1 and 7 keep 256. Size code 3 means 256." What that
+-- is for a host: packets of lengths 257 and 258, and a template in data packets of 256 bytes.
+use mathlib.Core.Bool.{Bool, true, false}
+use mathlib.Core.Path.{_≡_, refl, sym, ap, _∙_, subst}
+use mathlib.Core.Logic.{_⊎_, inl, inr, _≢_}
+use mathlib.Core.List.{List, [], _∷_, _++_, append-nil}
+use Prim.Native.Nat.{ℕ, zero, suc, _+_, _≤_, _<_}
+use native.Mathlib.Omega.{arith}
+use lib.Dec.{T, lit≤}
+use lib.ListN.{length, getD, take, drop, length-drop, length-append}
+use lib.Seq.{take-all, length-take-le}
+use Rattle.protocol.specs.Numbers.{longest}
+use Rattle.protocol.specs.Bytes.{joined}
+use Rattle.protocol.specs.Packet.{packet, accepts, limit, isIdentifier, rightAt}
+use Rattle.protocol.specs.Finder.{findOf, usedOf}
+use Rattle.protocol.specs.Reader.{closed, opened, Plain, Guarded, Reader, sizeOf, keyed, locked}
+use Rattle.protocol.specs.Bytes.{four, same}
+use Rattle.protocol.specs.Commands.{upChar, barred, command}
+use Rattle.protocol.specs.Data.{acknowledge, packets, dataPackets}
+use Rattle.protocol.specs.Step.{order, piece, hear, rested}
+use Rattle.protocol.specs.Call.{Shape, Lent, fitLent, legal, core, callOf}
+use Rattle.protocol.specs.Records.{freshOf}
+use Rattle.protocol.proofs.Laws.Finder.{length-packet}
+use Rattle.protocol.proofs.Promises.Told.{Replies, Leaves, Gives, Numbered, blank, WithBuffer}
+use Rattle.protocol.proofs.Promises.Packets.{Accepted}
+use Rattle.protocol.proofs.Promises.Finding.{silently, First, lengthField, WholeAt, unfit, unfinished, whole, found, uses, silent-without, contentOf, content-long, more, last, heard}
+use Rattle.protocol.proofs.Promises.ZeroUsed.{UnfinishedPacket}
+use Rattle.protocol.proofs.Promises.LegalMeans.{core-holds, legal-means}
+use Rattle.protocol.proofs.Promises.StaysLegal.{Legal}
+use Rattle.protocol.proofs.Promises.Pieces.{GoesIn, Stopped, none-ends, piece-fails, piece-ignored}
+use Rattle.protocol.proofs.Promises.Parameters.{parameters, asked-by}
+use Rattle.protocol.proofs.Promises.Upload.{upload}
+use Rattle.protocol.proofs.Promises.FirstDownload.{A, downPacket, sizePacket, full, withCode, Talks, unasked, asked}
+use Rattle.protocol.proofs.Promises.InPieces.{HoweverCut, unasked-cut, asked-cut}
+
+-- identifiers 1 and 7; identifiers 2 and 8
+abbrev pub Other : ℕ → Type 0
+Other i = (i ≡ 1) ⊎ (i ≡ 7)
+
+abbrev pub Data : ℕ → Type 0
+Data i = (i ≡ 2) ⊎ (i ≡ 8)
+
+-- ---- lengths above 256, whatever the size code
+
+-- the run s has a head at p, the first place with EF followed by 01
+module _ (σ : Shape) (r : Reader) (s : List ℕ) (lent : Lent) (l : T (legal σ r)) (u : T (fitLent lent)) (p : ℕ) (first : First s p) (head : p + 9 ≤ length s) where
+  -- a command or an acknowledge of length 257 or more starts no packet: p + 2 used, and nothing changes
+  pub other-passed : Other (getD s (p + 6) 0) → 256 < lengthField s p → callOf σ r s lent ≡ silently r (p + 2) lent
+  other-passed i long = silent-without σ r s lent l u (unfit first head (λ a. let k = a .kept i in omega arith)) (λ q m e. let z : _≡_ {A = ℕ} 0 1 = cc in omega arith)
+
+  module _ (i : Data (getD s (p + 6) 0)) (least : 3 ≤ lengthField s p) (most : lengthField s p ≤ 258) where
+    fits : Accepted (getD s (p + 6) 0) (lengthField s p)
+    fits = record { identifier = kind i; least = least; most = most; kept = never i }
+      where
+        kind : Data (getD s (p + 6) 0) → (getD s (p + 6) 0 ≡ 1) ⊎ (getD s (p + 6) 0 ≡ 2) ⊎ (getD s (p + 6) 0 ≡ 7) ⊎ (getD s (p + 6) 0 ≡ 8)
+        kind (inl e) = inr (inl e)
+        kind (inr e) = inr (inr (inr e))
+
+        never : Data (getD s (p + 6) 0) → Other (getD s (p + 6) 0) → lengthField s p ≤ 256
+        never (inl e) (inl f) = omega arith
+        never (inl e) (inr f) = omega arith
+        never (inr e) (inl f) = omega arith
+        never (inr e) (inr f) = omega arith
+
+    -- a data packet of length up to 258 is waited for, and then used whole
+    pub data-waits : length s < p + 9 + lengthField s p → callOf σ r s lent ≡ silently r p lent
+    data-waits few = silent-without σ r s lent l u (unfinished first head fits few) (λ q m e. let z : _≡_ {A = ℕ} 0 1 = cc in omega arith)
+
+    pub data-used : p + 9 + lengthField s p ≤ length s → callOf σ r s lent .told .used ≡ p + 9 + lengthField s p
+    data-used all = uses σ r s lent l u (whole record { first = first; field = refl; accepted = fits; inside = all })
+
+-- ---- a data packet for us of another size than ours, whatever its sum: its length field is n
+
+module _ (σ : Shape) (r : Reader) (s : List ℕ) (lent : Lent) (l : T (legal σ r)) (u : T (fitLent lent)) (p n : ℕ) (w : WholeAt s p n)
+    (ours : take 4 (drop (p + 2) s) ≡ r .plain .address) (i : Data (getD s (p + 6) 0)) where
+  ends : Data (getD s (p + 6) 0) → Bool
+  ends (inl e) = false
+  ends (inr e) = true
+
+  heard-piece : (d : Data (getD s (p + 6) 0)) → hear (r .plain .address) s ≡ piece (ends d) (rightAt s p n) (contentOf s p n)
+  unfolding ends
+  heard-piece (inl e) = heard (more w ours e)
+  heard-piece (inr e) = heard (last w ours e)
+
+  -- in a transfer 0Eh, and the transfer ends
+  pub other-size-fails : n ≢ sizeOf (r .plain .size) + 2 → (b : Bool) (got : ℕ) → r .plain .transfer ≡ opened b got
+      → Leaves (acknowledge (r .plain .address) 0x0e []) (Stopped b r) s lent (callOf σ r s lent)
+  other-size-fails d b got e =
+      let misfit : GoesIn (r .plain) got (ends i) (rightAt s p n) (contentOf s p n) → ⊥ = λ g. d (sym (content-long s p n w) ∙ ap (λ (k : ℕ). k + 2) (g .long)) in
+      piece-fails σ r s lent l u (ends i) (rightAt s p n) (contentOf s p n) (heard-piece i) b got e misfit
+
+  -- without one silence
+  pub data-ignored : r .plain .transfer ≡ closed → Gives [] r s lent (callOf σ r s lent)
+  data-ignored e = piece-ignored σ r s lent l u (ends i) (rightAt s p n) (contentOf s p n) (heard-piece i) e
+
+-- length 257 is no size's, and 258 that of code 3 alone
+module _ (r : Reader) (l : T (legal core r)) where
+  pub no-size-is-255 : 257 ≢ sizeOf (r .plain .size) + 2
+  unfolding sizeOf
+  no-size-is-255 = go (r .plain .size) (legal-means r l .settings .size)
+    where
+      go : (k : ℕ) → k ≤ 3 → 257 ≢ sizeOf k + 2
+      go zero h e = omega arith
+      go (suc zero) h e = omega arith
+      go (suc (suc zero)) h e = omega arith
+      go (suc (suc (suc zero))) h e = omega arith
+      go (suc (suc (suc (suc k)))) h e = omega arith
+
+  pub code-3-alone-is-256 : r .plain .size ≢ 3 → 258 ≢ sizeOf (r .plain .size) + 2
+  unfolding sizeOf
+  code-3-alone-is-256 d = go (r .plain .size) (legal-means r l .settings .size) refl
+    where
+      go : (k : ℕ) → k ≤ 3 → r .plain .size ≡ k → 258 ≢ sizeOf k + 2
+      go zero h q e = omega arith
+      go (suc zero) h q e = omega arith
+      go (suc (suc zero)) h q e = omega arith
+      go (suc (suc (suc zero))) h q e = d q
+      go (suc (suc (suc (suc k)))) h q e = omega arith
+
+-- ---- "the longest unfinished packet grows to 266", a data packet's; that of a command or an acknowledge keeps 264
+
+pub longest-waits : (c : List ℕ) → length c ≡ 257
+    → (length (0xef ∷ 0x01 ∷ 0xff ∷ 0xff ∷ 0xff ∷ 0xff ∷ 0x02 ∷ 0x01 ∷ 0x02 ∷ c) ≡ 266) × (usedOf (findOf (0xef ∷ 0x01 ∷ 0xff ∷ 0xff ∷ 0xff ∷ 0xff ∷ 0x02 ∷ 0x01 ∷ 0x02 ∷ c)) ≡ 0)
+longest-waits c e =
+    let s : List ℕ = 0xef ∷ 0x01 ∷ 0xff ∷ 0xff ∷ 0xff ∷ 0xff ∷ 0x02 ∷ 0x01 ∷ 0x02 ∷ c in
+    let long : length s ≡ 266 = omega arith in
+    let first : First s 0 = record { here = record { inside = omega arith; first = refl; second = refl }; before = λ q h m. omega arith } in
+    let fit : Accepted 2 258 = record { identifier = inr (inl refl); least = lit≤ tt; most = lit≤ tt; kept = never } in
+    (long, found (unfinished first (omega arith) fit (omega arith)) .1)
+  where
+    never : Other 2 → 258 ≤ 256
+    never (inl f) = omega arith
+    never (inr f) = omega arith
+
+pub other-waits : (s : List ℕ) → UnfinishedPacket s → 9 ≤ length s → Other (getD s 6 0) → length s ≤ 264
+other-waits s w h i = go (w .short)
+  where
+    go : (length s < 9) ⊎ (Accepted (getD s 6 0) (lengthField s 0) × (length s < 9 + lengthField s 0)) → length s ≤ 264
+    go (inl k) = omega arith
+    go (inr (a, k)) = omega (arith, a .kept i)
+
+-- ---- "Size code 3 means 256": a template in two data packets of 256 bytes
+
+module _ (lent : ℕ → Lent) (f : (n : ℕ) → T (fitLent (lent n))) (t i n c d : List ℕ) (l : Legal core core-holds (freshOf t i n c d)) (b : ℕ) (which : Numbered b)
+    (s : List ℕ) (long : length s ≡ 512) where
+  abbrev r : Reader
+  r = freshOf t i n c d
+
+  -- a new vault, and a host that sets code 3 first: served
+  pub asked-256 : Talks lent f r (sizePacket 3 ∷ downPacket b ∷ packets A 2 256 s) (acknowledge A 0x00 [] ∷ acknowledge A 0x00 [] ∷ [] ∷ [] ∷ [])
+      (WithBuffer b (full s) closed (withCode 3 (r .guarded)))
+  unfolding sizeOf
+  asked-256 = asked lent f t i n c d l b which s long 3 2 256 (lit≤ tt) refl refl
+
+  -- and one that does not: no longer ignored, but told 0Eh
+  pub unasked-256 : Talks lent f r (downPacket b ∷ packets A 2 256 s) (acknowledge A 0x00 [] ∷ acknowledge A 0x0e [] ∷ [] ∷ []) (WithBuffer b blank closed r)
+  unfolding accepts limit isIdentifier longest
+  unasked-256 = unasked lent f t i n c d l b which s long 256 (tt, tt) (λ e. omega arith) 1 refl
+
+  -- both behind a receiver, however they are cut
+  pub asked-256-cut : HoweverCut r (sizePacket 3 ∷ downPacket b ∷ packets A 2 256 s) (acknowledge A 0x00 [] ∷ acknowledge A 0x00 [] ∷ [])
+      (WithBuffer b (full s) closed (withCode 3 (r .guarded)))
+  unfolding sizeOf accepts limit isIdentifier longest
+  asked-256-cut = asked-cut t i n c d l b which s long 3 2 256 (lit≤ tt) refl refl (tt, tt) refl
+
+  pub unasked-256-cut : HoweverCut r (downPacket b ∷ packets A 2 256 s) (acknowledge A 0x00 [] ∷ acknowledge A 0x0e [] ∷ []) (WithBuffer b blank closed r)
+  unfolding accepts limit isIdentifier longest
+  unasked-256-cut = unasked-cut t i n c d l b which s long 256 (tt, tt) (λ e. omega arith) 1 refl
+
+-- and out again: UpChar to the reader that the download left is answered 00h and the template in two data packets of 256 bytes, 546 bytes in all
+module _ (g : Guarded) (b : ℕ) (which : Numbered b) (s : List ℕ) (long : length s ≡ 512) (x : Reader) (l : Legal core core-holds x)
+    (left : WithBuffer b (full s) closed (withCode 3 g) x) (lent : Lent) (f : T (fitLent lent)) where
+  abbrev sent : List ℕ
+  sent = acknowledge A 0x00 [] ++ (packet A 0x02 (take 256 s) ++ packet A 0x08 (drop 256 s))
+
+  abbrev upPacket : List ℕ
+  upPacket = packet A 0x01 (0x08 ∷ b ∷ [])
+
+  own : rested x ≡ x
+  own = none-ends x (ap (λ (p : Plain). p .transfer) (left .settings))
+
+  asks : hear (x .plain .address) upPacket ≡ order (command (barred (upChar b)))
+  unfolding accepts limit isIdentifier longest
+  asks = rw (left .settings) (asked-by A (0x08 ∷ b ∷ []) (barred (upChar b)) refl tt (parameters .up-read b))
+
+  unlocked : locked (x .plain) ≡ false
+  unfolding locked keyed four same
+  unlocked = rw (left .settings) refl
+
+  two-packets : dataPackets A 256 s ≡ packet A 0x02 (take 256 s) ++ packet A 0x08 (drop 256 s)
+  unfolding dataPackets packets joined
+  two-packets = rw (take-all 256 (drop 256 s) (omega (arith, length-drop 256 s)), append-nil (packet A 0x08 (drop 256 s)))
+
+  pub uploads-256 : Gives sent x upPacket lent (callOf core x upPacket lent)
+  unfolding sizeOf
+  uploads-256 =
+      let o = upload core core-holds x l unlocked b which upPacket lent f asks (rw (own, left .chosen) refl) in
+      record {
+        told = subst (λ (y : List ℕ). Replies y upPacket lent (callOf core x upPacket lent)) (rw (own, left .settings, left .chosen, two-packets)) (o .told);
+        after = o .after ∙ own;
+      }
+
+  pub uploads-546 : length sent ≡ 546
+  unfolding acknowledge
+  uploads-546 =
+      let h : length (take 256 s) ≡ 256 = length-take-le 256 s (omega arith) in
+      let k : length (drop 256 s) ≡ 256 = length-drop 256 s ∙ omega arith in
+      simp length-append (omega (arith, length-packet A 0x07 (0x00 ∷ []) refl, length-packet A 0x02 (take 256 s) refl, length-packet A 0x08 (drop 256 s) refl))
