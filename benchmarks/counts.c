@@ -7,7 +7,7 @@
 enum { ROWS_MOST = 48, CAPACITIES = 3, PIECES = 4, COLUMNS_MOST = PIECES };
 
 /* A call is measured at these capacities, a run in pieces of these lengths, a service once. */
-static const size_t capacities[CAPACITIES] = {1, 64, 256}, piece_lengths[PIECES] = {1, 16, 60, 265};
+static const size_t capacities[CAPACITIES] = {1, 64, 256}, piece_lengths[PIECES] = {1, 16, 60, BYSTRODOL_HELD_MOST};
 
 /* ---- rows: a row is measured once in each column */
 
@@ -180,9 +180,11 @@ static void measure_calls(size_t capacity) {
     upload_row("upload, 32 bytes a packet", capacity, 0);
     upload_row("upload, 64 bytes a packet", capacity, 1);
     upload_row("upload, 128 bytes a packet", capacity, 2);
+    upload_row("upload, 256 bytes a packet", capacity, 3);
     download_row("download, 32 bytes a packet", capacity, 0);
     download_row("download, 64 bytes a packet", capacity, 1);
     download_row("download, 128 bytes a packet", capacity, 2);
+    download_row("download, 256 bytes a packet", capacity, 3);
     refused_command_rows(capacity);
     silent_rows(capacity);
     refusal_rows(capacity);
@@ -238,6 +240,18 @@ static void measure_run(int expected) {
     expect(plain.taken == run_length && (plain.length ? plain.replies[9] : SILENT) == expected);
 }
 
+/* A data packet of a size, into buffer 1. */
+static void data_row(const char *name, uint8_t size) {
+    const size_t bytes = (size_t)32 << size;
+    begin(&received, name, 1);
+    reader.line.settings.size = size;
+    reader.line.settings.transfer = 1;
+    reader.line.settings.filled1 = 0;
+    append_packet(DATA, reader.memory.buffer2, bytes);
+    measure_run(SILENT);
+    expect(reader.line.settings.got == bytes);
+}
+
 /* One page: with more the test of the index costs less. */
 static void measure_received(void) {
     static const uint8_t hand_shake[] = {0x40};
@@ -245,13 +259,8 @@ static void measure_received(void) {
     begin(&received, "40h HandShake, 12 bytes", 1);
     append_packet(COMMAND, hand_shake, sizeof hand_shake);
     measure_run(0x00);
-    begin(&received, "data packet, 139 bytes", 1);
-    reader.line.settings.size = 2;
-    reader.line.settings.transfer = 1;
-    reader.line.settings.filled1 = 0;
-    append_packet(DATA, reader.memory.buffer2, 128);
-    measure_run(SILENT);
-    expect(reader.line.settings.got == 128);
+    data_row("data packet, 139 bytes", 2);
+    data_row("data packet, 267 bytes", 3);
     begin(&received, "noise, 1024 bytes", 1);
     append_noise(1024);
     measure_run(SILENT);
@@ -289,16 +298,16 @@ static void measure_receiver(void) {
     uint8_t plain = receiver_switch_stepped(plain_receiver_switch);
     finish(step_count, ours == plain);
     expect(plain == BYSTRODOL_ACCEPTED && reader.line.receiver.count == 0);
-    begin_held("receiver: refusal 1", 266);
+    begin_held("receiver: refusal 1", BYSTRODOL_HELD_MOST + 1);
     pages = 0;
     measure_refusal(BYSTRODOL_BAD_LENGTH);
-    begin_held("receiver: refusal 2", 266);
+    begin_held("receiver: refusal 2", BYSTRODOL_HELD_MOST + 1);
     reply_length--;
     measure_refusal(BYSTRODOL_BAD_ROOM);
     begin_held("receiver: refusal 3, setting", 200);
     reader.line.settings.level = 6;
     measure_refusal(BYSTRODOL_BAD_SETTING);
-    begin_held("receiver: refusal 3, count", 266);
+    begin_held("receiver: refusal 3, count", BYSTRODOL_HELD_MOST + 1);
     measure_refusal(BYSTRODOL_BAD_SETTING);
 }
 
@@ -323,12 +332,12 @@ static void measure_services(void) {
     append_noise(1024);
     MEASURE(used, run, run_length);
     begin(&services, "used of a packet", 1);
-    append_packet(DATA, reader.memory.buffer1, BYSTRODOL_CONTENT_MOST);
+    append_packet(DATA, reader.memory.buffer1, BYSTRODOL_CONTENT_MOST_DATA);
     MEASURE(used, run, run_length);
     build_row("build, 1 byte of content", 1);
     build_row("build, 64 bytes of content", 64);
-    build_row("build, 254 bytes of content", 254);
-    build_row("build, refused", 255);
+    build_row("build, 256 bytes of content", BYSTRODOL_CONTENT_MOST_DATA);
+    build_row("build, refused", BYSTRODOL_CONTENT_MOST_DATA + 1);
     begin(&services, "count", 1);
     MEASURE(count, reader.memory.index, sizeof reader.memory.index);
     measure_receiver();
@@ -422,7 +431,7 @@ int print_counts(void) {
               "|256: ours |   256: C | ratio |\n|---|---:|---:|---:|---:|---:|---:|---:|---:|---:|\n",
               &calls, CAPACITIES, &summary);
     put_table("| a received byte, in pieces   |  1: ours |     1: C | ratio | 16: ours |    16: C | ratio "
-              "| 60: ours |    60: C | ratio |265: ours |   265: C | ratio |\n"
+              "| 60: ours |    60: C | ratio |267: ours |   267: C | ratio |\n"
               "|---|---:|---:|---:|---:|---:|---:|---:|---:|---:|---:|---:|---:|\n",
               &received, PIECES, &summary);
     put_table("| a service                    |     ours |        C | ratio |\n|---|---:|---:|---:|\n", &services, 1,

@@ -21,8 +21,8 @@ enum code {
     BAD_NOTEPAD_PAGE = 0x1C, PASSWORD_FIRST = 0x21
 };
 
-/* Where the parts of a packet are, and its least and most length field. */
-enum { ADDRESS = 2, IDENTIFIER = 6, LENGTH = 7, CONTENT = 9, SUM_BYTES = 2, LENGTH_LEAST = 3, LENGTH_MOST = 256 };
+/* Where the parts of a packet are. */
+enum { ADDRESS = 2, IDENTIFIER = 6, LENGTH = 7, CONTENT = 9, SUM_BYTES = 2 };
 
 enum { NOTEPAD_PAGES = 16, NOTEPAD_PAGE_BYTES = 32, DATA_MOST = 32 };
 
@@ -52,9 +52,13 @@ uint16_t plain_sum(const uint8_t *run, size_t run_length) {
     return sum;
 }
 
-static int is_identifier(uint8_t identifier) {
-    return identifier == COMMAND || identifier == DATA || identifier == ACKNOWLEDGE || identifier == LAST_DATA;
+/* The most content of an identifier's packets; 0 if no packet has it. */
+static size_t content_most(uint8_t identifier) {
+    if (identifier == DATA || identifier == LAST_DATA) return BYSTRODOL_CONTENT_MOST_DATA;
+    return identifier == COMMAND || identifier == ACKNOWLEDGE ? BYSTRODOL_CONTENT_MOST_OTHER : 0;
 }
+
+static int is_content(uint8_t identifier, size_t length) { return length >= 1 && length <= content_most(identifier); }
 
 /* The bytes used of a run; *packet is the whole packet that stands at their end, or NULL. */
 static size_t find(const uint8_t *run, size_t run_length, const uint8_t **packet) {
@@ -64,7 +68,7 @@ static size_t find(const uint8_t *run, size_t run_length, const uint8_t **packet
     if (p + 1 >= run_length) return run_length > 0 && run[run_length - 1] == 0xEF ? run_length - 1 : run_length;
     if (run_length - p < CONTENT) return p;
     size_t length = get16(run + p + LENGTH);
-    if (!is_identifier(run[p + IDENTIFIER]) || length < LENGTH_LEAST || length > LENGTH_MOST) return p + 2;
+    if (length < SUM_BYTES || !is_content(run[p + IDENTIFIER], length - SUM_BYTES)) return p + 2;
     if (run_length - p < CONTENT + length) return p;
     *packet = run + p;
     return p + CONTENT + length;
@@ -89,7 +93,7 @@ static size_t put_packet(uint8_t *room, const uint8_t address[4], uint8_t identi
 
 size_t plain_build(uint32_t address, uint8_t identifier, const uint8_t *content, size_t content_length, uint8_t *room,
                    size_t room_length) {
-    if (!is_identifier(identifier) || content_length < 1 || content_length > BYSTRODOL_CONTENT_MOST) return 0;
+    if (!is_content(identifier, content_length)) return 0;
     if (room_length < content_length + BYSTRODOL_FRAME_BYTES) return 0;
     uint8_t bytes[4] = {(uint8_t)(address >> 24), (uint8_t)(address >> 16), (uint8_t)(address >> 8), (uint8_t)address};
     return put_packet(room, bytes, identifier, content, content_length);
@@ -144,7 +148,7 @@ static void set_filled(struct bystrodol_settings *settings, uint8_t buffer, uint
 
 static int is_level(uint8_t level) { return level >= 1 && level <= 5; }
 
-static int is_size(uint8_t size) { return size <= 2; }
+static int is_size(uint8_t size) { return size <= 3; }
 
 static int is_baud(uint8_t baud) { return baud >= 1 && baud <= 12; }
 

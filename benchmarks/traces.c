@@ -26,7 +26,7 @@ static void make_locked_settings(struct bystrodol_settings *settings) {
     fill_random(settings->password, sizeof settings->password);
     settings->password[0] |= 1;
     settings->level = (uint8_t)(1 + random_byte() % 5);
-    settings->size = (uint8_t)(random_byte() % 3);
+    settings->size = (uint8_t)(random_byte() % 4);
     settings->baud = (uint8_t)(1 + random_byte() % 12);
     settings->sensor = random_byte();
     set_marks(settings, random_byte());
@@ -74,7 +74,9 @@ static const struct {
     {12, {0xEF, 0x01, A, 0x01, 0x00, 0x03, 0x05, 0x00, 0x09}}, /* no such command */
     {12, {0xEF, 0x01, A, 0x03, 0x00, 0x03, 0x40, 0x00, 0x46}}, /* no such identifier */
     {12, {0xEF, 0x01, A, 0x01, 0x00, 0x02, 0x40, 0x00, 0x43}}, /* length 2 */
-    {12, {0xEF, 0x01, A, 0x01, 0x01, 0x01, 0x40, 0x00, 0x43}}, /* length 257 */
+    {12, {0xEF, 0x01, A, 0x01, 0x01, 0x01, 0x40, 0x00, 0x43}}, /* a command of length 257 */
+    {12, {0xEF, 0x01, A, 0x02, 0x01, 0x02, 0x40, 0x00, 0x45}}, /* the front of a data packet of length 258 */
+    {12, {0xEF, 0x01, A, 0x08, 0x01, 0x03, 0x40, 0x00, 0x4C}}, /* a data packet of length 259 */
     {12, {0xEF, 0x01, A, 0x07, 0x00, 0x03, 0x00, 0x00, 0x0A}}, /* an acknowledge */
 };
 
@@ -103,7 +105,7 @@ static void append_command(struct command command, enum shape shape) {
 }
 
 static void append_data(enum identifier identifier) {
-    uint8_t content[128];
+    uint8_t content[BYSTRODOL_CONTENT_MOST_DATA];
     fill_random(content, sizeof content);
     append_packet(identifier, content, (size_t)32 << pair[0].line.settings.size);
 }
@@ -151,14 +153,14 @@ static void make_run(enum call call) {
 
 /* A piece of one of these lengths, or the rest of the run. */
 static size_t random_piece(size_t rest) {
-    static const size_t lengths[] = {0, 1, 2, 5, 9, 11, 12, 16, 30, 60, 139, 265};
+    static const size_t lengths[] = {0, 1, 2, 5, 9, 11, 12, 16, 30, 60, 139, BYSTRODOL_HELD_MOST};
     const size_t length = lengths[random_byte() % (sizeof lengths / sizeof *lengths)];
     return length < rest ? length : rest;
 }
 
 /* Both receivers hold the same noise, of one of these lengths; and there are old bytes in all other cells. */
 static void hold_noise(void) {
-    static const uint16_t counts[] = {0, 0, 1, 2, 9, 30, 60, 265};
+    static const uint16_t counts[] = {0, 0, 1, 2, 9, 30, 60, BYSTRODOL_HELD_MOST};
     struct bystrodol_receiver receiver;
     for (size_t i = 0; i < sizeof receiver.held; i++) receiver.held[i] = random_byte() | 0x80;
     receiver.count = counts[random_byte() % (sizeof counts / sizeof *counts)];

@@ -33,7 +33,7 @@
  *     At each call send r.length bytes of the reply room, and no more: behind them lie bytes of earlier replies, templates
  *     among them. The next call writes over them, so send ends only when they have left or are copied. A refused call ends
  *     the loop, too. If r.refusal is not 0, stop: the same call will be refused again.
- *   Silence. An unfinished packet stays held, and the rest of it is awaited: up to 264 bytes that come next are taken for it.
+ *   Silence. An unfinished packet stays held, and the rest of it is awaited: up to 266 bytes that come next are taken for it.
  *     The core knows no time. After a pause of your own choosing, longer than a host ever makes inside a packet, go on with an
  *     empty receiver: memset(&line.receiver, 0, sizeof line.receiver). Nothing is called for that, and nothing else of the
  *     reader changes. Drop all bytes that are held, and not some: what is left of a packet could have a command in its data.
@@ -53,9 +53,9 @@
 /* The version of this header and of the archive. Another major number, or, while that is 0, another minor one, may need a
  * change of the caller. */
 #define BYSTRODOL_VERSION_MAJOR 0
-#define BYSTRODOL_VERSION_MINOR 2
+#define BYSTRODOL_VERSION_MINOR 3
 #define BYSTRODOL_VERSION_PATCH 0
-#define BYSTRODOL_VERSION "0.2.0"
+#define BYSTRODOL_VERSION "0.3.0"
 
 /* ---- lengths, in bytes */
 
@@ -69,11 +69,13 @@
 /* The least reply room. No reply is longer. */
 #define BYSTRODOL_REPLY_BYTES 700u
 
-/* A packet beside its content, the most content, and an unfinished packet at most. A receiver has room for one byte more. */
+/* A packet beside its content. The most content of a data packet (identifiers 2 and 8), and of a command or an acknowledge (1 and
+ * 7). An unfinished packet at most; a receiver has room for one byte more. */
 #define BYSTRODOL_FRAME_BYTES 11u
-#define BYSTRODOL_CONTENT_MOST 254u
-#define BYSTRODOL_UNFINISHED_MOST 264u
-#define BYSTRODOL_HELD_MOST 265u
+#define BYSTRODOL_CONTENT_MOST_DATA 256u
+#define BYSTRODOL_CONTENT_MOST_OTHER 254u
+#define BYSTRODOL_UNFINISHED_MOST 266u
+#define BYSTRODOL_HELD_MOST 267u
 
 /* ---- why a call was refused, tested in this order; 0 is carried out. Refused, it takes, uses, replies and changes nothing. */
 
@@ -81,7 +83,7 @@
 #define BYSTRODOL_BAD_LENGTH 1u  /* a lent length, the reply room's apart, is not as it must be */
 #define BYSTRODOL_BAD_ROOM 2u    /* the reply room is too small */
 #define BYSTRODOL_BAD_SETTING 3u /* a setting or the transfer is not legal, an index bit at or above the capacity is set, or a
-                                    receiver's count is above 265 */
+                                    receiver's count is above 267 */
 
 /* ---- a packet: EF 01, address (4), identifier, length (2), content, sum (2); numbers high byte first. The length counts content
  * and sum. The sum is identifier, both length bytes and every content byte added, modulo 65536. */
@@ -159,7 +161,7 @@ struct bystrodol_settings {
     uint8_t password[4]; /* high byte first; 0 is no password */
     uint8_t address[4];  /* high byte first; FFFFFFFFh is a fresh reader's */
     uint8_t level;       /* security level, 1 to 5 */
-    uint8_t size;        /* size code of data packets: 0, 1, 2 mean 32, 64, 128 bytes; 2 is a fresh reader's */
+    uint8_t size;        /* size code of data packets: 0, 1, 2, 3 mean 32, 64, 128, 256 bytes; 2 is a fresh reader's */
     uint8_t baud;        /* baud factor, 1 to 12 */
     uint8_t transfer;    /* 0: no transfer; 1 or 2: bytes are being received into that buffer */
     uint16_t sensor;     /* sensor type, any number */
@@ -171,21 +173,21 @@ struct bystrodol_settings {
 };
 
 /*
- * A receiver, 268 bytes: the bytes that came and are not dealt with yet, at the front of held. Between held and count lies one
- * byte of padding, at offset 265; it means nothing, and a call may change it.
+ * A receiver, 270 bytes: the bytes that came and are not dealt with yet, at the front of held. Between held and count lies one
+ * byte of padding, at offset 267; it means nothing, and a call may change it.
  *
- * All zeros is a receiver that holds nothing. Any bytes may lie in held; a count above 265 is refused with 3, until the line
+ * All zeros is a receiver that holds nothing. Any bytes may lie in held; a count above 267 is refused with 3, until the line
  * switch or an empty receiver. After each call and line switch that is not refused, every byte of held from the count on is 0,
  * whatever it was before: no byte of a packet stays behind in it once the packet is dealt with. The piece and the reply room
  * are the caller's to clear.
  */
 struct bystrodol_receiver {
     uint8_t held[BYSTRODOL_HELD_MOST];
-    uint16_t count; /* how many are held, 0 to 265; at most 264 after a call that is not refused */
+    uint16_t count; /* how many are held, 0 to 267; at most 266 after a call that is not refused */
 };
 
 /*
- * A line, 288 bytes: the settings and the receiver of one reader. Settings that were stored go into line.settings as they are.
+ * A line, 290 bytes: the settings and the receiver of one reader. Settings that were stored go into line.settings as they are.
  * The receiver is not worth storing: after power-on it starts as zeros.
  */
 struct bystrodol_line {
@@ -218,8 +220,9 @@ extern "C" {
  * transfer, spare 0. With zeroed memory they are a fresh reader.
  *
  * So a fresh reader takes and sends data packets of 128 bytes. A host that sends 64 sets size code 1 first (SetSysPara, parameter
- * 6); otherwise its first data packet is answered 0Eh. Settings that were stored keep their own code, 0, 1 or 2: neither the line
- * switch nor any call but SetSysPara changes it. So call this only where no settings are stored, and save what it gives.
+ * 6), and one that sends 256 code 3; otherwise its first data packet is answered 0Eh. Settings that were stored keep their own
+ * code, 0 to 3: neither the line switch nor any call but SetSysPara changes it. So call this only where no settings are stored,
+ * and save what it gives.
  */
 struct bystrodol_settings bystrodol_fresh(void);
 
@@ -289,7 +292,7 @@ uint16_t bystrodol_sum(const uint8_t *run, size_t run_length);
  * How many bytes from the front of a run of received bytes are dealt with: a whole packet and what stands before it,
  * or what can start no packet. The caller drops that many. It is never more than run_length.
  *
- * 0 means that the run is empty, a lone EFh, or the front of a packet that is not all there yet, at most 264 bytes:
+ * 0 means that the run is empty, a lone EFh, or the front of a packet that is not all there yet, at most 266 bytes:
  * receive more first. The packet's address and sum are not looked at.
  *
  *   run, run_length   the bytes received and not yet dropped
@@ -300,8 +303,8 @@ size_t bystrodol_used(const uint8_t *run, size_t run_length);
  * Builds a packet at the front of the room. Returns the packet's length, content_length + 11. Room past the packet keeps
  * its bytes.
  *
- * Returns 0 and writes nothing if identifier is not 1, 2, 7 or 8, if content_length is not 1 to 254, or if
- * room_length is below content_length + 11.
+ * Returns 0 and writes nothing if identifier is not 1, 2, 7 or 8, if content_length is not 1 to 256 for identifiers 2 and 8, or
+ * not 1 to 254 for 1 and 7, or if room_length is below content_length + 11.
  *
  *   address                   the module's address as a number; FFFFFFFFh is a fresh reader's
  *   identifier                BYSTRODOL_PACKET_COMMAND, _DATA, _ACKNOWLEDGE or _LAST_DATA

@@ -13,6 +13,7 @@ from line import Line, Refused, Trouble, transfer_size
 from program import TROUBLE, end
 from protocol import (BAUD, BAUD_FACTOR, FRESH_ADDRESS, FRESH_BAUD_FACTOR, NO_PASSWORD, NOTE, SECURITY_LEVEL, SIZE_CODE, SIZES,
                       TEMPLATE)
+from words import SIZES_IN_WORDS
 
 SECONDS = 3                 # the longest wait for a packet, unless --wait says another
 MOST_SECONDS = 3600
@@ -53,7 +54,7 @@ def size_code_of(text):
     for code, size in SIZES.items():
         if text == str(size):
             return code
-    raise ValueError("is not 32, 64 or 128")
+    raise ValueError("is not " + SIZES_IN_WORDS)
 
 
 def baud_factor_of(text):
@@ -80,7 +81,7 @@ FORMS = (
     Form("password", (PASSWORD,), "VfyPwd", "verifies a password: eight hex digits"),
     Form("set-password", (PASSWORD,), "SetPwd", "sets it; 00000000 is none"),
     Form("set-address", (ADDRESS,), "SetAdder", "eight hex digits"),
-    Form("set-size", (SIZE,), "SetSysPara", "32, 64 or 128 bytes in a data packet", before=(SIZE_CODE,)),
+    Form("set-size", (SIZE,), "SetSysPara", SIZES_IN_WORDS + " bytes in a data packet", before=(SIZE_CODE,)),
     Form("set-level", (LEVEL,), "SetSysPara", "security level, 1 to 5", before=(SECURITY_LEVEL,)),
     Form("set-baud", (SPEED,), "SetSysPara", "9600 to 115200, in steps of 9600", before=(BAUD_FACTOR,)),
     Form("delete", (PAGE,), "DeletChar", "deletes a page", after=(1,)),

@@ -167,5 +167,5 @@ def transfer_size(line):
     """The bytes in a data packet that the reader is set to."""
     code = number(line.ask("ReadSysPara")["size code"])
     if code not in SIZES:
-        raise Trouble("the reader's size code is %d, and document 01 has 0 to 2" % code)
+        raise Trouble("the reader's size code is %d, and document 01 has 0 to %d" % (code, max(SIZES)))
     return SIZES[code]

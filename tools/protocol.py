@@ -7,14 +7,17 @@ import collections
 
 START = b"\xef\x01"
 HEAD = 9                                # the bytes before the content: EF 01, address (4), identifier (1), length (2)
-LEAST_LENGTH, MOST_LENGTH = 3, 256      # of a length field, which counts the content and the two bytes of the sum
 
 COMMAND, DATA, ACKNOWLEDGE, LAST_DATA = 1, 2, 7, 8
 IDENTIFIERS = {COMMAND: "command", DATA: "data", ACKNOWLEDGE: "acknowledge", LAST_DATA: "last data"}
 
+# A length field counts the content and the two bytes of the sum; the most goes by the identifier.
+LEAST_LENGTH = 3
+MOST_LENGTH = {COMMAND: 256, DATA: 258, ACKNOWLEDGE: 256, LAST_DATA: 258}
+
 TEMPLATE = 512                          # bytes, in a buffer or on a page
 NOTE = 32                               # bytes of a notepad page
-SIZES = {0: 32, 1: 64, 2: 128}          # the bytes in a data packet, by size code
+SIZES = {0: 32, 1: 64, 2: 128, 3: 256}  # the bytes in a data packet, by size code
 BAUD = 9600                             # times the baud factor is the speed of the line
 FRESH_ADDRESS = b"\xff" * 4
 FRESH_SIZE_CODE = 2
@@ -119,7 +122,7 @@ def find(run):
     if len(head) < HEAD:
         return Found(UNFINISHED, start, start)
     length = number(head[7:])
-    if head[6] not in IDENTIFIERS or not LEAST_LENGTH <= length <= MOST_LENGTH:
+    if head[6] not in IDENTIFIERS or not LEAST_LENGTH <= length <= MOST_LENGTH[head[6]]:
         return Found(UNFIT, start, start + len(START))
     end = start + HEAD + length
     return Found(UNFINISHED, start, start) if len(run) < end else Found(WHOLE, start, end)

@@ -23,6 +23,14 @@ def plural(count, what):
     return "%d %s%s" % (count, what, "" if count == 1 else "s")
 
 
+def one_of(numbers):
+    *others, last = map(str, numbers)
+    return "%s or %s" % (", ".join(others), last)
+
+
+SIZES_IN_WORDS = one_of(SIZES.values())
+
+
 def in_text(note):
     """A notepad page: its text without the zero bytes behind it, or its bytes if it is no text."""
     try:
@@ -113,7 +121,8 @@ def show(who, run, asked=None):
 def show_data(who, packets):
     """The data packets of a transfer, the first and the last."""
     show(who, packets[0])
-    print("           and %d more like it" % (len(packets) - 2))
+    if len(packets) > 2:
+        print("           and %d more like it" % (len(packets) - 2))
     show(who, packets[-1])
 
 
@@ -128,7 +137,7 @@ def faults_of(packet, asked=None):
     elif packet.identifier == ACKNOWLEDGE:
         faults += faults_of_acknowledge(packet, asked)
     elif len(packet.content) not in SIZES.values():
-        faults.append("it has %s, and a data packet has 32, 64 or 128" % plural(len(packet.content), "byte"))
+        faults.append("it has %s, and a data packet has %s" % (plural(len(packet.content), "byte"), SIZES_IN_WORDS))
     return faults
 
 

@@ -25,11 +25,11 @@ AT(bystrodol_settings, filled1, 17);
 AT(bystrodol_settings, filled2, 18);
 AT(bystrodol_settings, spare, 19);
 
-STRUCT(bystrodol_receiver, 268, 2);
+STRUCT(bystrodol_receiver, 270, 2);
 AT(bystrodol_receiver, held, 0);
-AT(bystrodol_receiver, count, 266);
+AT(bystrodol_receiver, count, 268);
 
-STRUCT(bystrodol_line, 288, 2);
+STRUCT(bystrodol_line, 290, 2);
 AT(bystrodol_line, settings, 0);
 AT(bystrodol_line, receiver, 20);
 

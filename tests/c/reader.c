@@ -211,9 +211,9 @@ static void transfers(uint8_t buffer, uint8_t size) {
 
 static void bad_settings(void) {
     ranges("level", &area.line.settings.level, 1, 5);
-    ranges("size code", &area.line.settings.size, 0, 2);
+    ranges("size code", &area.line.settings.size, 0, 3);
     ranges("baud factor", &area.line.settings.baud, 1, 12);
-    for (uint8_t size = 0; size < 3; size++)
+    for (uint8_t size = 0; size < 4; size++)
         for (uint8_t buffer = 1; buffer < 3; buffer++) transfers(buffer, size);
     for (unsigned i = 3; i < 256; i++) {
         set_up();
@@ -252,7 +252,7 @@ static void order(void) {
 
 /* ---- the line switch */
 
-/* The receiver has what set_up left in it, a count above 265. */
+/* The receiver has what set_up left in it, a count above 267. */
 static uint8_t line_switch(void) {
     save();
     if (door == STEP) return bystrodol_line_switch(&area.line.settings, part(BUFFER1), lengths[BUFFER1], part(BUFFER2), lengths[BUFFER2]);
@@ -375,7 +375,7 @@ static void fill_settings(void) {
 static void make_nearly_legal(void) {
     struct bystrodol_settings *s = &area.line.settings;
     if (random_byte() % 16) s->level = (uint8_t)(1 + s->level % 5);
-    if (random_byte() % 16) s->size = (uint8_t)(s->size % 3);
+    if (random_byte() % 16) s->size = (uint8_t)(s->size % 4);
     if (random_byte() % 16) s->baud = (uint8_t)(1 + s->baud % 12);
     if (random_byte() % 16) s->transfer = (uint8_t)(s->transfer % 3);
     if (random_byte() % 16) s->got = (uint16_t)(s->transfer ? s->got % 4 * 128 : 0);
@@ -387,7 +387,7 @@ static void make_nearly_legal(void) {
 static int is_legal(const struct bystrodol_settings *s) {
     int is_open = s->verified || !(s->password[0] | s->password[1] | s->password[2] | s->password[3]);
     if (s->verified > 1 || s->filled1 > 1 || s->filled2 > 1) return 0;
-    if (s->level < 1 || s->level > 5 || s->size > 2 || s->baud < 1 || s->baud > 12) return 0;
+    if (s->level < 1 || s->level > 5 || s->size > 3 || s->baud < 1 || s->baud > 12) return 0;
     if (s->transfer == 0) return s->got == 0;
     return s->transfer <= 2 && s->got < 512 && s->got % (32 << s->size) == 0 && is_open && !(s->transfer == 1 ? s->filled1 : s->filled2);
 }
@@ -445,7 +445,8 @@ static const struct {
     {BYSTRODOL_CODE_DONE, 1, {BYSTRODOL_COMMAND_EMPTY}},
     {BYSTRODOL_CODE_DONE, 3, {BYSTRODOL_COMMAND_SET_SYS_PARA, BYSTRODOL_PARAMETER_BAUD, 12}},
     {BYSTRODOL_CODE_DONE, 3, {BYSTRODOL_COMMAND_SET_SYS_PARA, BYSTRODOL_PARAMETER_LEVEL, 5}},
-    {BYSTRODOL_CODE_BAD_VALUE, 3, {BYSTRODOL_COMMAND_SET_SYS_PARA, BYSTRODOL_PARAMETER_SIZE, 3}},
+    {BYSTRODOL_CODE_DONE, 3, {BYSTRODOL_COMMAND_SET_SYS_PARA, BYSTRODOL_PARAMETER_SIZE, 3}},
+    {BYSTRODOL_CODE_BAD_VALUE, 3, {BYSTRODOL_COMMAND_SET_SYS_PARA, BYSTRODOL_PARAMETER_SIZE, 4}},
     {BYSTRODOL_CODE_BAD_PARAMETER, 3, {BYSTRODOL_COMMAND_SET_SYS_PARA, 7, 1}},
     {BYSTRODOL_CODE_DONE, 1, {BYSTRODOL_COMMAND_READ_SYS_PARA}},
     {BYSTRODOL_CODE_DONE, 5, {BYSTRODOL_COMMAND_SET_PWD, 0, 0, 0, 5}},
@@ -487,7 +488,7 @@ static void named_codes(void) {
 
 /* An unfinished packet is held to its last byte but one: the most that is ever held. */
 static void unfinished(void) {
-    static const uint8_t head[] = {0xEF, 0x01, 0xFF, 0xFF, 0xFF, 0xFF, 0x01, 0x01, 0x00};
+    static const uint8_t head[] = {0xEF, 0x01, 0xFF, 0xFF, 0xFF, 0xFF, 0x02, 0x01, 0x02};
     static uint8_t held[BYSTRODOL_UNFINISHED_MOST + 1];
     memcpy(held, head, sizeof head);
     check("an unfinished packet", bystrodol_used(held, BYSTRODOL_UNFINISHED_MOST), 0);

@@ -1,7 +1,7 @@
 /*
  * Calls the receiver from C. Each of its calls is held to a call without a receiver, on the bytes that were held and the bytes that
  * were taken, joined: every held count with pieces of every length, and cells behind the held bytes that are not zero. The loop
- * that the header has is held to the same run whole, in pieces of every length. Held counts above 265, the line switch, power-on
+ * that the header has is held to the same run whole, in pieces of every length. Held counts above 267, the line switch, power-on
  * with stored settings, a line that falls silent, and the size of data packets in fresh and in stored settings.
  * tests/c/run builds and runs it. It writes one line, 'receiver: N checks passed', and ends with 0; or names each failed check
  * and ends with 1.
@@ -96,15 +96,15 @@ static void add_packet(uint8_t identifier, const uint8_t *content, size_t length
         add_packet(BYSTRODOL_PACKET_COMMAND, content, sizeof content);       \
     } while (0)
 
-/* The longest packet that there is, 265 bytes. */
-static void add_longest(void) {
-    uint8_t content[BYSTRODOL_CONTENT_MOST];
-    for (size_t i = 0; i < sizeof content; i++) content[i] = (uint8_t)(i * 5 + 1);
-    add_packet(BYSTRODOL_PACKET_COMMAND, content, sizeof content);
+/* The longest packet of an identifier: 267 bytes of a data packet, 265 of a command. */
+static void add_longest(uint8_t identifier) {
+    uint8_t content[BYSTRODOL_CONTENT_MOST_DATA];
+    for (size_t i = 0; i < sizeof content; i++) content[i] = (uint8_t)(i * 5 + identifier);
+    add_packet(identifier, content, identifier == BYSTRODOL_PACKET_COMMAND ? BYSTRODOL_CONTENT_MOST_OTHER : sizeof content);
 }
 
-/* What a host may send: a template downloaded, stored, loaded and uploaded; noise, a lone EF, a start that no packet has, a wrong sum
- * and another address between; a password; and at the end a packet that is not all there. */
+/* What a host may send: a template downloaded, stored, loaded and uploaded, and one in the longest data packets; noise, a lone EF, a
+ * start that no packet has, a wrong sum and another address between; a password; and at the end a packet that is not all there. */
 static void make_dialogue(void) {
     static const uint8_t noise[] = {0x00, 0x55, 0xEF, 0xEF, 0x02}, no_packet[] = {0xEF, 0x01, 1, 2, 3, 4, 1, 0x01, 0x2C, 0xEF};
     static const uint8_t elsewhere[] = {0xEF, 0x01, 1, 2, 3, 4, 0x01, 0x00, 0x03, 0x40, 0x00, 0x44};
@@ -121,7 +121,12 @@ static void make_dialogue(void) {
     add(no_packet, sizeof no_packet);
     COMMAND(BYSTRODOL_COMMAND_LOAD_CHAR, 2, 0, 3);
     COMMAND(BYSTRODOL_COMMAND_UP_CHAR, 2);
-    add_longest();
+    add_longest(BYSTRODOL_PACKET_COMMAND);
+    COMMAND(BYSTRODOL_COMMAND_SET_SYS_PARA, BYSTRODOL_PARAMETER_SIZE, 3);
+    COMMAND(BYSTRODOL_COMMAND_DOWN_CHAR, 1);
+    add_longest(BYSTRODOL_PACKET_DATA);
+    add_longest(BYSTRODOL_PACKET_LAST_DATA);
+    COMMAND(BYSTRODOL_COMMAND_UP_CHAR, 1);
     add(elsewhere, sizeof elsewhere);
     COMMAND(BYSTRODOL_COMMAND_SET_PWD, 1, 2, 3, 4);
     COMMAND(BYSTRODOL_COMMAND_TEMPLETE_NUM);
@@ -129,7 +134,7 @@ static void make_dialogue(void) {
     COMMAND(BYSTRODOL_COMMAND_READ_INDEX_TABLE, 0);
     COMMAND(BYSTRODOL_COMMAND_VFY_PWD, 1, 2, 3, 4);
     COMMAND(BYSTRODOL_COMMAND_READ_INDEX_TABLE, 0);
-    add_longest();
+    add_longest(BYSTRODOL_PACKET_DATA);
     run_length--;
 }
 
@@ -156,7 +161,7 @@ static void every_call(const char *name, uint8_t behind) {
 
 static void calls(void) {
     run_length = 0;
-    add_longest();
+    add_longest(BYSTRODOL_PACKET_DATA);
     COMMAND(BYSTRODOL_COMMAND_READ_SYS_PARA);
     every_call("the longest packet", 0xEF);
     make_dialogue();
@@ -374,26 +379,52 @@ static void downloads(const char *name, size_t size, int is_served) {
     check_of(name, size, "buffer 1", differ(reader.buffer1, is_served ? template : zeros, sizeof template), sizeof template);
 }
 
-/* A fresh reader takes 128 bytes with nothing set; a host that sends 64 sets code 1 first. */
+/* UpChar gives back what the last download left in buffer 1, in data packets of so many bytes, the last with its own identifier. */
+static void uploads(const char *name, size_t size) {
+    uint8_t packet[BYSTRODOL_CONTENT_MOST_DATA + BYSTRODOL_FRAME_BYTES];
+    size_t at = 12;
+    run_length = replied = 0;
+    COMMAND(BYSTRODOL_COMMAND_UP_CHAR, 1);
+    check_of(name, size, "refusal", serve_piece(&reader, run, run_length), BYSTRODOL_ACCEPTED);
+    for (size_t sent = 0; sent < BYSTRODOL_PAGE_BYTES; sent += size) {
+        uint8_t identifier = sent + size < BYSTRODOL_PAGE_BYTES ? BYSTRODOL_PACKET_DATA : BYSTRODOL_PACKET_LAST_DATA;
+        size_t length = bystrodol_build(0xFFFFFFFF, identifier, reader.buffer1 + sent, size, packet, sizeof packet);
+        check_of(name, size, "a data packet", differ(replies + at, packet, length), length);
+        at += length;
+    }
+    check_of(name, size, "reply bytes", replied, at);
+}
+
+/* A fresh reader takes 128 bytes with nothing set; a host that sends 64 sets code 1 first, and one that sends 256 code 3. */
 static void fresh_size(void) {
     set_up(&reader);
     downloads("a fresh reader", 128, 1);
     downloads("a fresh reader, unasked", 64, 0);
     downloads("a fresh reader, unasked", 32, 0);
+    downloads("a fresh reader, unasked", 256, 0);
     run_length = 0;
     COMMAND(BYSTRODOL_COMMAND_SET_SYS_PARA, BYSTRODOL_PARAMETER_SIZE, 1);
     check("size code 1", code_of(), BYSTRODOL_CODE_DONE);
     downloads("size code 1", 64, 1);
     downloads("size code 1", 128, 0);
+    run_length = 0;
+    COMMAND(BYSTRODOL_COMMAND_SET_SYS_PARA, BYSTRODOL_PARAMETER_SIZE, 3);
+    check("size code 3", code_of(), BYSTRODOL_CODE_DONE);
+    downloads("size code 3", 256, 1);
+    uploads("size code 3", 256);
+    check("an upload of 256 bytes a packet", replied, 546);
+    downloads("size code 3", 128, 0);
 }
 
 /* Stored settings keep their own code, over power-on, downloads and a line switch. */
 static void stored_size(void) {
-    for (uint8_t code = 0; code <= 2; code++) {
+    for (uint8_t code = 0; code <= 3; code++) {
         set_up(&reader);
         reader.line.settings.size = code;
         check_of("a stored code", code, "power-on", bystrodol_receiver_switch(&reader.line, BUFFERS(&reader)), BYSTRODOL_ACCEPTED);
-        for (uint8_t sent = 0; sent <= 2; sent++) downloads("a stored code", (size_t)32 << sent, sent == code);
+        for (uint8_t sent = 0; sent <= 3; sent++) downloads("a stored code", (size_t)32 << sent, sent == code);
+        downloads("a stored code", (size_t)32 << code, 1);
+        uploads("a stored code", (size_t)32 << code);
         check_of("a stored code", code, "line switch", bystrodol_receiver_switch(&reader.line, BUFFERS(&reader)), BYSTRODOL_ACCEPTED);
         check_of("a stored code", code, "the size code", reader.line.settings.size, code);
     }

@@ -5,7 +5,7 @@
 #include "bystrodol.h"
 #include "check.h"
 
-enum { LONGEST = BYSTRODOL_CONTENT_MOST + BYSTRODOL_FRAME_BYTES, ROOM = LONGEST + 64, GUARD = 64, MANY = 65537 };
+enum { LONGEST = BYSTRODOL_CONTENT_MOST_DATA + BYSTRODOL_FRAME_BYTES, ROOM = LONGEST + 64, GUARD = 64, MANY = 65537 };
 
 /* ---- the sum */
 
@@ -22,7 +22,7 @@ static void sums(void) {
     check("a sum past 65535", bystrodol_sum(full, 258), 0x00FE);
 }
 
-/* ---- the bytes used: document 01's examples */
+/* ---- the bytes used: document 01's examples, and request [3]'s limits */
 
 #define A 0xFF, 0xFF, 0xFF, 0xFF
 
@@ -47,7 +47,7 @@ static void used(void) {
     check("P5: another address", bystrodol_used(p5, sizeof p5), 12);
     check("P6: a length below 3", bystrodol_used(p6, sizeof p6), 2);
     check("P6 before its length is all there", bystrodol_used(p6, 8), 0);
-    check("P7: a length above 256", bystrodol_used(p7_long, sizeof p7_long), 2);
+    check("P7: a command's length above 256", bystrodol_used(p7_long, sizeof p7_long), 2);
     check("P7: the length 256, unfinished", bystrodol_used(p7_longest, sizeof p7_longest), 0);
     check("P8: a whole packet", bystrodol_used(p8, sizeof p8), 12);
     check("a lone EF", bystrodol_used(p1, 1), 0);
@@ -56,6 +56,16 @@ static void used(void) {
     check("an identifier that no packet has", bystrodol_used(unknown, sizeof unknown), 3);
     check("a packet between noise", bystrodol_used(late, sizeof late), 14);
     for (size_t n = 2; n < sizeof p1; n++) check_of("P1, unfinished", n, "bytes used", bystrodol_used(p1, n), 0);
+}
+
+/* A head with every identifier and every length field up to 300, and beyond: awaited where a packet can have them, and otherwise passed over. */
+static void heads(void) {
+    for (unsigned identifier = 0; identifier < 256; identifier++)
+        for (unsigned length = 0; length < 0x10000; length += length < 300 ? 1 : 251) {
+            const uint8_t head[] = {0xEF, 0x01, A, (uint8_t)identifier, (uint8_t)(length >> 8), (uint8_t)length};
+            unsigned most = identifier == 2 || identifier == 8 ? 258 : identifier == 1 || identifier == 7 ? 256 : 0;
+            check_of("a head", identifier * 0x10000 + length, "bytes used", bystrodol_used(head, sizeof head), 3 <= length && length <= most ? 0 : 2);
+        }
 }
 
 /* ---- building a packet: the room lies between two guards, and every byte of all three is looked at */
@@ -98,29 +108,43 @@ static void builds(void) {
     refused("no room, at NULL", 0, build(0xFFFFFFFF, 1, handshake, 1, 0));
     refused("no content", 0, build(0xFFFFFFFF, 1, handshake, 0, ROOM));
     refused("no content, at NULL", 0, build(0xFFFFFFFF, 1, NULL, 0, ROOM));
-    refused("content of 255 bytes", 0, build(0xFFFFFFFF, 1, content, 255, ROOM));
+    for (size_t n = 255; n <= 258; n++) {
+        refused("a command of too much content", n, build(0xFFFFFFFF, BYSTRODOL_PACKET_COMMAND, content, n, ROOM));
+        refused("an acknowledge of too much content", n, build(0xFFFFFFFF, BYSTRODOL_PACKET_ACKNOWLEDGE, content, n, ROOM));
+    }
+    refused("a data packet of 257 bytes", 0, build(0xFFFFFFFF, BYSTRODOL_PACKET_DATA, content, 257, ROOM));
+    refused("a last data packet of 257 bytes", 0, build(0xFFFFFFFF, BYSTRODOL_PACKET_LAST_DATA, content, 257, ROOM));
     refused("content of 65537 bytes", 0, build(0xFFFFFFFF, 1, content, MANY, ROOM));
     refused("identifier 3", 0, build(0xFFFFFFFF, 3, handshake, 1, ROOM));
     for (unsigned i = 0; i < 256; i++)
         if (i != 1 && i != 2 && i != 7 && i != 8) refused("an identifier that no packet has", i, build(0xFFFFFFFF, (uint8_t)i, handshake, 1, ROOM));
 }
 
-/* 254 bytes of content FF: the sum is 02 + 01 + 00 + 254 * FF = FD05h. */
-static void longest(void) {
-    static uint8_t packet[LONGEST] = {0xEF, 0x01, A, 0x02, 0x01, 0x00};
-    for (size_t i = 0; i < BYSTRODOL_CONTENT_MOST; i++) content[i] = packet[9 + i] = 0xFF;
-    packet[LONGEST - 2] = 0xFD, packet[LONGEST - 1] = 0x05;
-    built("the longest packet", build(0xFFFFFFFF, 2, content, BYSTRODOL_CONTENT_MOST, LONGEST), packet, LONGEST);
-    check("the longest packet's bytes used", bystrodol_used(room, LONGEST), LONGEST);
-    check("the longest packet, unfinished", bystrodol_used(room, LONGEST - 1), 0);
-    refused("the longest packet, its room one byte short", 0, build(0xFFFFFFFF, 2, content, BYSTRODOL_CONTENT_MOST, LONGEST - 1));
+/* A packet of n bytes of content FF, whose sum is written here. */
+static void longest(uint8_t identifier, size_t n, uint16_t sum) {
+    size_t length = n + BYSTRODOL_FRAME_BYTES;
+    uint8_t packet[LONGEST] = {0xEF, 0x01, A, identifier, (uint8_t)(n + 2 >> 8), (uint8_t)(n + 2)};
+    for (size_t i = 0; i < n; i++) content[i] = packet[9 + i] = 0xFF;
+    packet[length - 2] = (uint8_t)(sum >> 8), packet[length - 1] = (uint8_t)sum;
+    built("the longest packet", build(0xFFFFFFFF, identifier, content, n, length), packet, length);
+    check("the longest packet's bytes used", bystrodol_used(room, length), length);
+    check("the longest packet, unfinished", bystrodol_used(room, length - 1), 0);
+    refused("the longest packet, its room one byte short", 0, build(0xFFFFFFFF, identifier, content, n, length - 1));
+}
+
+/* A data packet of 256 bytes: 02 + 01 + 02 + 256 * FF = FF05h; a command of 254: 01 + 01 + 00 + 254 * FF = FD04h; and so on. */
+static void all_longest(void) {
+    longest(BYSTRODOL_PACKET_DATA, BYSTRODOL_CONTENT_MOST_DATA, 0xFF05);
+    longest(BYSTRODOL_PACKET_LAST_DATA, BYSTRODOL_CONTENT_MOST_DATA, 0xFF0B);
+    longest(BYSTRODOL_PACKET_COMMAND, BYSTRODOL_CONTENT_MOST_OTHER, 0xFD04);
+    longest(BYSTRODOL_PACKET_ACKNOWLEDGE, BYSTRODOL_CONTENT_MOST_OTHER, 0xFD0A);
 }
 
 /* A packet of every length is found again whole, and its last two bytes are the sum of what they sum. */
-static void read_back(void) {
-    for (size_t i = 0; i < BYSTRODOL_CONTENT_MOST; i++) content[i] = (uint8_t)(i * i);
-    for (size_t n = 1; n <= BYSTRODOL_CONTENT_MOST; n++) {
-        size_t length = build(0x01020304, 8, content, n, ROOM);
+static void read_back(uint8_t identifier, size_t most) {
+    for (size_t i = 0; i < most; i++) content[i] = (uint8_t)(i * i);
+    for (size_t n = 1; n <= most; n++) {
+        size_t length = build(0x01020304, identifier, content, n, ROOM);
         check_of("a packet read back", n, "length", length, n + BYSTRODOL_FRAME_BYTES);
         check_of("a packet read back", n, "content", differ(room + 9, content, n), n);
         check_of("a packet read back", n, "bytes used", bystrodol_used(room, length), length);
@@ -154,9 +178,11 @@ static void counts(void) {
 int main(void) {
     sums();
     used();
+    heads();
     builds();
-    longest();
-    read_back();
+    all_longest();
+    read_back(BYSTRODOL_PACKET_LAST_DATA, BYSTRODOL_CONTENT_MOST_DATA);
+    read_back(BYSTRODOL_PACKET_COMMAND, BYSTRODOL_CONTENT_MOST_OTHER);
     counts();
     return report("services");
 }

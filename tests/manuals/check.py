@@ -34,7 +34,7 @@ def grain(seed, length):
 
 
 ROOM = grain(200, 700)
-CELLS = 265
+CELLS = 267
 
 
 class Reader:
@@ -67,9 +67,14 @@ def changed(reader, **settings):
     return reader
 
 
-def in_transfer():
-    reader = changed(filled(), transfer=1, got=256, filled1=0)
+def in_transfer(**settings):
+    reader = changed(filled(), transfer=1, got=256, filled1=0, **settings)
     reader.memory["buffer1"] = reader.memory["buffer1"][:256] + bytes(256)
+    return reader
+
+
+def with_buffer1(reader, byte):
+    reader.memory["buffer1"] = bytes([byte]) * 512
     return reader
 
 
@@ -82,11 +87,14 @@ READERS = {
     "open": in_transfer(),
     "large": filled(256, range(256)),
     "elsewhere": changed(filled(), address=bytes(4)),
+    "wide": with_buffer1(changed(filled(), size=3), 0xA5),
+    "awaiting": with_buffer1(changed(filled(), size=3, transfer=1, filled1=0), 0),
+    "halfway": in_transfer(size=3),
 }
 
 
 class Entry:
-    """An entry of the data file, with its packets: the print, and if that is damaged the repaired packet."""
+    """An entry of the data file, with its packets: the print, and if that is damaged the repaired packet; or one that is made."""
 
     def __init__(self, label):
         self.label, self.damaged, self.packets = label, False, []
@@ -108,11 +116,16 @@ class Put:
 def expected_reader(put):
     reader = copy.deepcopy(READERS[put.name])
     for change in put.after.split(", "):
-        name = change.removesuffix(" zeroed")
+        name, *what = change.split()
         if change == "no transfer":
             reader.settings.update(transfer=0, got=0)
-        elif name != change and name in MEMORY:
+        elif what == ["zeroed"] and name in MEMORY:
             reader.memory[name] = bytes(len(reader.memory[name]))
+        elif what[:1] == ["from"] and name in MEMORY:
+            place, part = int(what[1]), bytes_of(" ".join(what[2:]))
+            reader.memory[name] = reader.memory[name][:place] + part + reader.memory[name][place + len(part):]
+        elif len(what) == 1 and name in SETTINGS:
+            reader.settings[name] = int(what[0])
         elif put.after != "same":
             raise Unusable(f"{put.place}: no such change: {change}")
     return reader
@@ -131,9 +144,17 @@ def whole(run):
     return True
 
 
+BYTE = r"[0-9A-F]{2}(?:\*\d+)?"
+BYTES = rf"(?:{BYTE} )*{BYTE}"
 ENTRY = re.compile(r"source (\d{3}) (lines? [\d, -]+): (.+)")
-PACKET = re.compile(r"(print|repaired) +((?:[0-9A-F]{2} )*[0-9A-F]{2})")
-PUT = re.compile(r"  (\w+) +used (\d+) +(?:silent|reply ((?:[0-9A-F]{2} )*[0-9A-F]{2}))  after (.+)")
+PACKET = re.compile(rf"(print|repaired|made) +({BYTES})")
+PUT = re.compile(rf"  (\w+) +used (\d+) +(?:silent|reply ({BYTES}))  after (.+)")
+
+
+def bytes_of(text):
+    """Bytes in hex; A5*256 is A5 256 times."""
+    parts = (word.partition("*") for word in text.split())
+    return b"".join(bytes.fromhex(byte) * int(times or 1) for byte, _, times in parts)
 
 
 def read_data(lines):
@@ -151,9 +172,9 @@ def read_data(lines):
         elif entry and line.startswith("damage "):
             entry.damaged = True
         elif entry and (m := PACKET.fullmatch(line)):
-            entry.packets.append(Packet(f"{entry.label}, {m[1]}", m[1], bytes.fromhex(m[2])))
+            entry.packets.append(Packet(f"{entry.label}, {m[1]}", m[1], bytes_of(m[2])))
         elif packet and (m := PUT.fullmatch(line)) and m[1] in READERS:
-            packet.puts.append(Put(packet, m[1], int(m[2]), bytes.fromhex(m[3] or ""), m[4]))
+            packet.puts.append(Put(packet, m[1], int(m[2]), bytes_of(m[3] or ""), m[4]))
         else:
             raise Unusable(f"packets.txt line {number}: not understood: {line}")
     return entries
@@ -163,8 +184,9 @@ def data_failures(entries):
     """What is wrong with the data file by itself."""
     failures = []
     for entry in entries:
-        if [packet.kind for packet in entry.packets] != ["print", "repaired"][:1 + entry.damaged]:
-            failures.append(f"{entry.label}: a print, and a repaired packet if it is damaged, are wanted")
+        kinds = [packet.kind for packet in entry.packets]
+        if kinds != ["print", "repaired"][:1 + entry.damaged] and kinds != ["made"]:
+            failures.append(f"{entry.label}: a print, and a repaired packet if it is damaged, are wanted, or one that is made")
         for packet in entry.packets:
             if not packet.puts:
                 failures.append(f"{packet.place}: put to no reader")

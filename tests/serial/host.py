@@ -158,18 +158,18 @@ def enrol(host, number):
     host.check_silent("at the end")
 
 
-def send_64(host):
-    """64 bytes to a data packet: without asking, 0Eh for the first; with size code 1 set before, served."""
+def send_other(host, size, code):
+    """Another size of data packets than a fresh reader's: without asking, 0Eh for the first; with its code set before, served."""
     template = bytes(i * i % 256 for i in range(512))
-    first, *others = data_packets(template, 64)
-    host.ask("DownChar, 64 unasked", b"\x09\x01")
-    host.exchange("64 bytes, unasked", next(host.noise) + first, acknowledge(0x0E))
+    first, *others = data_packets(template, size)
+    host.ask("DownChar, %d unasked" % size, b"\x09\x01")
+    host.exchange("%d bytes, unasked" % size, next(host.noise) + first, acknowledge(0x0E))
     for one in others:
-        host.exchange("64 bytes, no transfer is open", next(host.noise) + one, b"")
+        host.exchange("%d bytes, no transfer is open" % size, next(host.noise) + one, b"")
     host.ask("UpChar, not filled", b"\x08\x01", 0x0D)
-    host.ask("SetSysPara, size code 1", b"\x0e\x06\x01")
-    host.download(1, template, 64)
-    host.upload(1, template, 64)
+    host.ask("SetSysPara, size code %d" % code, b"\x0e\x06" + bytes([code]))
+    host.download(1, template, size)
+    host.upload(1, template, size)
     host.ask("SetSysPara, size code 2", b"\x0e\x06\x02")
 
 
@@ -210,7 +210,8 @@ def talk_over_link(host, link):
         for manner in MANNERS:
             host.open(name)
             host.use(manner)
-            send_64(host)
+            send_other(host, 64, 1)
+            send_other(host, 256, 3)
             host.port.close()
         check_refusal(link)
         server.end(signal.SIGINT)
