@@ -22,7 +22,7 @@ use Rattle.protocol.specs.Call.{Shape, Lent, fitLent, legal, core, callO
 use Rattle.protocol.specs.Records.{freshOf}
 use Rattle.protocol.proofs.Laws.Finder.{length-packet}
 use Rattle.protocol.proofs.Promises.Told.{Replies, Leaves, Gives, Numbered, blank, WithBuffer}
-use Rattle.protocol.proofs.Promises.Packets.{Accepted}
+use Rattle.protocol.proofs.Promises.Packets.{Data, Other, Accepted, data-accepted}
 use Rattle.protocol.proofs.Promises.Finding.{silently, First, lengthField, WholeAt, unfit, unfinished, whole, found, uses, silent-without, contentOf, content-long, more, last, heard}
 use Rattle.protocol.proofs.Promises.ZeroUsed.{UnfinishedPacket}
 use Rattle.protocol.proofs.Promises.LegalMeans.{core-holds, legal-means}
@@ -32,13 +32,6 @@ use Rattle.protocol.proofs.Promises.Parameters.{parameters, asked-by}
 use Rattle.protocol.proofs.Promises.Upload.{upload}
 use Rattle.protocol.proofs.Promises.FirstDownload.{A, downPacket, sizePacket, full, withCode, Talks, unasked, asked}
 use Rattle.protocol.proofs.Promises.InPieces.{HoweverCut, unasked-cut, asked-cut}
-
--- identifiers 1 and 7; identifiers 2 and 8
-abbrev pub Other : ℕ → Type 0
-Other i = (i ≡ 1) ⊎ (i ≡ 7)
-
-abbrev pub Data : ℕ → Type 0
-Data i = (i ≡ 2) ⊎ (i ≡ 8)
 
 -- ---- lengths above 256, whatever the size code
 
@@ -50,17 +43,7 @@ module _ (σ : Shape) (r : Reader) (s : List ℕ) (lent : Lent) (l : T (legal σ
 
   module _ (i : Data (getD s (p + 6) 0)) (least : 3 ≤ lengthField s p) (most : lengthField s p ≤ 258) where
     fits : Accepted (getD s (p + 6) 0) (lengthField s p)
-    fits = record { identifier = kind i; least = least; most = most; kept = never i }
-      where
-        kind : Data (getD s (p + 6) 0) → (getD s (p + 6) 0 ≡ 1) ⊎ (getD s (p + 6) 0 ≡ 2) ⊎ (getD s (p + 6) 0 ≡ 7) ⊎ (getD s (p + 6) 0 ≡ 8)
-        kind (inl e) = inr (inl e)
-        kind (inr e) = inr (inr (inr e))
-
-        never : Data (getD s (p + 6) 0) → Other (getD s (p + 6) 0) → lengthField s p ≤ 256
-        never (inl e) (inl f) = omega arith
-        never (inl e) (inr f) = omega arith
-        never (inr e) (inl f) = omega arith
-        never (inr e) (inr f) = omega arith
+    fits = data-accepted (getD s (p + 6) 0) (lengthField s p) i least most
 
     -- a data packet of length up to 258 is waited for, and then used whole
     pub data-waits : length s < p + 9 + lengthField s p → callOf σ r s lent ≡ silently r p lent
@@ -69,9 +52,9 @@ module _ (σ : Shape) (r : Reader) (s : List ℕ) (lent : Lent) (l : T (legal σ
     pub data-used : p + 9 + lengthField s p ≤ length s → callOf σ r s lent .told .used ≡ p + 9 + lengthField s p
     data-used all = uses σ r s lent l u (whole record { first = first; field = refl; accepted = fits; inside = all })
 
--- ---- a data packet for us of another size than ours, whatever its sum: its length field is n
+-- ---- data packets for us of lengths 257 and 258, whatever their sum
 
-module _ (σ : Shape) (r : Reader) (s : List ℕ) (lent : Lent) (l : T (legal σ r)) (u : T (fitLent lent)) (p n : ℕ) (w : WholeAt s p n)
+module _ (r : Reader) (s : List ℕ) (lent : Lent) (l : T (legal core r)) (u : T (fitLent lent)) (p n : ℕ) (w : WholeAt s p n)
     (ours : take 4 (drop (p + 2) s) ≡ r .plain .address) (i : Data (getD s (p + 6) 0)) where
   ends : Data (getD s (p + 6) 0) → Bool
   ends (inl e) = false
@@ -82,40 +65,38 @@ module _ (σ : Shape) (r : Reader) (s : List ℕ) (lent : Lent) (l : T (legal σ
   heard-piece (inl e) = heard (more w ours e)
   heard-piece (inr e) = heard (last w ours e)
 
-  -- in a transfer 0Eh, and the transfer ends
-  pub other-size-fails : n ≢ sizeOf (r .plain .size) + 2 → (b : Bool) (got : ℕ) → r .plain .transfer ≡ opened b got
-      → Leaves (acknowledge (r .plain .address) 0x0e []) (Stopped b r) s lent (callOf σ r s lent)
-  other-size-fails d b got e =
-      let misfit : GoesIn (r .plain) got (ends i) (rightAt s p n) (contentOf s p n) → ⊥ = λ g. d (sym (content-long s p n w) ∙ ap (λ (k : ℕ). k + 2) (g .long)) in
-      piece-fails σ r s lent l u (ends i) (rightAt s p n) (contentOf s p n) (heard-piece i) b got e misfit
+  -- without a transfer silence
+  pub data-ignored : r .plain .transfer ≡ closed → Gives [] r s lent (callOf core r s lent)
+  data-ignored e = piece-ignored core r s lent l u (ends i) (rightAt s p n) (contentOf s p n) (heard-piece i) e
 
-  -- without one silence
-  pub data-ignored : r .plain .transfer ≡ closed → Gives [] r s lent (callOf σ r s lent)
-  data-ignored e = piece-ignored σ r s lent l u (ends i) (rightAt s p n) (contentOf s p n) (heard-piece i) e
+  module _ (b : Bool) (got : ℕ) (e : r .plain .transfer ≡ opened b got) where
+    other-size : n ≢ sizeOf (r .plain .size) + 2 → Leaves (acknowledge (r .plain .address) 0x0e []) (Stopped b r) s lent (callOf core r s lent)
+    other-size d =
+        let misfit : GoesIn (r .plain) got (ends i) (rightAt s p n) (contentOf s p n) → ⊥ = λ g. d (sym (content-long s p n w) ∙ ap (λ (k : ℕ). k + 2) (g .long)) in
+        piece-fails core r s lent l u (ends i) (rightAt s p n) (contentOf s p n) (heard-piece i) b got e misfit
 
--- length 257 is no size's, and 258 that of code 3 alone
-module _ (r : Reader) (l : T (legal core r)) where
-  pub no-size-is-255 : 257 ≢ sizeOf (r .plain .size) + 2
-  unfolding sizeOf
-  no-size-is-255 = go (r .plain .size) (legal-means r l .settings .size)
-    where
-      go : (k : ℕ) → k ≤ 3 → 257 ≢ sizeOf k + 2
-      go zero h e = omega arith
-      go (suc zero) h e = omega arith
-      go (suc (suc zero)) h e = omega arith
-      go (suc (suc (suc zero))) h e = omega arith
-      go (suc (suc (suc (suc k)))) h e = omega arith
+    -- in one 0Eh, and it ends: of length 257 at every size code, and of 258 at every code but 3
+    pub fails-257 : n ≡ 257 → Leaves (acknowledge (r .plain .address) 0x0e []) (Stopped b r) s lent (callOf core r s lent)
+    unfolding sizeOf
+    fails-257 long = other-size (go (r .plain .size) (legal-means r l .settings .size))
+      where
+        go : (k : ℕ) → k ≤ 3 → n ≢ sizeOf k + 2
+        go zero h q = omega arith
+        go (suc zero) h q = omega arith
+        go (suc (suc zero)) h q = omega arith
+        go (suc (suc (suc zero))) h q = omega arith
+        go (suc (suc (suc (suc k)))) h q = omega arith
 
-  pub code-3-alone-is-256 : r .plain .size ≢ 3 → 258 ≢ sizeOf (r .plain .size) + 2
-  unfolding sizeOf
-  code-3-alone-is-256 d = go (r .plain .size) (legal-means r l .settings .size) refl
-    where
-      go : (k : ℕ) → k ≤ 3 → r .plain .size ≡ k → 258 ≢ sizeOf k + 2
-      go zero h q e = omega arith
-      go (suc zero) h q e = omega arith
-      go (suc (suc zero)) h q e = omega arith
-      go (suc (suc (suc zero))) h q e = d q
-      go (suc (suc (suc (suc k)))) h q e = omega arith
+    pub fails-258 : n ≡ 258 → r .plain .size ≢ 3 → Leaves (acknowledge (r .plain .address) 0x0e []) (Stopped b r) s lent (callOf core r s lent)
+    unfolding sizeOf
+    fails-258 long d = other-size (go (r .plain .size) (legal-means r l .settings .size) refl)
+      where
+        go : (k : ℕ) → k ≤ 3 → r .plain .size ≡ k → n ≢ sizeOf k + 2
+        go zero h z q = omega arith
+        go (suc zero) h z q = omega arith
+        go (suc (suc zero)) h z q = omega arith
+        go (suc (suc (suc zero))) h z q = d z
+        go (suc (suc (suc (suc k)))) h z q = omega arith
 
 -- ---- "the longest unfinished packet grows to 266", a data packet's; that of a command or an acknowledge keeps 264
 
@@ -125,12 +106,7 @@ longest-waits c e =
     let s : List ℕ = 0xef ∷ 0x01 ∷ 0xff ∷ 0xff ∷ 0xff ∷ 0xff ∷ 0x02 ∷ 0x01 ∷ 0x02 ∷ c in
     let long : length s ≡ 266 = omega arith in
     let first : First s 0 = record { here = record { inside = omega arith; first = refl; second = refl }; before = λ q h m. omega arith } in
-    let fit : Accepted 2 258 = record { identifier = inr (inl refl); least = lit≤ tt; most = lit≤ tt; kept = never } in
-    (long, found (unfinished first (omega arith) fit (omega arith)) .1)
-  where
-    never : Other 2 → 258 ≤ 256
-    never (inl f) = omega arith
-    never (inr f) = omega arith
+    (long, found (unfinished first (omega arith) (data-accepted 2 258 (inl refl) (lit≤ tt) (lit≤ tt)) (omega arith)) .1)
 
 pub other-waits : (s : List ℕ) → UnfinishedPacket s → 9 ≤ length s → Other (getD s 6 0) → length s ≤ 264
 other-waits s w h i = go (w .short)

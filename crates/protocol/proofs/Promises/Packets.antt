@@ -37,18 +37,25 @@ identifier-means i = (to (eqb i 1) (eqb i 2) (eqb i 7) (eqb i 8) refl refl refl 
     from (inr (inr (inl e))) = rw e tt
     from (inr (inr (inr e))) = rw e tt
 
+-- identifiers 2 and 8; identifiers 1 and 7
+abbrev pub Data : ℕ → Type 0
+Data i = (i ≡ 2) ⊎ (i ≡ 8)
+
+abbrev pub Other : ℕ → Type 0
+Other i = (i ≡ 1) ⊎ (i ≡ 7)
+
 -- an identifier and a length field that a packet can have: request [3]'s "length 3 to 258 for identifiers 2 and 8; 1 and 7 keep 256"
 pub record Accepted (i n : ℕ) : Type 0 where
   pub identifier : Identifier i
   pub least : 3 ≤ n
   pub most : n ≤ 258
-  pub kept : (i ≡ 1) ⊎ (i ≡ 7) → n ≤ 256
+  pub kept : Other i → n ≤ 256
 
 pub accepts-means : (i n : ℕ) → T (accepts i n) ↔ Accepted i n
 unfolding accepts limit longest
 accepts-means i n = (to, λ a. accepts-of i n (identifier-means i .1 (a .identifier)) (a .least) (below a (a .identifier)))
   where
-    keeps : n ≤ limit i → (i ≡ 1) ⊎ (i ≡ 7) → n ≤ 256
+    keeps : n ≤ limit i → Other i → n ≤ 256
     keeps h (inl e) = rw e at h
     keeps h (inr e) = rw e at h
 
@@ -60,6 +67,19 @@ accepts-means i n = (to, λ a. accepts-of i n (identifier-means i .1 (a .identif
     below a (inr (inl e)) = rw e (a .most)
     below a (inr (inr (inl e))) = rw e (a .kept (inr e))
     below a (inr (inr (inr e))) = rw e (a .most)
+
+pub data-accepted : (i n : ℕ) → Data i → 3 ≤ n → n ≤ 258 → Accepted i n
+data-accepted i n d l m = record { identifier = kind d; least = l; most = m; kept = never d }
+  where
+    kind : Data i → Identifier i
+    kind (inl e) = inr (inl e)
+    kind (inr e) = inr (inr (inr e))
+
+    never : Data i → Other i → n ≤ 256
+    never (inl e) (inl f) = omega arith
+    never (inl e) (inr f) = omega arith
+    never (inr e) (inl f) = omega arith
+    never (inr e) (inr f) = omega arith
 
 pub refuses-other : (i n : ℕ) → (Accepted i n → ⊥) → accepts i n ≡ false
 refuses-other i n k = T→false (accepts i n) (not-T (accepts i n) (λ t. k (accepts-means i n .0 t)))

@@ -2,7 +2,7 @@
 -- Document 01's "Numbers a caller gets back", each as a table of lines: the first that does not hold gives its number, and where all hold the
 -- call is carried out.
 use mathlib.Core.Path.{_≡_, refl}
-use mathlib.Core.Logic.{_⊎_, _↔_}
+use mathlib.Core.Logic.{_↔_}
 use mathlib.Core.List.{List, [], _∷_}
 use Prim.Native.Nat.{ℕ, zero, suc, _+_, _≤_}
 use native.Mathlib.Omega.{arith}
@@ -16,7 +16,7 @@ use Rattle.protocol.proofs.Laws.Lines.{Line, unless, Follows, follows}
 use Rattle.protocol.proofs.Laws.Lists.{drop-lay}
 use Rattle.protocol.proofs.Laws.Finder.{length-packet}
 use Rattle.protocol.proofs.Laws.Answers.{call-kinds}
-use Rattle.protocol.proofs.Promises.Packets.{Identifier, accepts-means}
+use Rattle.protocol.proofs.Promises.Packets.{Identifier, Other, accepts-means}
 use Rattle.protocol.proofs.Promises.LegalMeans.{Lengths, Settled, lengths-mean, settings-mean, Means, legal-means}
 
 -- ---- a call
@@ -102,7 +102,7 @@ pub record Contained (i n : ℕ) : Type 0 where
   pub identifier : Identifier i
   pub least : 1 ≤ n
   pub most : n ≤ 256
-  pub kept : (i ≡ 1) ⊎ (i ≡ 7) → n ≤ 254
+  pub kept : Other i → n ≤ 254
 
 -- "4: builder only: identifier not 1, 2, 7, 8, or content not" so many bytes; "2: .. for the builder, below content + 11"
 abbrev pub build-lines : ℕ → List ℕ → List ℕ → List Line
