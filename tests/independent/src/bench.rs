@@ -8,18 +8,18 @@ use crate::frame::{Kind, Request};
 use crate::host::Exchange;
 use crate::reader::*;
 use crate::readers::fresh_reader;
-use crate::receiver::{given_whole, Receiver, Rest};
+use crate::receiver::{given_whole, Receiver, Rest, HOLDS};
 use crate::report::hex;
 use crate::tally::{Tally, CODES, ON_A_LINE};
 
 /// The pages of the bench program's templates.
 pub const PAGES: usize = 64;
 /// The longest unfinished packet.
-const MOST_LEFT: usize = 264;
+const MOST_LEFT: usize = 266;
 /// The stored input stays below so many bytes.
-const MOST_SENT: usize = 12_000;
+const MOST_SENT: usize = 20_000;
 /// The lengths of the pieces that the input is cut into, beside the whole of it and pieces by chance.
-const PIECES: [usize; 11] = [1, 2, 3, 7, 16, 60, 264, 265, 266, 700, 4096];
+const PIECES: [usize; 11] = [1, 2, 3, 7, 16, 60, HOLDS - 1, HOLDS, HOLDS + 1, 700, 4096];
 /// So many ways of pieces by chance.
 const SEEDS: u64 = 3;
 

@@ -1,5 +1,5 @@
 //! The stored dialogue with the bench program: what a host sends, and beside it what it must get, written by hand from
-//! document 01 and document 02's request [2].
+//! document 01 and document 02's requests [2] and [3].
 
 use crate::coverage::ROWS;
 use crate::examples::{bytes, count, COUNT, FINE, HAND_SHAKE};
@@ -19,14 +19,17 @@ const SCENES: &[fn(&mut Host)] = &[
     wrong_sums,
     other_addresses,
     out_of_turn,
+    too_long,
     bad_headers,
     noise_inside,
     unknown_codes,
     wrong_lengths,
     settings,
     notepad,
+    transfers_of_256,
     transfer_of_32,
     failed_transfers,
+    long_data,
     transfers_broken_off,
     delete,
     empty,
@@ -163,14 +166,27 @@ fn out_of_turn(host: &mut Host) {
     host.silent("data without a transfer, wrong sum", &data);
     let longest = [&[0x40][..], &[0; 253]].concat();
     host.gets("longest command packet, 265 bytes, code 40h", &host.packet(COMMAND, &longest), 0x01);
-    let longest = [&bytes(HAND_SHAKE)[..], &[0; 242]].concat();
-    host.silent("longest data packet", &host.packet(DATA, &longest));
+    let longest = [&bytes(HAND_SHAKE)[..], &[0; 244]].concat();
+    host.silent("longest data packet, 267 bytes", &host.packet(DATA, &longest));
+    host.silent("data packet of length 257", &host.packet(LAST_DATA, &longest[..255]));
+}
+
+/// Past the greatest length no packet starts, and a whole command inside is found.
+fn too_long(host: &mut Host) {
+    let inside = [&bytes(HAND_SHAKE)[..], &[0; 245]].concat();
+    host.gets("a command of length 257", &host.packet(COMMAND, &inside[..255]), 0x00);
+    host.gets("a command of length 258", &host.packet(COMMAND, &inside[..256]), 0x00);
+    host.gets("an acknowledge of length 257", &host.packet(ACKNOWLEDGE, &inside[..255]), 0x00);
+    host.gets("an acknowledge of length 258", &host.packet(ACKNOWLEDGE, &inside[..256]), 0x00);
+    host.gets("a data packet of length 259", &host.packet(DATA, &inside), 0x00);
 }
 
 fn bad_headers(host: &mut Host) {
     host.silent("bad length 0000", &bytes("EF 01 A 01 00 00 40 00 44"));
     host.silent("bad length 0002", &bytes("EF 01 A 01 00 02 40 00 44"));
     host.silent("bad length 0101", &bytes("EF 01 A 01 01 01 40 00 44"));
+    host.silent("bad length 0102", &bytes("EF 01 A 01 01 02 40 00 44"));
+    host.silent("bad length 0103 for a data packet", &bytes("EF 01 A 08 01 03 40 00 44"));
     host.silent("bad length 0300", &bytes("EF 01 A 01 03 00 40 00 44"));
     let inside = bytes(&format!("EF 01 A 01 01 01 {HAND_SHAKE}"));
     host.gets("bad length, then a packet at once inside it", &inside, 0x00);
@@ -218,7 +234,7 @@ fn settings(host: &mut Host) {
         ("SetSysPara, baud factor 13", "0E 04 0D", 0x1B),
         ("SetSysPara, level 0", "0E 05 00", 0x1B),
         ("SetSysPara, level 6", "0E 05 06", 0x1B),
-        ("SetSysPara, size code 3", "0E 06 03", 0x1B),
+        ("SetSysPara, size code 4", "0E 06 04", 0x1B),
         ("SetSysPara, size code 255", "0E 06 FF", 0x1B),
         ("SetSysPara, number 3", "0E 03 01", 0x1A),
         ("SetSysPara, number 7", "0E 07 01", 0x1A),
@@ -239,6 +255,8 @@ fn settings(host: &mut Host) {
     ]);
     host.parameters("three set again", 0, 5, 2, 1);
     host.command("baud factor back", "0E 04 06", 0x00);
+    host.command("SetSysPara, size code 3", "0E 06 03", 0x00);
+    host.parameters("size code 3", 0, 5, 3, 6);
 }
 
 fn notepad(host: &mut Host) {
@@ -250,6 +268,18 @@ fn notepad(host: &mut Host) {
     host.reads("ReadNotepad page 1", "19 01", &packets);
     host.reads("ReadNotepad page 0", "19 00", &[0; NOTE]);
     host.reads("ReadNotepad page 14", "19 0E", &[0; NOTE]);
+}
+
+/// Two data packets each way. What starts no packet does not end a transfer.
+fn transfers_of_256(host: &mut Host) {
+    let none = [host.packet(DATA, &[0x33; 257]), host.packet(COMMAND, &[0x09; 255])];
+    host.download("size 256", 1, &first(), 256, &none);
+    host.upload("UpChar by 256", 1, &first(), 256);
+    host.upload("buffer 2 by 256", 2, &second(), 256);
+    let part = host.packet(DATA, &[0x33; 256]);
+    failed(host, "256: 2 as the last part", &part.repeat(2));
+    failed(host, "256: 8 at once", &host.packet(LAST_DATA, &[0x33; 256]));
+    failed(host, "256: the last part by 128", &[part, host.packet(LAST_DATA, &[0x33; 128])].concat());
 }
 
 fn transfer_of_32(host: &mut Host) {
@@ -282,6 +312,25 @@ fn failed_transfers(host: &mut Host) {
     failed(host, "8 one part too early", &[part.repeat(2), last.clone()].concat());
     failed(host, "2 as the last part", &part.repeat(4));
     host.upload("buffer 2 is untouched", 2, &second(), 128);
+}
+
+/// Data packets of the greatest lengths in transfers of other sizes.
+fn long_data(host: &mut Host) {
+    for (size_code, identifier, count) in [
+        (0, DATA, 255),
+        (0, LAST_DATA, 256),
+        (1, LAST_DATA, 255),
+        (1, DATA, 256),
+        (3, LAST_DATA, 255),
+        (2, DATA, 255),
+        (2, LAST_DATA, 256),
+    ] {
+        host.command(&format!("long data: size code {size_code}"), &format!("0E 06 {size_code:02X}"), 0x00);
+        host.command("long data: DownChar 1", "09 01", 0x00);
+        let what = format!("long data: {count} bytes, identifier {identifier}");
+        host.gets(&what, &host.packet(identifier, &vec![0x33; count]), 0x0E);
+    }
+    closed(host, "long data: closed");
 }
 
 /// DownChar 1 and parts, the last of which is 0Eh; then the transfer is closed and the buffer not filled.
@@ -439,10 +488,10 @@ fn addresses(host: &mut Host) {
     host.count("last count", 1);
 }
 
-/// An unfinished packet at the end, with whole packets in it: 264 of 265 bytes.
+/// An unfinished packet at the end, with whole packets in it: 266 of 267 bytes.
 fn unfinished(host: &mut Host) {
-    let content = [bytes(&format!("40 {HAND_SHAKE} {COUNT}")), vec![0; 229]].concat();
-    let mut sent = [bytes("00 EF"), host.packet(COMMAND, &content)].concat();
+    let content = [bytes(&format!("{HAND_SHAKE} {COUNT}")), vec![0; 232]].concat();
+    let mut sent = [bytes("00 EF"), host.packet(LAST_DATA, &content)].concat();
     sent.pop();
     host.silent("unfinished", &sent);
 }

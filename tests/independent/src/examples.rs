@@ -1,4 +1,4 @@
-//! The table of examples P1 to P12, and examples of document 02's requests [1] and [2].
+//! The table of examples P1 to P12, and examples of document 02's requests [1] to [3].
 
 use crate::reader::Reader;
 use crate::readers::fresh_reader;
@@ -29,12 +29,16 @@ const DELETE_9_2: &str = "EF 01 A 01 00 07 0C 00 09 00 02 00 1F";
 const DELETE_0_0: &str = "EF 01 A 01 00 07 0C 00 00 00 00 00 14";
 pub const FINE: &str = "EF 01 A 07 00 03 00 00 0A";
 const UNKNOWN: &str = "EF 01 A 07 00 03 19 00 23";
+const FAILED: &str = "EF 01 A 07 00 03 0E 00 18";
 const SIZE_CODE_1: &str = "EF 01 A 01 00 05 0E 06 01 00 1B";
+const SIZE_CODE_3: &str = "EF 01 A 01 00 05 0E 06 03 00 1D";
+const SIZE_CODE_4: &str = "EF 01 A 01 00 05 0E 06 04 00 1E";
 const PARAMETERS: &str = "EF 01 A 01 00 03 0F 00 13";
+const UP_CHAR_1: &str = "EF 01 A 01 00 04 08 01 00 0E";
 const DOWN_CHAR_1: &str = "EF 01 A 01 00 04 09 01 00 0F";
 
 pub fn all() -> Vec<Example> {
-    [of_document_01(), of_receiver(), of_sizes()].into_iter().flatten().collect()
+    [of_document_01(), of_receiver(), of_sizes(), of_lengths(), of_size_code_3()].into_iter().flatten().collect()
 }
 
 fn of_document_01() -> Vec<Example> {
@@ -73,8 +77,12 @@ fn example(name: &'static str, reader: &Reader, steps: &[(&str, usize, &str)]) -
 
 /// A fresh reader with an empty receiver: a piece, the bytes taken of it, the reply, and the bytes held afterwards.
 fn of_receiver() -> Vec<Example> {
-    let longest = format!("EF 01 A 01 01 00{} 00 02", " 00".repeat(254));
+    let longest_command = format!("EF 01 A 01 01 00{} 00 02", zeroes(254));
+    let longest = data("02 01 02", "00", 256, "00 05");
     let (cut, last) = longest.split_at(longest.len() - 3);
+    let (cut_before, last_but_one) = cut.split_at(cut.len() - 3);
+    let behind = format!("{} 05 77", zeroes(243));
+    let inside = format!("A 01 01 01 {HAND_SHAKE} {behind}");
     let example = |name, steps: &[(&str, usize, &str, &str)]| {
         let step = |&(piece, taken, reply, held): &(&str, usize, &str, &str)| Step {
             run: bytes(piece),
@@ -95,49 +103,131 @@ fn of_receiver() -> Vec<Example> {
             "P1 and P8 in one piece",
             &[(&format!("{HAND_SHAKE} {COUNT}"), 24, FINE, COUNT), ("", 0, &count(0), ""), ("", 0, "", "")],
         ),
-        example("noise", &[(&"41".repeat(300), 265, "", ""), ("41 EF", 2, "", "EF"), ("41", 1, "", "")]),
+        example("noise", &[(&"41".repeat(300), 267, "", ""), ("41 EF", 2, "", "EF"), ("41", 1, "", "")]),
         example("P6 in one piece", &[("EF 01 A 01 00 02 40", 10, "", "A 01 00 02 40"), ("", 0, "", "")]),
         example(
-            "the longest packet, code 00h, and P1",
-            &[(&format!("{longest} {HAND_SHAKE}"), 265, UNKNOWN, ""), (HAND_SHAKE, 12, FINE, "")],
+            "the longest command, code 00h, and P1",
+            &[
+                (&format!("{longest_command} {HAND_SHAKE}"), 267, UNKNOWN, "EF 01"),
+                ("A 01 00 03 40 00 44", 10, FINE, ""),
+            ],
         ),
         example(
-            "the longest unfinished packet, then its last byte and P1",
-            &[(cut, 264, "", cut), ("", 0, "", cut), (&format!("{last} {HAND_SHAKE}"), 1, UNKNOWN, "")],
+            "the longest packet, in a transfer of 128, and P1",
+            &[
+                (DOWN_CHAR_1, 13, FINE, ""),
+                (&format!("{longest} {HAND_SHAKE}"), 267, FAILED, ""),
+                (HAND_SHAKE, 12, FINE, ""),
+            ],
+        ),
+        example(
+            "the longest packet but for two bytes, then these one by one and P1",
+            &[
+                (DOWN_CHAR_1, 13, FINE, ""),
+                (cut_before, 265, "", cut_before),
+                (last_but_one, 1, "", cut),
+                ("", 0, "", cut),
+                (&format!("{last} {HAND_SHAKE}"), 1, FAILED, ""),
+            ],
         ),
         example(
             "noise before the longest packet",
-            &[(&format!("41 {longest}"), 265, "", cut), ("", 0, "", cut), (last, 1, UNKNOWN, "")],
+            &[
+                (DOWN_CHAR_1, 13, FINE, ""),
+                (&format!("41 {longest}"), 267, "", cut),
+                ("", 0, "", cut),
+                (last, 1, FAILED, ""),
+            ],
+        ),
+        example(
+            "P1 in a command of length 257",
+            &[(&format!("EF 01 {inside}"), 266, "", &inside), ("", 0, FINE, &behind), ("", 0, "", "")],
         ),
     ]
 }
 
-/// What readers with fresh settings and with a stored size code take. That ours start so `of_fresh_settings` shows.
+/// What readers with fresh settings and with a stored size code take. That ours start so `of_frames` shows.
 fn of_sizes() -> Vec<Example> {
     let fresh = fresh_reader(10);
     let mut stored = fresh.clone();
     stored.settings.size_code = 1;
 
-    let data_64 = format!("EF 01 A 02 00 42{} 00 44", " 00".repeat(64));
-    let data_128 = format!("EF 01 A 02 00 82{} 00 84", " 00".repeat(128));
-    let failed = "EF 01 A 07 00 03 0E 00 18";
+    let data_64 = data("02 00 42", "00", 64, "00 44");
+    let data_128 = data("02 00 82", "00", 128, "00 84");
     let code_1 = "EF 01 A 07 00 13 00 0000 0000 000A 0003 A 0001 0006 04 2A";
     let code_2 = "EF 01 A 07 00 13 00 0000 0000 000A 0003 A 0002 0006 04 2B";
     vec![
         example("128 at once", &fresh, &[(PARAMETERS, 12, code_2), (DOWN_CHAR_1, 13, FINE), (&data_128, 139, "")]),
-        example("64 unasked", &fresh, &[(DOWN_CHAR_1, 13, FINE), (&data_64, 75, failed), (&data_64, 75, "")]),
+        example("64 unasked", &fresh, &[(DOWN_CHAR_1, 13, FINE), (&data_64, 75, FAILED), (&data_64, 75, "")]),
         example("64 asked for", &fresh, &[(SIZE_CODE_1, 14, FINE), (DOWN_CHAR_1, 13, FINE), (&data_64, 75, "")]),
         example("64 stored", &stored, &[(DOWN_CHAR_1, 13, FINE), (&data_64, 75, ""), (PARAMETERS, 12, code_1)]),
     ]
 }
 
-/// Frames in that ask for fresh settings, and the frames out, byte by byte.
-pub fn of_fresh_settings() -> Vec<(&'static str, Vec<u8>, Vec<u8>)> {
-    let example = |name, frame_in, frame_out| (name, bytes(frame_in), bytes(frame_out));
+/// A fresh reader at the greatest lengths: 258 with identifiers 2 and 8, and 256 with 1 and 7.
+fn of_lengths() -> Vec<Example> {
+    let fresh = fresh_reader(10);
+    let data_254 = data("08 01 00", "11", 254, "10 E7");
+    let data_255 = data("02 01 01", "11", 255, "10 F3");
+    let data_256 = data("08 01 02", "11", 256, "11 0B");
+    let data_257 = data("02 01 03", "11", 257, "11 17");
+    let fails = |packet| [(DOWN_CHAR_1, 13, FINE), packet];
+    vec![
+        example("2, length 258", &fresh, &[("EF 01 A 02 01 02 40", 0, ""), ("EF 01 A 02 01 03 40", 2, "")]),
+        example("8, length 258", &fresh, &[("EF 01 A 08 01 02 40", 0, ""), ("EF 01 A 08 01 03 40", 2, "")]),
+        example("7, length 256", &fresh, &[("EF 01 A 07 01 00 40", 0, ""), ("EF 01 A 07 01 01 40", 2, "")]),
+        example("1, length 258", &fresh, &[("EF 01 A 01 01 02 40", 2, "")]),
+        example("7, length 258", &fresh, &[("EF 01 A 07 01 02 40", 2, "")]),
+        example("length 256 in a transfer", &fresh, &fails((&data_254, 265, FAILED))),
+        example("length 257 in a transfer", &fresh, &fails((&data_255, 266, FAILED))),
+        example("length 258 in a transfer", &fresh, &fails((&data_256, 267, FAILED))),
+        example("length 259 in a transfer", &fresh, &fails((&data_257, 2, ""))),
+        example("without a transfer", &fresh, &[(&data_254, 265, ""), (&data_255, 266, ""), (&data_256, 267, "")]),
+    ]
+}
+
+/// A reader with size code 3.
+fn of_size_code_3() -> Vec<Example> {
+    let fresh = fresh_reader(10);
+    let mut stored = fresh.clone();
+    stored.settings.size_code = 3;
+
+    let first = data("02 01 02", "11", 256, "11 05");
+    let last = data("08 01 02", "22", 256, "22 0B");
+    let half = data("02 00 82", "11", 128, "09 04");
+    let code_3 = "EF 01 A 07 00 13 00 0000 0000 000A 0003 A 0003 0006 04 2C";
+    let out_of_range = "EF 01 A 07 00 03 1B 00 25";
+    let upload = format!("{FINE} {first} {last}");
+    vec![
+        example("256 asked for", &fresh, &[(SIZE_CODE_3, 14, FINE), (PARAMETERS, 12, code_3)]),
+        example("size code 4", &stored, &[(SIZE_CODE_4, 14, out_of_range), (PARAMETERS, 12, code_3)]),
+        example(
+            "256 both ways",
+            &stored,
+            &[(DOWN_CHAR_1, 13, FINE), (&first, 267, ""), (&last, 267, ""), (UP_CHAR_1, 13, &upload)],
+        ),
+        example("2 at the end of 256", &stored, &[(DOWN_CHAR_1, 13, FINE), (&first, 267, ""), (&first, 267, FAILED)]),
+        example("8 at the start of 256", &stored, &[(DOWN_CHAR_1, 13, FINE), (&last, 267, FAILED)]),
+        example("128 in a transfer of 256", &stored, &[(DOWN_CHAR_1, 13, FINE), (&half, 139, FAILED)]),
+    ]
+}
+
+/// Frames in and the frames out, byte by byte.
+pub fn of_frames() -> Vec<(&'static str, Vec<u8>, Vec<u8>)> {
+    let example = |name, frame_in: &str, frame_out: &str| (name, bytes(frame_in), bytes(frame_out));
+    // C = 1, all memory zeroed, P1's run and a reply room of 700 bytes.
+    let lengths = "00000200 00000020 00000200 00000200 00000200 0000000C 000002BC";
+    let memory = zeroes(512 + 32 + 3 * 512);
+    let room = " 5A".repeat(700);
+    let fresh = "00000000 A 03 02 06 00 0000 0000 00 00 00";
+    let unfit = "00000000 A 03 04 06 00 0000 0000 00 00 00";
+    let held_268 = format!("010C{}", " 41".repeat(267));
+    let held_267 = format!("010B{}", " 41".repeat(267));
+    let held_none = format!("0000{}", zeroes(267));
     vec![
         example(
             "fresh settings for unfit ones, with unfit lengths",
-            "04 01234567 89ABCDEF 00 03 0D 07 1234 FFFF 02 80 FF
+            "04 01234567 89ABCDEF 00 04 0D 07 1234 FFFF 02 80 FF
              00000003 00000001 00000000 00000002 00000001 00000002 00000004
              010203 FF 0405 06 EF01 0708090A",
             "00 00000000 00000000 00000000 A 03 02 06 00 0000 0000 00 00 00
@@ -151,12 +241,37 @@ pub fn of_fresh_settings() -> Vec<(&'static str, Vec<u8>, Vec<u8>)> {
             "00 00000000 00000000 00000000 A 03 02 06 00 0000 0000 00 00 00
              5A",
         ),
+        example(
+            "refusal 3 for size code 4",
+            &format!("00 {unfit} {lengths} {memory} {HAND_SHAKE} {room}"),
+            &format!("03 00000000 00000000 {unfit} {memory} {room}"),
+        ),
+        example(
+            "refusal 3 for a held count of 268",
+            &format!("02 {fresh} {lengths} {held_268} {memory} {HAND_SHAKE} {room}"),
+            &format!("03 00000000 00000000 {fresh} {held_268} {memory} {room}"),
+        ),
+        example(
+            "a held count of 267, all noise",
+            &format!("02 {fresh} {lengths} {held_267} {memory} {HAND_SHAKE} {room}"),
+            &format!("00 00000000 00000000 {fresh} {held_none} {memory} {room}"),
+        ),
     ]
 }
 
 /// The reply to `COUNT` at the fresh address.
 pub fn count(stored: u8) -> String {
     format!("EF 01 A 07 00 05 00 00 {stored:02X} 00 {:02X}", 0x0C + stored)
+}
+
+/// A data packet: identifier and length field, a byte that is all its content, so many times, and the sum.
+fn data(head: &str, byte: &str, count: usize, sum: &str) -> String {
+    format!("EF 01 A {head} {} {sum}", byte.repeat(count))
+}
+
+/// So many zero bytes, with a space before each.
+fn zeroes(count: usize) -> String {
+    " 00".repeat(count)
 }
 
 /// Bytes in hexadecimal, with spaces anywhere between them; A by itself stands for FF FF FF FF.

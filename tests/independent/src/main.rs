@@ -1,4 +1,4 @@
-//! Pits a reader and a receiver, written from document 01 and document 02's requests [1] and [2] alone, against another
+//! Pits a reader and a receiver, written from document 01 and document 02's requests [1] to [3] alone, against another
 //! implementation of the papers, and writes the stored dialogue of the bench program with them.
 
 mod bench;
@@ -230,7 +230,7 @@ impl Comparer {
                 (receiver, reader) = (outcome.receiver, outcome.reader);
             }
         }
-        for (name, frame_in, frame_out) in examples::of_fresh_settings() {
+        for (name, frame_in, frame_out) in examples::of_frames() {
             self.case = format!("the example {name}");
             let request = Request::read(&mut &frame_in[..]).ok().flatten();
             let request = request.ok_or_else(|| format!("there is no frame in {}", self.case))?;

@@ -1,5 +1,5 @@
-//! The reader of document 01, with the fresh settings of document 02's request [2], written from those papers alone and
-//! in document 01's order.
+//! The reader of document 01, with the fresh settings of document 02's request [2] and the limits of its request [3],
+//! written from those papers alone and in document 01's order.
 
 use std::ops::RangeInclusive;
 
@@ -15,10 +15,15 @@ pub const NOTE: usize = 32;
 pub const ROOM: usize = 700;
 
 pub const LEVELS: RangeInclusive<u8> = 1..=5;
-pub const SIZE_CODES: RangeInclusive<u8> = 0..=2;
+pub const SIZE_CODES: RangeInclusive<u8> = 0..=SIZES.len() as u8 - 1;
 pub const BAUD_FACTORS: RangeInclusive<u8> = 1..=12;
-/// The data bytes that the size codes 0, 1 and 2 mean.
-pub const SIZES: [usize; 3] = [32, 64, 128];
+/// The data bytes that the size codes mean, from code 0 on.
+pub const SIZES: [usize; 4] = [32, 64, 128, 256];
+
+/// The greatest length field of a command or an acknowledge.
+pub const MOST_LENGTH: usize = 256;
+/// The greatest length field of a data packet.
+pub const MOST_DATA_LENGTH: usize = 258;
 
 pub const COMMAND: u8 = 1;
 pub const DATA: u8 = 2;
@@ -418,6 +423,41 @@ impl Reader {
     }
 }
 
+/// The first header of a run.
+pub struct Header {
+    pub place: usize,
+    pub identifier: u8,
+    pub length: usize,
+}
+
+impl Header {
+    /// Where a packet with this header ends.
+    pub fn end(&self) -> usize {
+        self.place + 9 + self.length
+    }
+
+    pub fn starts_packet(&self) -> bool {
+        let most = match self.identifier {
+            COMMAND | ACKNOWLEDGE => MOST_LENGTH,
+            DATA | LAST_DATA => MOST_DATA_LENGTH,
+            _ => return false,
+        };
+        (3..=most).contains(&self.length)
+    }
+}
+
+/// The first header, if all its nine bytes are there.
+pub fn header(run: &[u8]) -> Option<Header> {
+    let place = header_place(run)?;
+    let bytes = run.get(place..place + 9)?;
+    Some(Header { place, identifier: bytes[6], length: number(&bytes[7..]) })
+}
+
+/// The first place with EF followed by 01.
+fn header_place(run: &[u8]) -> Option<usize> {
+    run.windows(2).position(|pair| pair == [0xEF, 0x01])
+}
+
 /// A whole packet that was found in a run.
 pub struct Packet<'a> {
     pub address: [u8; 4],
@@ -428,30 +468,28 @@ pub struct Packet<'a> {
 
 /// Steps 1 to 4: the bytes used, and the packet if there is a whole one.
 pub fn find(run: &[u8]) -> (usize, Option<Packet<'_>>) {
-    let p = match run.windows(2).position(|pair| pair == [0xEF, 0x01]) {
-        Some(p) => p,
-        None => return (run.len() - usize::from(run.ends_with(&[0xEF])), None),
+    let header = match header(run) {
+        Some(header) => header,
+        None => {
+            let all_but_ef = run.len() - usize::from(run.ends_with(&[0xEF]));
+            return (header_place(run).unwrap_or(all_but_ef), None);
+        }
     };
-    let bytes = &run[p..];
-    if bytes.len() < 9 {
-        return (p, None);
+    if !header.starts_packet() {
+        return (header.place + 2, None);
     }
-    let identifier = bytes[6];
-    let length = number(&bytes[7..9]);
-    if ![COMMAND, DATA, ACKNOWLEDGE, LAST_DATA].contains(&identifier) || !(3..=256).contains(&length) {
-        return (p + 2, None);
+    if run.len() < header.end() {
+        return (header.place, None);
     }
-    let end = 9 + length;
-    if bytes.len() < end {
-        return (p, None);
-    }
+    let bytes = &run[header.place..header.end()];
+    let (summed, sum_told) = bytes[6..].split_at(1 + header.length);
     let packet = Packet {
         address: [bytes[2], bytes[3], bytes[4], bytes[5]],
-        identifier,
-        content: &bytes[9..end - 2],
-        sum_right: number(&bytes[end - 2..end]) == sum(&bytes[6..end - 2]),
+        identifier: header.identifier,
+        content: &summed[3..],
+        sum_right: number(sum_told) == sum(summed),
     };
-    (p + end, Some(packet))
+    (header.end(), Some(packet))
 }
 
 /// The bytes of a packet.

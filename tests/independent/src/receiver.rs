@@ -1,13 +1,13 @@
-//! The receiver of document 02's request [1], written from that paper alone.
+//! The receiver of document 02's request [1], with the held bytes of its request [3], written from that paper alone.
 
 use crate::reader::{self, Answer, Reader};
 
 /// The most bytes that a receiver holds.
-pub const HOLDS: usize = 265;
+pub const HOLDS: usize = 267;
 
 #[derive(Clone, Debug, PartialEq, Eq)]
 pub struct Receiver {
-    /// How many bytes are held; more than 265 is not legal.
+    /// How many bytes are held; more than the most is not legal.
     pub count: u16,
     pub cells: [u8; HOLDS],
 }

@@ -12,10 +12,10 @@ pub fn first() -> Vec<u8> {
     template
 }
 
-/// Headers at the start and across the cuts at 32 and at 64.
+/// Headers at the start and across the cuts at 32, 64 and 256.
 pub fn second() -> Vec<u8> {
     let mut template = bytes(SECOND);
-    for place in [0, 31, 63] {
+    for place in [0, 31, 63, 255] {
         lay(&mut template, place, "EF 01");
     }
     template

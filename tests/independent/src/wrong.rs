@@ -51,8 +51,8 @@ pub const ERRORS: [(&str, Error); 50] = [
     ("switch-keeps-buffers", OfReader(switch_keeps_buffers)),
     ("takes-any-mark", OfReader(takes_any_mark)),
     ("switch-keeps-unfit-marks", OfReader(switch_keeps_unfit_marks)),
-    ("holds-264", OfReceiver(holds_264)),
     ("holds-266", OfReceiver(holds_266)),
+    ("holds-268", OfReceiver(holds_268)),
     ("drops-one-more", OfReceiver(drops_one_more)),
     ("keeps-used", OfReceiver(keeps_used)),
     ("used-byte-past-count", OfReceiver(used_byte_past_count)),
@@ -60,7 +60,7 @@ pub const ERRORS: [(&str, Error); 50] = [
     ("keeps-cells-past-bytes", OfReceiver(keeps_cells_past_bytes)),
     ("says-used-for-taken", OfReceiver(says_used_for_taken)),
     ("answers-two", OfReceiver(answers_two)),
-    ("refuses-265", OfReceiver(refuses_265)),
+    ("refuses-267", OfReceiver(refuses_267)),
     ("takes-any-count", OfReceiver(takes_any_count)),
     ("count-before-lengths", OfReceiver(count_before_lengths)),
     ("count-before-room", OfReceiver(count_before_room)),
@@ -312,14 +312,14 @@ fn switch_keeps_unfit_marks(request: &Request) -> Outcome {
     outcome
 }
 
-/// Takes bytes until 264 are held.
-fn holds_264(request: &Request, receiver: &Receiver) -> Outcome {
-    takes_up_to(264, request, receiver)
-}
-
 /// Takes bytes until 266 are held.
 fn holds_266(request: &Request, receiver: &Receiver) -> Outcome {
     takes_up_to(266, request, receiver)
+}
+
+/// Takes bytes until 268 are held.
+fn holds_268(request: &Request, receiver: &Receiver) -> Outcome {
+    takes_up_to(268, request, receiver)
 }
 
 fn takes_up_to(most: usize, request: &Request, receiver: &Receiver) -> Outcome {
@@ -413,8 +413,8 @@ fn answers_two(request: &Request, _: &Receiver) -> Outcome {
     second
 }
 
-/// A held count of 265 gets refusal 3.
-fn refuses_265(request: &Request, receiver: &Receiver) -> Outcome {
+/// A held count of 267 gets refusal 3.
+fn refuses_267(request: &Request, receiver: &Receiver) -> Outcome {
     let mut asked = request.clone();
     if request.kind.is_call() && usize::from(receiver.count) == HOLDS {
         asked.kind = Kind::ReceiverCall(Receiver { count: receiver.count + 1, ..receiver.clone() });
@@ -426,7 +426,7 @@ fn refuses_265(request: &Request, receiver: &Receiver) -> Outcome {
     outcome
 }
 
-/// A held count above 265 is taken for 265.
+/// A held count above 267 is taken for 267.
 fn takes_any_count(request: &Request, receiver: &Receiver) -> Outcome {
     let mut asked = request.clone();
     if request.kind.is_call() {
@@ -522,7 +522,7 @@ fn switch_keeps_cells(request: &Request, receiver: &Receiver) -> Outcome {
     outcome
 }
 
-/// The line switch refuses a held count above 265.
+/// The line switch refuses a held count above 267.
 fn switch_refuses_count(request: &Request, receiver: &Receiver) -> Outcome {
     let mut outcome = request.carried_out();
     if request.kind.is_line_switch() && outcome.answer.refusal == 0 && !receiver.legal() {
