@@ -114,7 +114,8 @@ impl Author<'_> {
             47..=50 => self.runs(1, 2, Author::foreign),
             51..=54 => self.runs(1, 3, Author::noise),
             55..=58 => self.runs(1, 2, Author::header),
-            59..=62 => self.runs(1, 2, Author::stray),
+            59..=60 => self.runs(1, 2, Author::stray),
+            61..=62 => self.runs(1, 2, Author::long_packet),
             63..=66 => self.runs(1, 2, Author::wrong_command),
             67..=79 => self.download(),
             80..=84 => self.store_and_load(),
@@ -275,7 +276,10 @@ impl Author<'_> {
             0 | 1 => packet[end] = packet[end].wrapping_add(1),
             2 => packet[end - 1] ^= 0x01,
             3 => packet[place] ^= 1 << self.chance.below(8),
-            4 => packet[7..9].copy_from_slice(&self.chance.pick(&[[0, 2], [0, 3], [0, 4], [0, 8], [1, 0], [1, 1]])),
+            4 => {
+                let lengths = [[0, 2], [0, 3], [0, 4], [0, 8], [1, 0], [1, 1], [1, 2], [1, 3]];
+                packet[7..9].copy_from_slice(&self.chance.pick(&lengths));
+            }
             5 => packet.truncate(place),
             6 => packet.insert(place, self.chance.byte()),
             _ => drop(packet.remove(place)),
@@ -314,11 +318,19 @@ impl Author<'_> {
     /// A packet of any identifier and length, mostly one that no reader knows.
     pub fn header(&mut self) -> Vec<u8> {
         let identifier = self.chance.pick(&[0, 1, 1, 2, 3, 7, 8, 9, 255]);
-        let length: u16 = self.chance.pick(&[0, 1, 2, 3, 255, 256, 257, 0x0103, 0x0203, 0xFFFF]);
+        let length: u16 = self.chance.pick(&[0, 1, 2, 3, 255, 256, 257, 258, 259, 0x0203, 0xFFFF]);
         let content = self.data(usize::from(length).saturating_sub(2).min(300));
         let mut packet = self.packet(identifier, &content);
         packet[7..9].copy_from_slice(&length.to_be_bytes());
         packet
+    }
+
+    /// A packet about the greatest lengths.
+    pub fn long_packet(&mut self) -> Vec<u8> {
+        let length = self.chance.within(MOST_LENGTH - 1, MOST_DATA_LENGTH + 1);
+        let content = self.data(length - 2);
+        let identifier = self.chance.pick(&[COMMAND, DATA, ACKNOWLEDGE, LAST_DATA]);
+        self.packet(identifier, &content)
     }
 
     /// Data or an acknowledge out of turn, of one size or nearly so.
@@ -340,7 +352,7 @@ impl Author<'_> {
             1 => content[0] = self.chance.pick(&[0x00, 0x01, 0x05, 0x0A, 0x0B, 0x10, 0x14, 0x1A, 0x1E, 0x35, 0x41]),
             2 => content.truncate(content.len() - length.min(content.len() - 1)),
             3 => content.extend(self.chance.bytes(length)),
-            _ => content.resize(254, 0),
+            _ => content.resize(MOST_LENGTH - 2 + length, 0),
         }
         self.packet(COMMAND, &content)
     }
@@ -383,7 +395,7 @@ impl Author<'_> {
         let last = parts.len() - 1;
         let data = self.data(size);
         let identifier = self.chance.pick(&[DATA, LAST_DATA]);
-        match self.chance.below(11) {
+        match self.chance.below(12) {
             0 => parts.truncate(place),
             1 => parts[last] = self.packet(DATA, &data),
             2 => {
@@ -394,13 +406,14 @@ impl Author<'_> {
             4 => parts[place] = self.packet(LAST_DATA, &data),
             5 => parts[place] = self.damaged(parts[place].clone()),
             6 => {
-                let length = self.chance.pick(&[1, size / 2, size - 1, size + 1, (2 * size).min(254)]);
+                let length = self.chance.pick(&[1, size / 2, size - 1, size + 1, (2 * size).min(255)]);
                 let data = self.data(length);
                 parts[place] = self.packet(if place == last { LAST_DATA } else { DATA }, &data);
             }
             7 => parts.insert(place, self.foreign()),
             8 => parts.insert(place, self.packet(ACKNOWLEDGE, &data)),
             9 => parts.insert(place, self.any_command()),
+            10 => parts.insert(place, self.long_packet()),
             _ => {
                 let rest = parts.split_off(place);
                 let mut events = bytes_events(parts);

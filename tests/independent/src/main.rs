@@ -9,6 +9,7 @@ mod dialogue;
 mod examples;
 mod frame;
 mod host;
+mod limits;
 mod probe;
 mod reader;
 mod readers;
@@ -29,7 +30,7 @@ use std::fs;
 use std::io::{self, Write};
 use std::process::ExitCode;
 use std::time::{Duration, Instant};
-use tally::{Tally, CALLED, FRESHENED, RECEIVED};
+use tally::{Tally, CALLED, FRESHENED, ON_A_LINE, RECEIVED};
 
 const USAGE: &str = "usage: independent [--cases N] [--seed S] [--quiet] -- PROGRAM ARGS...
        independent --answer [ERROR]    be a probe, with a deliberate error if named
@@ -184,10 +185,12 @@ fn compare(options: Options) -> Result<(), End> {
             told = Instant::now();
         }
     }
+    comparer.limits(seed)?;
     comparer.receivers_in_turn(seed)?;
     comparer.probe.finish()?;
 
-    let (of_readers, of_receivers) = ([CALLED, FRESHENED].concat(), [CALLED, RECEIVED].concat());
+    let of_readers = [ON_A_LINE, CALLED, FRESHENED].concat();
+    let of_receivers = [ON_A_LINE, CALLED, RECEIVED].concat();
     let mut gaps = comparer.readers.gaps(&of_readers);
     gaps.extend(comparer.receivers.gaps(&of_receivers).iter().map(|gap| format!("with a receiver, {gap}")));
     if !gaps.is_empty() && cases >= COVERING_CASES {
@@ -262,6 +265,15 @@ impl Comparer {
             let outcome = self.agreed(&request)?;
             caller.go_on(&request, outcome);
             self.demand(caller.as_given_whole(), "depends on where a run is cut,")?;
+        }
+        Ok(())
+    }
+
+    /// The greatest lengths and all size codes.
+    fn limits(&mut self, seed: u64) -> Result<(), End> {
+        for (place, request) in limits::all(seed).iter().enumerate() {
+            self.case = format!("limit {place} of seed {seed}");
+            self.agreed(request)?;
         }
         Ok(())
     }

@@ -45,6 +45,11 @@ pub fn fresh_reader(capacity: usize) -> Reader {
     }
 }
 
+/// Settings that are fresh but for the size code, and memory of one page by chance.
+pub fn sized_reader(chance: &mut Chance, size_code: u8) -> Reader {
+    Reader { settings: Settings { size_code, ..Settings::fresh() }, ..legal_reader(chance, 1) }
+}
+
 pub fn legal_reader(chance: &mut Chance, capacity: usize) -> Reader {
     let mut index = vec![0; INDEX];
     let share = if capacity == MOST_PAGES { 100 } else { chance.pick(&[0, 20, 50, 80, 100]) };
@@ -144,16 +149,16 @@ fn spoil(chance: &mut Chance, reader: &mut Reader, room: &mut usize) {
             *room = chance.pick(&[0, any, ROOM - 1]);
         }
         8 => settings.level = chance.pick(&[0, 6, 255]),
-        9 => settings.size_code = chance.pick(&[3, 255]),
+        9 => settings.size_code = chance.pick(&[4, 5, 255]),
         10 => settings.baud_factor = chance.pick(&[0, 13, 255]),
         11 => settings.transfer = chance.pick(&[3, 255]),
         12 => {
             settings.transfer = 0;
-            settings.got = chance.pick(&[1, 32, 64, 511, 512, 0xFFFF]);
+            settings.got = chance.pick(&[1, 32, 64, 256, 511, 512, 0xFFFF]);
         }
         13 => {
             open_transfer(chance, settings);
-            settings.got = chance.pick(&[512, 512, 512, 1, 31, 33, 96, 511, 640, 0xFF80, 0xFFFF]);
+            settings.got = chance.pick(&[512, 512, 512, 1, 31, 33, 96, 128, 384, 511, 640, 0xFF00, 0xFFFF]);
         }
         14 => {
             open_transfer(chance, settings);

@@ -5,7 +5,7 @@ use crate::cases::{Author, Event};
 use crate::chance::Chance;
 use crate::frame::{Kind, Outcome, Request};
 use crate::reader::*;
-use crate::readers::{any_legal_reader, legal_reader, spoiled_reader};
+use crate::readers::{any_legal_reader, legal_reader, sized_reader, spoiled_reader};
 use crate::receiver::{given_whole, Receiver, Rest, HOLDS};
 use crate::templates;
 use std::collections::VecDeque;
@@ -31,7 +31,7 @@ pub fn every_length(seed: u64) -> impl Iterator<Item = Request> {
         let mut chance = Chance::new(seed, place as u64);
         let capacity = chance.within(1, 4);
         let reader = legal_reader(&mut chance, capacity);
-        // 5 and 266 have no factor in common, so that every count has its turn.
+        // 5 has no factor in common with the number of counts, so that each has its turn.
         let (receiver, run) = offered(&mut chance, &reader, 5 * place % (HOLDS + 1), place % (MOST_PIECE + 1));
         let room = chance.bytes(ROOM);
         Request { kind: Kind::ReceiverCall(receiver), reader, run, room }
@@ -70,7 +70,7 @@ fn sent(author: &mut Author, length: usize) -> Vec<u8> {
     let mut sent = match author.chance.below(8) {
         0 => vec![0xEF],
         1 => author.header(),
-        2 => longest(author),
+        2 => author.long_packet(),
         _ => Vec::new(),
     };
     while sent.len() < length {
@@ -78,14 +78,6 @@ fn sent(author: &mut Author, length: usize) -> Vec<u8> {
     }
     sent.truncate(length);
     sent
-}
-
-/// A packet of as many bytes as a receiver holds, or one byte less.
-fn longest(author: &mut Author) -> Vec<u8> {
-    let length = HOLDS - 11 - author.chance.below(2);
-    let content = author.data(length);
-    let identifier = author.chance.pick(&[COMMAND, DATA, ACKNOWLEDGE, LAST_DATA]);
-    author.packet(identifier, &content)
 }
 
 /// The caller of the request: it offers a piece and then the rest of it, then an empty piece, until a call takes
@@ -224,8 +216,7 @@ impl Stretch {
 pub fn cut_transfers(seed: u64) -> impl Iterator<Item = Caller> {
     let chance = move |size_code: u8| Chance::new(seed, size_code.into());
     SIZE_CODES.flat_map(move |size_code| {
-        let mut reader = legal_reader(&mut chance(size_code), 1);
-        reader.settings = Settings { size_code, ..Settings::fresh() };
+        let reader = sized_reader(&mut chance(size_code), size_code);
         let run = transfer(&Author { chance: &mut chance(size_code), reader: &reader });
         (0..=run.len()).map(move |place| {
             let (one, other) = run.split_at(place);

@@ -16,7 +16,7 @@ struct Kind {
 enum Awaited {
     /// Command and acknowledge codes.
     Codes(&'static [u8]),
-    Numbers(&'static [u16]),
+    Numbers(&'static [usize]),
     /// Every number up to this one.
     UpTo(usize),
 }
@@ -38,11 +38,23 @@ const HELD: usize = 13;
 const FRESH: usize = 14;
 const FRESH_SIZES: usize = 15;
 const FRESH_MARKS: usize = 16;
+const SIZES_SET: usize = 17;
+const SIZES_NOT_SET: usize = 18;
+const SIZES_REFUSED: usize = 19;
+const HEADERS_257: usize = 20;
+const HEADERS_258: usize = 21;
+const DATA_257: usize = 22;
+const DATA_258: usize = 23;
+const STRAY_257: usize = 24;
+const STRAY_258: usize = 25;
+const UNFINISHED: usize = 26;
 
-/// What calls and line switches bring about, with a receiver or without.
-pub const CALLED: &[usize] = &[ACKNOWLEDGES, FINE, UPLOADS, DOWNLOADS, REFUSALS, SWITCHES, MARKS, MARKS_SWITCHED];
-/// What a legal reader on a line can bring about.
-pub const ON_A_LINE: &[usize] = &[ACKNOWLEDGES, FINE, UPLOADS, DOWNLOADS];
+/// What a legal reader on a line brings about, in the stored dialogue too.
+pub const ON_A_LINE: &[usize] =
+    &[ACKNOWLEDGES, FINE, UPLOADS, DOWNLOADS, SIZES_SET, SIZES_NOT_SET, HEADERS_257, HEADERS_258, DATA_257, DATA_258];
+/// What else calls and line switches bring about, with a receiver or without.
+pub const CALLED: &[usize] =
+    &[REFUSALS, SWITCHES, MARKS, MARKS_SWITCHED, SIZES_REFUSED, STRAY_257, STRAY_258, UNFINISHED];
 /// What needs a receiver.
 pub const RECEIVED: &[usize] = &[COUNTS, COUNTS_SWITCHED, PAST, LOCKED, PIECES, HELD];
 /// What stands there when fresh settings are asked for.
@@ -51,24 +63,41 @@ pub const FRESHENED: &[usize] = &[FRESH, FRESH_SIZES, FRESH_MARKS];
 /// The acknowledge codes of document 01.
 pub const CODES: [u8; 13] = [0x00, 0x01, 0x0B, 0x0C, 0x0D, 0x0E, 0x10, 0x13, 0x19, 0x1A, 0x1B, 0x1C, 0x21];
 
-const KINDS: [Kind; 17] = [
+/// The identifiers of document 01.
+const IDENTIFIERS: [usize; 4] = [COMMAND as usize, DATA as usize, ACKNOWLEDGE as usize, LAST_DATA as usize];
+
+/// The greatest size code that is legal, and the least and the greatest that is not.
+const MOST_SIZE_CODE: usize = SIZES.len() - 1;
+const UNFIT_SIZE_CODES: [usize; 2] = [MOST_SIZE_CODE + 1, 255];
+
+const KINDS: [Kind; 27] = [
     Kind { name: "acknowledge codes", awaited: Codes(&CODES) },
     Kind { name: "commands answered 00h", awaited: Codes(&COMMANDS) },
-    Kind { name: "uploads by size", awaited: Numbers(&[32, 64, 128]) },
-    Kind { name: "downloads completed by size", awaited: Numbers(&[32, 64, 128]) },
+    Kind { name: "uploads by size", awaited: Numbers(&SIZES) },
+    Kind { name: "downloads completed by size", awaited: Numbers(&SIZES) },
     Kind { name: "calls by refusal", awaited: Numbers(&[0, 1, 2, 3]) },
     Kind { name: "line switches by refusal", awaited: Numbers(&[0, 1]) },
     Kind { name: "calls by refusal, with a mark of neither 0 nor 1", awaited: Numbers(&[1, 2, 3]) },
     Kind { name: "line switches by refusal, with such a mark", awaited: Numbers(&[0]) },
-    Kind { name: "calls by refusal, with a held count above 265", awaited: Numbers(&[1, 2, 3]) },
+    Kind { name: "calls by refusal, with a held count that is not legal", awaited: Numbers(&[1, 2, 3]) },
     Kind { name: "line switches by refusal, with such a count", awaited: Numbers(&[0, 1]) },
     Kind { name: "calls by refusal, with cells past the count that are not zero", awaited: Numbers(&[0, 1, 2, 3]) },
     Kind { name: "calls by refusal, of a locked reader", awaited: Numbers(&[0, 1, 2, 3]) },
     Kind { name: "calls carried out by the piece's length", awaited: UpTo(MOST_PIECE) },
     Kind { name: "calls carried out by the held count", awaited: UpTo(HOLDS) },
     Kind { name: "fresh settings by the refusal that a call would get", awaited: Numbers(&[0, 1, 2, 3]) },
-    Kind { name: "fresh settings by the size code before", awaited: Numbers(&[0, 1, 2]) },
+    Kind { name: "fresh settings by the size code before", awaited: UpTo(255) },
     Kind { name: "fresh settings by refusal, with a mark of neither 0 nor 1 before", awaited: Numbers(&[0]) },
+    Kind { name: "size codes set", awaited: UpTo(MOST_SIZE_CODE) },
+    Kind { name: "size codes answered 1Bh", awaited: Numbers(&UNFIT_SIZE_CODES) },
+    Kind { name: "calls refused for the size code alone, by this code", awaited: Numbers(&UNFIT_SIZE_CODES) },
+    Kind { name: "headers of length 257 and all bytes behind them, by identifier", awaited: Numbers(&IDENTIFIERS) },
+    Kind { name: "headers of length 258 and all bytes behind them, by identifier", awaited: Numbers(&IDENTIFIERS) },
+    Kind { name: "data packets of length 257 in a transfer by size", awaited: Numbers(&SIZES) },
+    Kind { name: "data packets of length 258 in a transfer by size", awaited: Numbers(&SIZES) },
+    Kind { name: "data packets of length 257 without a transfer by size", awaited: Numbers(&SIZES) },
+    Kind { name: "data packets of length 258 without a transfer by size", awaited: Numbers(&SIZES) },
+    Kind { name: "unfinished packets by the bytes that are there", awaited: Numbers(&[264, 265, 266]) },
 ];
 
 #[derive(Default)]
@@ -84,45 +113,87 @@ impl Tally {
         if let Some(receiver) = request.kind.receiver() {
             self.add_receiver(request, receiver, refusal);
         }
-        let unfit = !request.reader.settings.marks_legal();
-        if request.kind == frame::Kind::FreshSettings {
+        let marks = if request.kind == frame::Kind::FreshSettings {
             self.count(FRESH, request.reader.refusal(request.room.len()));
             self.count(FRESH_SIZES, request.reader.settings.size_code);
-            if unfit {
-                self.count(FRESH_MARKS, refusal);
-            }
-            return;
-        }
-        if request.kind.is_line_switch() {
+            FRESH_MARKS
+        } else if request.kind.is_line_switch() {
             self.count(SWITCHES, refusal);
-            if unfit {
-                self.count(MARKS_SWITCHED, refusal);
+            MARKS_SWITCHED
+        } else {
+            self.count(REFUSALS, refusal);
+            self.add_call(request, outcome);
+            MARKS
+        };
+        if !request.reader.settings.marks_legal() {
+            self.count(marks, refusal);
+        }
+    }
+
+    fn add_call(&mut self, request: &Request, outcome: &Outcome) {
+        if outcome.answer.refusal != 0 {
+            if refused_for_size(request) {
+                self.count(SIZES_REFUSED, request.reader.settings.size_code);
             }
             return;
-        }
-        self.count(REFUSALS, refusal);
-        if unfit {
-            self.count(MARKS, refusal);
         }
         let run = request.whole_run();
-        let packet = match find(&run) {
-            (_, Some(packet)) if refusal == 0 => packet,
+        self.add_header(&run);
+        if let Some(packet) = find(&run).1 {
+            self.add_packet(&packet, request, outcome);
+        }
+    }
+
+    fn add_header(&mut self, run: &[u8]) {
+        let header = match header(run) {
+            Some(header) => header,
+            None => return,
+        };
+        let whole = run.len() >= header.end();
+        match header.length {
+            257 if whole => self.count(HEADERS_257, header.identifier),
+            258 if whole => self.count(HEADERS_258, header.identifier),
+            _ if find(run).0 == header.place => self.count(UNFINISHED, run.len() - header.place),
+            _ => {}
+        }
+    }
+
+    fn add_packet(&mut self, packet: &Packet, request: &Request, outcome: &Outcome) {
+        let before = &request.reader.settings;
+        if outcome.answer.length > 0 {
+            self.add_reply(packet, outcome.room[9], before.size());
+        } else if before.transfer != 0 && outcome.reader.settings.transfer == 0 {
+            self.count(DOWNLOADS, before.size());
+        }
+        let data = [DATA, LAST_DATA].contains(&packet.identifier);
+        if data && packet.sum_right && packet.address == before.address {
+            self.add_data(packet.content.len() + 2, before);
+        }
+    }
+
+    fn add_reply(&mut self, packet: &Packet, code: u8, size: usize) {
+        self.count(ACKNOWLEDGES, code);
+        if code == 0x00 {
+            self.count(FINE, packet.content[0]);
+        }
+        match (packet.content, code) {
+            ([UP_CHAR, ..], 0x00) => self.count(UPLOADS, size),
+            ([SET_SYS_PARA, 6, size_code], 0x00) => self.count(SIZES_SET, *size_code),
+            ([SET_SYS_PARA, 6, size_code], 0x1B) => self.count(SIZES_NOT_SET, *size_code),
+            _ => {}
+        }
+    }
+
+    /// A data packet of this length that is for the reader and has the right sum.
+    fn add_data(&mut self, length: usize, before: &Settings) {
+        let kind = match (length, before.transfer) {
+            (257, 0) => STRAY_257,
+            (258, 0) => STRAY_258,
+            (257, _) => DATA_257,
+            (258, _) => DATA_258,
             _ => return,
         };
-        let before = &request.reader.settings;
-        let size = before.size();
-        let (code, command) = (outcome.room[9], packet.content[0]);
-        if outcome.answer.length > 0 {
-            self.count(ACKNOWLEDGES, code);
-            if code == 0x00 {
-                self.count(FINE, command);
-            }
-            if code == 0x00 && command == UP_CHAR {
-                self.count(UPLOADS, size);
-            }
-        } else if before.transfer != 0 && outcome.reader.settings.transfer == 0 {
-            self.count(DOWNLOADS, size);
-        }
+        self.count(kind, before.size());
     }
 
     fn add_receiver(&mut self, request: &Request, receiver: &Receiver, refusal: u8) {
@@ -184,11 +255,18 @@ impl Tally {
     }
 }
 
+/// Whether a refused call would be carried out with another size code.
+fn refused_for_size(request: &Request) -> bool {
+    let mut asked = request.clone();
+    asked.reader.settings.size_code = Settings::fresh().size_code;
+    asked.carried_out().answer.refusal == 0
+}
+
 impl Kind {
     fn awaited(&self) -> Box<dyn Iterator<Item = usize>> {
         match self.awaited {
             Codes(codes) => Box::new(codes.iter().map(|&code| code.into())),
-            Numbers(numbers) => Box::new(numbers.iter().map(|&number| number.into())),
+            Numbers(numbers) => Box::new(numbers.iter().copied()),
             UpTo(most) => Box::new(0..=most),
         }
     }
