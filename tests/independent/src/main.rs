@@ -20,6 +20,7 @@ mod shrink;
 mod tally;
 mod templates;
 mod wrong;
+mod wrong_limits;
 
 use cases::Dialogue;
 use chance::Chance;
@@ -114,7 +115,7 @@ fn number(name: &str, value: Option<&String>) -> Result<u64, String> {
 }
 
 fn list_errors() -> Result<(), End> {
-    for (name, _) in wrong::ERRORS {
+    for (name, _) in wrong::errors() {
         println!("{name}");
     }
     Ok(())
@@ -124,7 +125,7 @@ fn list_errors() -> Result<(), End> {
 fn answer(arguments: &[String]) -> Result<(), End> {
     let wrong = match arguments {
         [] => None,
-        [name] => match wrong::ERRORS.iter().find(|(error, _)| error == name) {
+        [name] => match wrong::errors().find(|(error, _)| error == name) {
             Some((_, wrong)) => Some(wrong),
             None => return Err(End::Trouble(format!("unknown error {name}\n{USAGE}"))),
         },

@@ -4,6 +4,7 @@
 use crate::frame::{Kind, Outcome, Request};
 use crate::reader::*;
 use crate::receiver::{Receiver, HOLDS};
+use crate::wrong_limits;
 use Error::{OfFresh, OfReader, OfReceiver};
 
 pub enum Error {
@@ -29,7 +30,12 @@ impl Error {
     }
 }
 
-pub const ERRORS: [(&str, Error); 50] = [
+/// All wrong ones by name.
+pub fn errors() -> impl Iterator<Item = &'static (&'static str, Error)> {
+    ERRORS.iter().chain(&wrong_limits::ERRORS)
+}
+
+const ERRORS: [(&str, Error); 50] = [
     ("lock-before-sum", OfReader(lock_before_sum)),
     ("delete-keeps-templates", OfReader(delete_keeps_templates)),
     ("sum-in-16-bits", OfReader(sum_in_16_bits)),
@@ -51,8 +57,8 @@ pub const ERRORS: [(&str, Error); 50] = [
     ("switch-keeps-buffers", OfReader(switch_keeps_buffers)),
     ("takes-any-mark", OfReader(takes_any_mark)),
     ("switch-keeps-unfit-marks", OfReader(switch_keeps_unfit_marks)),
-    ("holds-266", OfReceiver(holds_266)),
-    ("holds-268", OfReceiver(holds_268)),
+    ("holds-266", OfReceiver(|request, held| received(266, Request::carried_out, request, held))),
+    ("holds-268", OfReceiver(|request, held| received(268, Request::carried_out, request, held))),
     ("drops-one-more", OfReceiver(drops_one_more)),
     ("keeps-used", OfReceiver(keeps_used)),
     ("used-byte-past-count", OfReceiver(used_byte_past_count)),
@@ -60,7 +66,7 @@ pub const ERRORS: [(&str, Error); 50] = [
     ("keeps-cells-past-bytes", OfReceiver(keeps_cells_past_bytes)),
     ("says-used-for-taken", OfReceiver(says_used_for_taken)),
     ("answers-two", OfReceiver(answers_two)),
-    ("refuses-267", OfReceiver(refuses_267)),
+    ("refuses-267", OfReceiver(|request, held| refuses_above(266, request, held))),
     ("takes-any-count", OfReceiver(takes_any_count)),
     ("count-before-lengths", OfReceiver(count_before_lengths)),
     ("count-before-room", OfReceiver(count_before_room)),
@@ -312,22 +318,13 @@ fn switch_keeps_unfit_marks(request: &Request) -> Outcome {
     outcome
 }
 
-/// Takes bytes until 266 are held.
-fn holds_266(request: &Request, receiver: &Receiver) -> Outcome {
-    takes_up_to(266, request, receiver)
-}
-
-/// Takes bytes until 268 are held.
-fn holds_268(request: &Request, receiver: &Receiver) -> Outcome {
-    takes_up_to(268, request, receiver)
-}
-
-fn takes_up_to(most: usize, request: &Request, receiver: &Receiver) -> Outcome {
+/// Takes bytes until so many are held, and lets this reader deal with them.
+pub fn received(most: usize, reader: fn(&Request) -> Outcome, request: &Request, receiver: &Receiver) -> Outcome {
     let mut outcome = request.carried_out();
     if carried_out(request, &outcome) {
         let fits = request.run.len().min(most.saturating_sub(receiver.held().len()));
         let run = [receiver.held(), &request.run[..fits]].concat();
-        outcome = Request { kind: Kind::Call, run: run.clone(), ..request.clone() }.carried_out();
+        outcome = reader(&Request { kind: Kind::Call, run: run.clone(), ..request.clone() });
         outcome.receiver = Some(Receiver::holding(&run[outcome.answer.used..]));
         outcome.answer.used = fits;
     }
@@ -413,24 +410,22 @@ fn answers_two(request: &Request, _: &Receiver) -> Outcome {
     second
 }
 
-/// A held count of 267 gets refusal 3.
-fn refuses_267(request: &Request, receiver: &Receiver) -> Outcome {
-    let mut asked = request.clone();
-    if request.kind.is_call() && usize::from(receiver.count) == HOLDS {
-        asked.kind = Kind::ReceiverCall(Receiver { count: receiver.count + 1, ..receiver.clone() });
-    }
-    let mut outcome = asked.carried_out();
-    if outcome.answer.refusal != 0 {
-        outcome.receiver = Some(receiver.clone());
-    }
-    outcome
+/// A held count above this one gets refusal 3.
+pub fn refuses_above(most: u16, request: &Request, receiver: &Receiver) -> Outcome {
+    let count = if receiver.count > most { u16::MAX } else { receiver.count };
+    with_count(count, request, receiver)
 }
 
 /// A held count above 267 is taken for 267.
 fn takes_any_count(request: &Request, receiver: &Receiver) -> Outcome {
+    with_count(receiver.count.min(HOLDS as u16), request, receiver)
+}
+
+/// A call takes the held count for this one.
+pub fn with_count(count: u16, request: &Request, receiver: &Receiver) -> Outcome {
     let mut asked = request.clone();
     if request.kind.is_call() {
-        asked.kind = Kind::ReceiverCall(Receiver { count: receiver.count.min(HOLDS as u16), ..receiver.clone() });
+        asked.kind = Kind::ReceiverCall(Receiver { count, ..receiver.clone() });
     }
     let mut outcome = asked.carried_out();
     if outcome.answer.refusal != 0 {
@@ -580,7 +575,7 @@ fn lays_fresh_size(lays: bool, request: &Request) -> Outcome {
 }
 
 /// Whether the request is a call that was carried out.
-fn carried_out(request: &Request, outcome: &Outcome) -> bool {
+pub fn carried_out(request: &Request, outcome: &Outcome) -> bool {
     request.kind.is_call() && outcome.answer.refusal == 0
 }
 
@@ -590,7 +585,7 @@ fn refused(request: &Request, outcome: &Outcome) -> bool {
 }
 
 /// The bytes that a receiver holds afterwards.
-fn left(outcome: &Outcome) -> Vec<u8> {
+pub fn left(outcome: &Outcome) -> Vec<u8> {
     outcome.receiver.as_ref().map_or_else(Vec::new, |receiver| receiver.held().to_vec())
 }
 
@@ -600,18 +595,18 @@ fn answered<'a>(request: &'a Request, outcome: &Outcome) -> Option<Packet<'a>> {
 }
 
 /// Whether a request is a call with this command.
-fn is_command(request: &Request, code: u8) -> bool {
+pub fn is_command(request: &Request, code: u8) -> bool {
     let packet = find(&request.run).1;
     request.kind.is_call() && packet.map_or(false, |packet| packet.identifier == COMMAND && packet.content[0] == code)
 }
 
 /// The acknowledge code of an outcome that is not silent.
-fn code(outcome: &Outcome) -> Option<u8> {
+pub fn code(outcome: &Outcome) -> Option<u8> {
     (outcome.answer.length > 0).then(|| outcome.room[9])
 }
 
 /// The outcome with another acknowledge in place of the reply.
-fn reply_instead(request: &Request, mut outcome: Outcome, content: &[u8]) -> Outcome {
+pub fn reply_instead(request: &Request, mut outcome: Outcome, content: &[u8]) -> Outcome {
     let reply = packet(outcome.reader.settings.address, ACKNOWLEDGE, content);
     outcome.room = request.room.clone();
     outcome.room[..reply.len()].copy_from_slice(&reply);
