@@ -171,6 +171,7 @@ fn of_lengths() -> Vec<Example> {
     let data_255 = data("02 01 01", "11", 255, "10 F3");
     let data_256 = data("08 01 02", "11", 256, "11 0B");
     let data_257 = data("02 01 03", "11", 257, "11 17");
+    let inside = format!("A 01 01 02 {HAND_SHAKE}{} 05 78", zeroes(244));
     let fails = |packet| [(DOWN_CHAR_1, 13, FINE), packet];
     vec![
         example("2, length 258", &fresh, &[("EF 01 A 02 01 02 40", 0, ""), ("EF 01 A 02 01 03 40", 2, "")]),
@@ -178,6 +179,7 @@ fn of_lengths() -> Vec<Example> {
         example("7, length 256", &fresh, &[("EF 01 A 07 01 00 40", 0, ""), ("EF 01 A 07 01 01 40", 2, "")]),
         example("1, length 258", &fresh, &[("EF 01 A 01 01 02 40", 2, "")]),
         example("7, length 258", &fresh, &[("EF 01 A 07 01 02 40", 2, "")]),
+        example("P1 in a command of length 258", &fresh, &[(&format!("EF 01 {inside}"), 2, ""), (&inside, 19, FINE)]),
         example("length 256 in a transfer", &fresh, &fails((&data_254, 265, FAILED))),
         example("length 257 in a transfer", &fresh, &fails((&data_255, 266, FAILED))),
         example("length 258 in a transfer", &fresh, &fails((&data_256, 267, FAILED))),

@@ -6,7 +6,7 @@ use crate::receiver::{Receiver, HOLDS};
 use crate::wrong::Error::{self, OfFresh, OfReader, OfReceiver};
 use crate::wrong::{carried_out, code, is_command, left, received, refuses_above, reply_instead, with_count};
 
-pub const ERRORS: [(&str, Error); 33] = [
+pub const ERRORS: [(&str, Error); 34] = [
     ("all-lengths-258", OfReader(all_lengths_258)),
     ("data-length-256", OfReader(data_length_256)),
     ("data-length-257", OfReader(|request| with_lengths(request, [256, 257, 256, 257]))),
@@ -14,6 +14,7 @@ pub const ERRORS: [(&str, Error); 33] = [
     ("only-2-has-length-258", OfReader(|request| with_lengths(request, [256, 258, 256, 256]))),
     ("only-8-has-length-258", OfReader(|request| with_lengths(request, [256, 256, 256, 258]))),
     ("command-length-257", OfReader(|request| with_lengths(request, [257, 258, 256, 258]))),
+    ("whole-command-length-258", OfReader(whole_command_length_258)),
     ("acknowledge-length-258", OfReader(|request| with_lengths(request, [256, 258, 258, 258]))),
     ("length-258-at-code-3-only", OfReader(length_258_at_code_3_only)),
     ("length-258-in-a-transfer-only", OfReader(length_258_in_a_transfer_only)),
@@ -50,6 +51,15 @@ fn all_lengths_258(request: &Request) -> Outcome {
 /// Lengths up to 256 with identifiers 2 and 8 too.
 fn data_length_256(request: &Request) -> Outcome {
     with_lengths(request, [256, 256, 256, 256])
+}
+
+/// Lengths up to 258 with identifier 1 too, where all bytes are there.
+fn whole_command_length_258(request: &Request) -> Outcome {
+    if header(&request.run).map_or(false, |header| request.run.len() >= header.end()) {
+        with_lengths(request, [258, 258, 256, 258])
+    } else {
+        request.carried_out()
+    }
 }
 
 /// Lengths above 256 only while the size code is 3.
