@@ -8,33 +8,10 @@ log=target/bench.log
 sums=target/bench.sums
 stamp=target/stamp/bench
 
-# The crates of the program, each behind those that it stands on; the kit's own libraries are not among them.
-crates_of_program() {
-    awk -F: '
-        { sub(/#.*/, "") }
-        NF { gsub(/[ \t]/, "", $1); stands_on[$1] = $2 }
-        function list(name,    i, n, names) {
-            if (!(name in stands_on) || name in listed) return
-            listed[name]
-            n = split(stands_on[name], names, " ")
-            for (i = 1; i <= n; i++) list(names[i])
-            print name
-        }
-        END { list("bench") }' crates.txt
-}
-
-# A sum of all that the program is made of. It is made of bytes and not of times, which a checkout or a copy sets at will.
-sum_of_sources() {
-    # shellcheck disable=SC2046
-    {
-        cat "$kit/KIT-ID"
-        uname -m
-        find crates.txt $(crates_of_program | sed 's,^,crates/,') ! -type d -exec sha256sum {} + | sort
-    } | sha256sum
-}
+. tools/sources.sh
 
 # Whether the program is the one that was built of these very sources.
-is_built() { [ -f "$program" ] && [ "$(sum_of_sources; sha256sum "$program")" = "$(cat "$sums" 2>/dev/null)" ]; }
+is_built() { [ -f "$program" ] && [ "$(sum_of bench; sha256sum "$program")" = "$(cat "$sums" 2>/dev/null)" ]; }
 
 # Reads what rt says of so many crates. All of it goes to the log, and a line for each crate proved to standard error.
 # Succeeds if rt ends well.
@@ -60,10 +37,10 @@ tell() {
 # rt goes by its stamp of a crate and does not look at the program. Where that is gone, or the sources are those of the last
 # build and the program is not, the stamp goes too.
 prove() {
-    sum=$(sum_of_sources)
+    sum=$(sum_of bench)
     if [ ! -f "$program" ] || [ "$sum" = "$(head -n 1 "$sums" 2>/dev/null)" ]; then rm -f "$stamp"; fi
     { mkdir -p target && rm -f "$sums" && true >"$log"; } || fail "target cannot be written in, so there is no reader to run"
-    crates=$(crates_of_program | wc -l)
+    crates=$(crates_of bench | wc -l)
     echo "bystrodol: rt check bench proves and builds the reader, $crates crates; the first time this takes minutes" >&2
     rt check bench </dev/null 2>&1 | tell "$crates" ||
         fail "rt check bench failed, so there is no reader to run; $log has all that it said"

@@ -123,7 +123,7 @@ static void builds(void) {
 /* A packet of n bytes of content FF, whose sum is written here. */
 static void longest(uint8_t identifier, size_t n, uint16_t sum) {
     size_t length = n + BYSTRODOL_FRAME_BYTES;
-    uint8_t packet[LONGEST] = {0xEF, 0x01, A, identifier, (uint8_t)(n + 2 >> 8), (uint8_t)(n + 2)};
+    uint8_t packet[LONGEST] = {0xEF, 0x01, A, identifier, (uint8_t)((n + 2) >> 8), (uint8_t)(n + 2)};
     for (size_t i = 0; i < n; i++) content[i] = packet[9 + i] = 0xFF;
     packet[length - 2] = (uint8_t)(sum >> 8), packet[length - 1] = (uint8_t)sum;
     built("the longest packet", build(0xFFFFFFFF, identifier, content, n, length), packet, length);
