@@ -4,9 +4,10 @@ ghost use Prim.Native.Nat.{_+_, _%_, _<_};
 ghost use lib.ListN.{length};
 ghost use Rattle.protocol.specs.Numbers.{wrapsAt};
 ghost use Rattle.protocol.specs.Bytes.{wordAt};
-ghost use Rattle.protocol.specs.Packet.{isIdentifier, limit, accepts};
+ghost use Rattle.protocol.specs.Packet.{accepts};
 ghost use Rattle.protocol.specs.Finder.{startOf, allBut, findOf, usedOf};
 ghost use Rattle.protocol.specs.Services.{usedService};
+ghost use Rattle.wire.specs.Limits.{limitOf};
 use crate::bytes;
 use protocol::Found;
 use protocol::Start;
@@ -46,43 +47,27 @@ pub fn all_but(s: &[u8]) -> usize
     s.len()
 }
 
-pub fn is_identifier(i: u8) -> bool
-    ensures { λ r. ⌜ r ≡ isIdentifier i ⌝ }
+// The largest length field of an identifier's packets; 0 where no packet has the identifier.
+pub fn limit_of(i: u8) -> usize
+    ensures { λ r. ⌜ r ≡ limitOf i ⌝ }
 {
     match i {
-        1 => true,
-        2 => true,
-        7 => true,
-        8 => true,
-        _ => false,
+        1 => numbers::LONGEST_OTHER,
+        2 => numbers::LONGEST,
+        7 => numbers::LONGEST_OTHER,
+        8 => numbers::LONGEST,
+        _ => 0,
     }
-}
-
-// The largest length field of an identifier's packets.
-pub fn limit_of(i: u8) -> usize
-    ensures { λ r. ⌜ r ≡ limit i ⌝ }
-{
-    if i == numbers::DATA_PACKET {
-        return numbers::LONGEST;
-    }
-    if i == numbers::LAST_PACKET {
-        return numbers::LONGEST;
-    }
-    numbers::LONGEST_OTHER
 }
 
 // Whether a packet can have this identifier and this length field.
 pub fn is_head(i: u8, n: usize) -> bool
     ensures { λ r. ⌜ r ≡ accepts i n ⌝ }
 {
-    let known = is_identifier(i);
-    if known {
-        if n < numbers::SHORTEST {
-            return false;
-        }
-        return n <= limit_of(i);
+    if n < numbers::SHORTEST {
+        return false;
     }
-    false
+    n <= limit_of(i)
 }
 
 // The number in the two bytes at a place.
