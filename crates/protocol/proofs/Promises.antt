@@ -34,6 +34,7 @@ pub mod ReceiverLock
 pub mod ReceiverCalls
 pub mod InPieces
 pub mod LongData
+pub mod LongLimits
 pub mod ReceiverExample
 pub mod Met
 pub mod Examples

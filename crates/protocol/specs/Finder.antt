@@ -29,7 +29,7 @@ startOf (b ∷ s) = cond (marksAt (b ∷ s) 0) (At 0) (later (startOf s))
 unfoldable pub allBut : List ℕ → ℕ
 allBut s = cond (eqb (byteAt s (length s - 1)) firstMark) (length s - 1) (length s)
 
--- 2. fewer than 9 bytes; 3. an identifier or a length that no packet has; 4. fewer than 9 + length bytes
+-- 2. fewer than 9 bytes; 3. an identifier and a length that no packet has; 4. fewer than 9 + length bytes
 unfoldable pub findFrom : List ℕ → Start → Found
 findFrom s Nowhere = Noise (allBut s)
 findFrom s (At p) =

@@ -50,7 +50,7 @@ lowestBaud = 1
 abbrev pub highestBaud : ℕ
 highestBaud = 12
 
--- the largest size code
+-- the largest size code (request [3])
 unfoldable pub highestSize : ℕ
 highestSize = 3
 

@@ -45,7 +45,7 @@ pub record Reader : Type 0 where
 unfoldable pub capacity : Guarded → ℕ
 capacity g = length (g .templates) / pageBytes
 
--- size codes 0, 1, 2, 3 mean 32, 64, 128, 256 data bytes
+-- size codes 0, 1, 2, 3 mean 32, 64, 128, 256 data bytes; 3 is request [3]'s
 unfoldable pub sizeOf : ℕ → ℕ
 sizeOf code = 2 ^ (5 + code)
 

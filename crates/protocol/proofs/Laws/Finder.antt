@@ -21,7 +21,7 @@ use Rattle.protocol.specs.Step.{hearAs, hearAt}
 use Rattle.protocol.proofs.Laws.Logic.{T→true, and-l, and-r, and-i, and-false}
 use Rattle.protocol.proofs.Laws.Lists.{same-refl}
 
--- ---- the length of a packet, and its limits: no other proof opens `accepts`
+-- ---- the length of a packet, and its limits. Other proofs open `accepts` only to compute it at a given identifier and length
 
 pub length-packet : (a : List ℕ) (i : ℕ) (c : List ℕ) → length a ≡ fourBytes → length (packet a i c) ≡ length c + frameBytes
 unfolding packet two
@@ -45,7 +45,7 @@ limit-most : (i : ℕ) → limit i ≤ longest
 unfolding limit longest
 limit-most i = go (isData i)
   where
-    go : (b : Bool) → cond b 258 longestOther ≤ 258
+    go : (b : Bool) → cond b longest longestOther ≤ longest
     go true = omega arith
     go false = omega arith
 

@@ -60,7 +60,7 @@ pub data Finds (s : List ℕ) : Found → ℕ → Type 0 where
   noise-but-one : ((q : ℕ) → Marks s q → ⊥) → getD s (length s - 1) 0 ≡ 0xef → Finds s (Noise (length s - 1)) (length s - 1)
   -- 2. fewer than 9 bytes from p: p used
   headless : {p : ℕ} → First s p → length s < p + 9 → Finds s (Unfinished p) p
-  -- 3. identifier not 1, 2, 7, 8, or length not 3 to 256, or for identifiers 2 and 8 not 3 to 258: p + 2 used
+  -- 3. identifier not 1, 2, 7, 8, or length not 3 to 256 for 1 and 7, not 3 to 258 for 2 and 8: p + 2 used
   unfit : {p : ℕ} → First s p → p + 9 ≤ length s → (Accepted (getD s (p + 6) 0) (lengthField s p) → ⊥) → Finds s (Unfit p) (p + 2)
   -- 4. fewer than 9 + length bytes from p: p used; otherwise p + 9 + length
   unfinished : {p : ℕ} → First s p → p + 9 ≤ length s → Accepted (getD s (p + 6) 0) (lengthField s p) → length s < p + 9 + lengthField s p → Finds s (Unfinished p) p

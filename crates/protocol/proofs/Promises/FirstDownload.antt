@@ -1,8 +1,8 @@
 -- Document 02, request [2]: "the first download at every new vault". At 128 data bytes it is served with nothing set; a host that sends 64 "must set code 1
--- itself or send 128", and otherwise gets 0Eh.
+-- itself or send 128", and otherwise gets 0Eh. Proved once over the size and its code; LongData has request [3]'s 256.
 use mathlib.Core.Bool.{Bool, true, false, cond}
 use mathlib.Core.Path.{_≡_, refl, sym, ap, ap₂, _∙_, subst}
-use mathlib.Core.Logic.{_≢_}
+use mathlib.Core.Logic.{inl, inr, _≢_}
 use mathlib.Core.List.{List, [], _∷_, map}
 use Prim.Native.Nat.{ℕ, zero, suc, _+_, _*_, _/_, _≤_}
 use native.Mathlib.Nat.{suc-mul}
@@ -21,6 +21,7 @@ use Rattle.protocol.specs.Call.{Lent, fitLent, legal, replyOf, callOf, c
 use Rattle.protocol.specs.Records.{freshOf}
 use Rattle.protocol.specs.Dialogue.{Event, received, on, finally, Exchange, exchanges}
 use Rattle.protocol.proofs.Promises.Told.{Replies, Leaves, Gives, Numbered, number-is, blank, WithBuffer}
+use Rattle.protocol.proofs.Promises.Packets.{Data, accepts-means, data-accepted}
 use Rattle.protocol.proofs.Promises.LegalMeans.{core-holds}
 use Rattle.protocol.proofs.Promises.StaysLegal.{Legal, stays-legal}
 use Rattle.protocol.proofs.Promises.Pieces.{GoesIn, none-ends, piece-fails, piece-ignored}
@@ -57,14 +58,17 @@ unfolding packets
 counted zero n s = refl
 counted (suc k) n s = ap suc (counted k n (drop n s))
 
--- data packets of n bytes, the last with identifier 8 and the others 2
+-- so many bytes can be sent in a data packet
 abbrev pub Sendable : ℕ → Type 0
-Sendable n = T (accepts dataPacket (n + 2)) × T (accepts lastPacket (n + 2))
+Sendable n = (1 ≤ n) × (n ≤ 256)
+
+pub data-taken : (i n : ℕ) → Data i → Sendable n → T (accepts i (n + 2))
+data-taken i n d ok = accepts-means i (n + 2) .1 (data-accepted i (n + 2) d (omega (arith, ok .0)) (omega (arith, ok .1)))
 
 heard-data : (n : ℕ) → Sendable n → (a : List ℕ) → a ≡ A → (last : Bool) (c : List ℕ) → length c ≡ n → hear a (packet A (cond last lastPacket dataPacket) c) ≡ piece last true c
 unfolding hearAs
-heard-data n ok a home true c one = rw home (heard-packet A lastPacket c refl (rw one (ok .1)))
-heard-data n ok a home false c one = rw home (heard-packet A dataPacket c refl (rw one (ok .0)))
+heard-data n ok a home true c one = rw home (heard-packet A lastPacket c refl (rw one (data-taken lastPacket n (inr refl) ok)))
+heard-data n ok a home false c one = rw home (heard-packet A dataPacket c refl (rw one (data-taken dataPacket n (inl refl) ok)))
 
 -- buffer b written a second time
 again : (b : ℕ) (c c′ : Buffer) (m m′ : Transfer) (r t x : Reader) → WithBuffer b c m r t → WithBuffer b c′ m′ t x → WithBuffer b c′ m′ r x
@@ -216,8 +220,7 @@ module _ (lent : ℕ → Lent) (f : (n : ℕ) → T (fitLent (lent n))) where
 
     -- eight packets of 64: without asking, and with code 1 set first
     pub unasked-64 : Talks r (downPacket b ∷ packets A 8 64 s) (acknowledge A 0x00 [] ∷ acknowledge A 0x0e [] ∷ replicate 7 []) (WithBuffer b blank closed r)
-    unfolding accepts limit isIdentifier longest
-    unasked-64 = unasked 64 (tt, tt) (λ e. omega arith) 7 refl
+    unasked-64 = unasked 64 (lit≤ tt, lit≤ tt) (λ e. omega arith) 7 refl
 
     pub asked-64 : Talks r (sizePacket 1 ∷ downPacket b ∷ packets A 8 64 s) (acknowledge A 0x00 [] ∷ acknowledge A 0x00 [] ∷ replicate 8 [])
         (WithBuffer b (full s) closed (withCode 1 (r .guarded)))

@@ -1,8 +1,8 @@
 -- Packets sent one to a call, and the same packets behind a receiver, as the cable gives them: answered alike. So the first download of request [2] is served
--- however it is cut.
+-- however it is cut, and so are request [3]'s packets (LongData).
 use mathlib.Core.Bool.{Bool, true, false, cond}
 use mathlib.Core.Path.{_≡_, refl, sym, ap, ap₂, _∙_, subst}
-use mathlib.Core.Logic.{_≢_}
+use mathlib.Core.Logic.{inl, inr, _≢_}
 use mathlib.Core.List.{List, [], _∷_, _++_}
 use Prim.Native.Nat.{ℕ, zero, suc, _+_, _*_, _/_, _≤_}
 use native.Mathlib.Nat.{suc-mul}
@@ -11,7 +11,7 @@ use lib.Dec.{T, eqb, lit≤}
 use lib.ListN.{length, take, drop, length-drop, replicate, drop-of-length-le}
 use lib.Seq.{length-take-le}
 use Rattle.protocol.specs.declared.Receiver.{Receiver}
-use Rattle.protocol.specs.Numbers.{dataPacket, lastPacket, longest, holds}
+use Rattle.protocol.specs.Numbers.{dataPacket, lastPacket, highestSize, longest, holds}
 use Rattle.protocol.specs.Bytes.{lay, joined}
 use Rattle.protocol.specs.Packet.{packet, lengthOf, accepts, limit, isIdentifier}
 use Rattle.protocol.specs.Finder.{findOf, usedOf}
@@ -23,7 +23,8 @@ use Rattle.protocol.specs.Records.{freshOf}
 use Rattle.protocol.specs.Dialogue.{received, on, finally, exchanges}
 use Rattle.protocol.specs.Receiver.{bytesIn, holding, line}
 use Rattle.protocol.specs.Caller.{Try, Ran, replied, offers, served, Rests, resting, atRest, drain, drained}
-use Rattle.protocol.proofs.Laws.Finder.{length-packet}
+use Rattle.protocol.proofs.Laws.Finder.{length-packet, accepts-most}
+use Rattle.protocol.proofs.Laws.Sizes.{Size, sizes}
 use Rattle.protocol.proofs.Laws.Drain.{drained-more}
 use Rattle.protocol.proofs.Promises.Told.{Numbered, blank, WithBuffer}
 use Rattle.protocol.proofs.Promises.LegalMeans.{core-holds}
@@ -32,7 +33,7 @@ use Rattle.protocol.proofs.Promises.ReadBack.{packet-reads}
 use Rattle.protocol.proofs.Promises.Download.{deliver}
 use Rattle.protocol.proofs.Promises.Cuts.{rests-drained, drains-by-call}
 use Rattle.protocol.proofs.Promises.Caller.{spoken, replied-is}
-use Rattle.protocol.proofs.Promises.FirstDownload.{A, downPacket, sizePacket, full, withCode, Sendable, answersTo, Talks, first-download, unasked, asked}
+use Rattle.protocol.proofs.Promises.FirstDownload.{A, downPacket, sizePacket, full, withCode, Sendable, data-taken, answersTo, Talks, first-download, unasked, asked}
 
 -- ---- one to a call, or all behind one another
 
@@ -100,16 +101,24 @@ packet-whole : (i : ℕ) (c : List ℕ) → T (accepts i (lengthOf c)) → usedO
 unfolding usedOf
 packet-whole i c ok = ap usedOf (packet-reads A i c refl ok .found) ∙ omega (arith, length-packet A i c refl)
 
-packets-whole : (k n : ℕ) (s : List ℕ) → T (accepts dataPacket (n + 2)) → T (accepts lastPacket (n + 2)) → length s ≡ k * n → UsedWhole (packets A k n s)
+packets-whole : (k n : ℕ) (s : List ℕ) → Sendable n → length s ≡ k * n → UsedWhole (packets A k n s)
 unfolding packets
-packets-whole zero n s d e long = tt
-packets-whole (suc k) n s d e long =
+packets-whole zero n s ok long = tt
+packets-whole (suc k) n s ok long =
     let one : length (take n s) ≡ n = length-take-le n s (omega (arith, suc-mul k n)) in
-    (packet-whole (cond (eqb k 0) lastPacket dataPacket) (take n s) (rw one (go (eqb k 0))), packets-whole k n (drop n s) d e (length-drop n s ∙ omega (arith, suc-mul k n)))
+    (packet-whole (cond (eqb k 0) lastPacket dataPacket) (take n s) (rw one (go (eqb k 0))), packets-whole k n (drop n s) ok (length-drop n s ∙ omega (arith, suc-mul k n)))
   where
     go : (b : Bool) → T (accepts (cond b lastPacket dataPacket) (n + 2))
-    go true = e
-    go false = d
+    go true = data-taken lastPacket n (inr refl) ok
+    go false = data-taken dataPacket n (inl refl) ok
+
+-- a page is k packets of the z bytes of a size code
+size-sendable : (z : ℕ) → Size z → Sendable z
+unfolding longest
+size-sendable z k = (k .some, omega (arith, accepts-most dataPacket (z + 2) (k .carries)))
+
+size-whole : (z k : ℕ) → Size z → 512 / z ≡ k → k * z ≡ 512
+size-whole z k a many = ap (λ (j : ℕ). j * z) (sym many ∙ a .count) ∙ a .whole
 
 -- ---- the first download, however it is cut
 
@@ -130,7 +139,7 @@ module _ (t i n c d : List ℕ) (l : Legal core core-holds (freshOf t i n c d)) 
   unfolding fitRoom accepts limit isIdentifier longest acknowledge packet
   first-download-cut =
       in-pieces room (λ k. tt) r l _ _ _ (first-download room (λ k. tt) t i n c d l b which s long)
-      (packet-whole 0x01 (0x09 ∷ b ∷ []) tt, packets-whole 4 128 s tt tt (long ∙ omega arith))
+      (packet-whole 0x01 (0x09 ∷ b ∷ []) tt, packets-whole 4 128 s (lit≤ tt, lit≤ tt) (long ∙ omega arith))
 
   -- of another size, without asking
   pub unasked-cut : (z : ℕ) → Sendable z → z ≢ 128 → (k : ℕ) → suc k * z ≡ 512
@@ -139,24 +148,24 @@ module _ (t i n c d : List ℕ) (l : Legal core core-holds (freshOf t i n c d)) 
   unasked-cut z ok other k many =
       subst (λ (rest : List (List ℕ)). HoweverCut r (downPacket b ∷ packets A (suc k) z s) (acknowledge A 0x00 [] ∷ acknowledge A 0x0e [] ∷ rest) (WithBuffer b blank closed r)) (silent-all k)
       (in-pieces room (λ j. tt) r l _ _ _ (unasked room (λ j. tt) t i n c d l b which s long z ok other k many)
-      (packet-whole 0x01 (0x09 ∷ b ∷ []) tt, packets-whole (suc k) z s (ok .0) (ok .1) (long ∙ sym many)))
+      (packet-whole 0x01 (0x09 ∷ b ∷ []) tt, packets-whole (suc k) z s ok (long ∙ sym many)))
 
   -- and with a size code set first
-  pub asked-cut : (v k z : ℕ) → v ≤ 3 → 512 / sizeOf v ≡ k → sizeOf v ≡ z → Sendable z → k * z ≡ 512
+  pub asked-cut : (v k z : ℕ) → v ≤ 3 → 512 / sizeOf v ≡ k → sizeOf v ≡ z
       → HoweverCut r (sizePacket v ∷ downPacket b ∷ packets A k z s) (acknowledge A 0x00 [] ∷ acknowledge A 0x00 [] ∷ []) (WithBuffer b (full s) closed (withCode v (r .guarded)))
-  unfolding fitRoom accepts limit isIdentifier longest acknowledge packet
-  asked-cut v k z few number each ok many =
+  unfolding fitRoom accepts limit isIdentifier longest acknowledge packet highestSize
+  asked-cut v k z few number each =
+      let size : Size z = subst Size each (sizes v few) in
       subst (λ (rest : List (List ℕ)). HoweverCut r (sizePacket v ∷ downPacket b ∷ packets A k z s) (acknowledge A 0x00 [] ∷ acknowledge A 0x00 [] ∷ rest) (WithBuffer b (full s) closed (withCode v (r .guarded))))
       (silent-all k)
       (in-pieces room (λ j. tt) r l _ _ _ (asked room (λ j. tt) t i n c d l b which s long v k z few number each)
-      (packet-whole 0x01 (0x0e ∷ 6 ∷ v ∷ []) tt, (packet-whole 0x01 (0x09 ∷ b ∷ []) tt, packets-whole k z s (ok .0) (ok .1) (long ∙ sym many))))
+      (packet-whole 0x01 (0x0e ∷ 6 ∷ v ∷ []) tt, (packet-whole 0x01 (0x09 ∷ b ∷ []) tt, packets-whole k z s (size-sendable z size) (long ∙ sym (size-whole z k size (rw each at number))))))
 
   -- eight packets of 64: without asking, and with code 1 set first
   pub unasked-64-cut : HoweverCut r (downPacket b ∷ packets A 8 64 s) (acknowledge A 0x00 [] ∷ acknowledge A 0x0e [] ∷ []) (WithBuffer b blank closed r)
-  unfolding accepts limit isIdentifier longest
-  unasked-64-cut = unasked-cut 64 (tt, tt) (λ e. omega arith) 7 refl
+  unasked-64-cut = unasked-cut 64 (lit≤ tt, lit≤ tt) (λ e. omega arith) 7 refl
 
   pub asked-64-cut : HoweverCut r (sizePacket 1 ∷ downPacket b ∷ packets A 8 64 s) (acknowledge A 0x00 [] ∷ acknowledge A 0x00 [] ∷ [])
       (WithBuffer b (full s) closed (withCode 1 (r .guarded)))
-  unfolding sizeOf accepts limit isIdentifier longest
-  asked-64-cut = asked-cut 1 8 64 (lit≤ tt) refl refl (tt, tt) refl
+  unfolding sizeOf
+  asked-64-cut = asked-cut 1 8 64 (lit≤ tt) refl refl

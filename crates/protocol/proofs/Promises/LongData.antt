@@ -2,7 +2,7 @@
 -- is for a host: packets of lengths 257 and 258, and a template in data packets of 256 bytes.
 use mathlib.Core.Bool.{Bool, true, false}
 use mathlib.Core.Path.{_≡_, refl, sym, ap, _∙_, subst}
-use mathlib.Core.Logic.{_⊎_, inl, inr, _≢_}
+use mathlib.Core.Logic.{inl, inr, _≢_}
 use mathlib.Core.List.{List, [], _∷_, _++_, append-nil}
 use Prim.Native.Nat.{ℕ, zero, suc, _+_, _≤_, _<_}
 use native.Mathlib.Omega.{arith}
@@ -12,7 +12,6 @@ use lib.Seq.{take-all, length-take-le}
 use Rattle.protocol.specs.Numbers.{longest}
 use Rattle.protocol.specs.Bytes.{joined}
 use Rattle.protocol.specs.Packet.{packet, accepts, limit, isIdentifier, rightAt}
-use Rattle.protocol.specs.Finder.{findOf, usedOf}
 use Rattle.protocol.specs.Reader.{closed, opened, Plain, Guarded, Reader, sizeOf, keyed, locked}
 use Rattle.protocol.specs.Bytes.{four, same}
 use Rattle.protocol.specs.Commands.{upChar, barred, command}
@@ -23,11 +22,10 @@ use Rattle.protocol.specs.Records.{freshOf}
 use Rattle.protocol.proofs.Laws.Finder.{length-packet}
 use Rattle.protocol.proofs.Promises.Told.{Replies, Leaves, Gives, Numbered, blank, WithBuffer}
 use Rattle.protocol.proofs.Promises.Packets.{Data, Other, Accepted, data-accepted}
-use Rattle.protocol.proofs.Promises.Finding.{silently, First, lengthField, WholeAt, unfit, unfinished, whole, found, uses, silent-without, contentOf, content-long, more, last, heard}
-use Rattle.protocol.proofs.Promises.ZeroUsed.{UnfinishedPacket}
+use Rattle.protocol.proofs.Promises.Finding.{silently, First, lengthField, WholeAt, unfit, unfinished, whole, uses, silent-without, contentOf, content-long, more, last, heard}
 use Rattle.protocol.proofs.Promises.LegalMeans.{core-holds, legal-means}
 use Rattle.protocol.proofs.Promises.StaysLegal.{Legal}
-use Rattle.protocol.proofs.Promises.Pieces.{GoesIn, Stopped, none-ends, piece-fails, piece-ignored}
+use Rattle.protocol.proofs.Promises.Pieces.{GoesIn, Stopped, Taken, none-ends, piece-goes-in, piece-fails, piece-ignored}
 use Rattle.protocol.proofs.Promises.Parameters.{parameters, asked-by}
 use Rattle.protocol.proofs.Promises.Upload.{upload}
 use Rattle.protocol.proofs.Promises.FirstDownload.{A, downPacket, sizePacket, full, withCode, Talks, unasked, asked}
@@ -98,22 +96,24 @@ module _ (r : Reader) (s : List ℕ) (lent : Lent) (l : T (legal core r)) (u : T
         go (suc (suc (suc zero))) h z q = d z
         go (suc (suc (suc (suc k)))) h z q = omega arith
 
--- ---- "the longest unfinished packet grows to 266", a data packet's; that of a command or an acknowledge keeps 264
+-- ---- and at code 3 one of length 258 goes in, with its sum right: first with identifier 2, and then with 8
 
-pub longest-waits : (c : List ℕ) → length c ≡ 257
-    → (length (0xef ∷ 0x01 ∷ 0xff ∷ 0xff ∷ 0xff ∷ 0xff ∷ 0x02 ∷ 0x01 ∷ 0x02 ∷ c) ≡ 266) × (usedOf (findOf (0xef ∷ 0x01 ∷ 0xff ∷ 0xff ∷ 0xff ∷ 0xff ∷ 0x02 ∷ 0x01 ∷ 0x02 ∷ c)) ≡ 0)
-longest-waits c e =
-    let s : List ℕ = 0xef ∷ 0x01 ∷ 0xff ∷ 0xff ∷ 0xff ∷ 0xff ∷ 0x02 ∷ 0x01 ∷ 0x02 ∷ c in
-    let long : length s ≡ 266 = omega arith in
-    let first : First s 0 = record { here = record { inside = omega arith; first = refl; second = refl }; before = λ q h m. omega arith } in
-    (long, found (unfinished first (omega arith) (data-accepted 2 258 (inl refl) (lit≤ tt) (lit≤ tt)) (omega arith)) .1)
+module _ (r : Reader) (s : List ℕ) (lent : Lent) (l : T (legal core r)) (u : T (fitLent lent)) (code : r .plain .size ≡ 3) (p : ℕ) (w : WholeAt s p 258)
+    (ours : take 4 (drop (p + 2) s) ≡ r .plain .address) (right : rightAt s p 258 ≡ true) (b : Bool) where
+  size : sizeOf (r .plain .size) ≡ 256
+  unfolding sizeOf
+  size = rw code refl
 
-pub other-waits : (s : List ℕ) → UnfinishedPacket s → 9 ≤ length s → Other (getD s 6 0) → length s ≤ 264
-other-waits s w h i = go (w .short)
-  where
-    go : (length s < 9) ⊎ (Accepted (getD s 6 0) (lengthField s 0) × (length s < 9 + lengthField s 0)) → length s ≤ 264
-    go (inl k) = omega arith
-    go (inr (a, k)) = omega (arith, a .kept i)
+  long : length (contentOf s p 258) ≡ sizeOf (r .plain .size)
+  long = omega (arith, content-long s p 258 w, size)
+
+  pub first-goes-in : getD s (p + 6) 0 ≡ 2 → r .plain .transfer ≡ opened b 0 → Leaves [] (Taken b 0 false (contentOf s p 258) r) s lent (callOf core r s lent)
+  first-goes-in i e =
+      piece-goes-in core r s lent l u false (rightAt s p 258) (contentOf s p 258) (heard (more w ours i)) b 0 e record { sum = right; long = long; total = omega (arith, size) }
+
+  pub second-goes-in : getD s (p + 6) 0 ≡ 8 → r .plain .transfer ≡ opened b 256 → Leaves [] (Taken b 256 true (contentOf s p 258) r) s lent (callOf core r s lent)
+  second-goes-in i e =
+      piece-goes-in core r s lent l u true (rightAt s p 258) (contentOf s p 258) (heard (last w ours i)) b 256 e record { sum = right; long = long; total = omega (arith, size) }
 
 -- ---- "Size code 3 means 256": a template in two data packets of 256 bytes
 
@@ -130,18 +130,16 @@ module _ (lent : ℕ → Lent) (f : (n : ℕ) → T (fitLent (lent n))) (t i n c
 
   -- and one that does not: no longer ignored, but told 0Eh
   pub unasked-256 : Talks lent f r (downPacket b ∷ packets A 2 256 s) (acknowledge A 0x00 [] ∷ acknowledge A 0x0e [] ∷ [] ∷ []) (WithBuffer b blank closed r)
-  unfolding accepts limit isIdentifier longest
-  unasked-256 = unasked lent f t i n c d l b which s long 256 (tt, tt) (λ e. omega arith) 1 refl
+  unasked-256 = unasked lent f t i n c d l b which s long 256 (lit≤ tt, lit≤ tt) (λ e. omega arith) 1 refl
 
   -- both behind a receiver, however they are cut
   pub asked-256-cut : HoweverCut r (sizePacket 3 ∷ downPacket b ∷ packets A 2 256 s) (acknowledge A 0x00 [] ∷ acknowledge A 0x00 [] ∷ [])
       (WithBuffer b (full s) closed (withCode 3 (r .guarded)))
-  unfolding sizeOf accepts limit isIdentifier longest
-  asked-256-cut = asked-cut t i n c d l b which s long 3 2 256 (lit≤ tt) refl refl (tt, tt) refl
+  unfolding sizeOf
+  asked-256-cut = asked-cut t i n c d l b which s long 3 2 256 (lit≤ tt) refl refl
 
   pub unasked-256-cut : HoweverCut r (downPacket b ∷ packets A 2 256 s) (acknowledge A 0x00 [] ∷ acknowledge A 0x0e [] ∷ []) (WithBuffer b blank closed r)
-  unfolding accepts limit isIdentifier longest
-  unasked-256-cut = unasked-cut t i n c d l b which s long 256 (tt, tt) (λ e. omega arith) 1 refl
+  unasked-256-cut = unasked-cut t i n c d l b which s long 256 (lit≤ tt, lit≤ tt) (λ e. omega arith) 1 refl
 
 -- and out again: UpChar to the reader that the download left is answered 00h and the template in two data packets of 256 bytes, 546 bytes in all
 module _ (g : Guarded) (b : ℕ) (which : Numbered b) (s : List ℕ) (long : length s ≡ 512) (x : Reader) (l : Legal core core-holds x)

@@ -1,4 +1,4 @@
--- What the words of packets mean: document 01's "Finding a packet" and the last lines of "Commands", in its own numbers.
+-- What the words of packets mean: document 01's "Finding a packet" and the last lines of "Commands", in its own numbers and request [3]'s.
 use mathlib.Core.Bool.{Bool, true, false, _||_}
 use mathlib.Core.Path.{_≡_, refl, ap}
 use mathlib.Core.Logic.{_⊎_, inl, inr, _↔_}

@@ -1,6 +1,6 @@
 -- Request [1], one call: "Add a receiver that holds up to 265 bytes between calls, takes a piece, answers at most one packet, and says how many
 -- bytes of the piece it took .. A line switch empties the held bytes. A call takes what fits of the piece, does document 01's call on all
--- held bytes, and drops those used. Refusals: held count above 265 is 3; a refused call takes and drops nothing."
+-- held bytes, and drops those used. Refusals: held count above 265 is 3; a refused call takes and drops nothing." By request [3] 267 in the place of 265.
 use mathlib.Core.Path.{_≡_, refl, sym, ap, _∙_, subst}
 use mathlib.Core.Logic.{_≢_, _↔_}
 use mathlib.Core.List.{List, [], _∷_, _++_}
@@ -34,7 +34,7 @@ abbrev pub Hands : Line → Lent → Handed → ℕ → Type 0
 Hands x lent o zero = o .told .refusal ≡ 0
 Hands x lent o (suc n) = Unused (lent .room) (bare o) (suc n) × (o .after ≡ x)
 
--- document 01's, and "held count above 265 is 3"
+-- document 01's, and "held count above 265 is 3", by request [3] above 267
 abbrev pub receive-lines : Line → Lent → List Unless
 receive-lines x lent =
     unless (Lengths (x .reader .guarded)) 1 ∷ unless (700 ≤ length (lent .room)) 2 ∷ unless (Settled (x .reader)) 3 ∷ unless (x .receiver .count ≤ 267) 3 ∷ []

@@ -1,4 +1,4 @@
--- What the words of the other promises mean: each in document 01's own numbers, and in its order.
+-- What the words of the other promises mean: each in the numbers of document 01 and of its change requests, in document 01's order.
 use mathlib.Core.Bool.{Bool, true, false, _||_, not}
 use mathlib.Core.Path.{_≡_, refl, ap}
 use mathlib.Core.Logic.{_⊎_, inl, inr, _≢_, _↔_}
