@@ -47,9 +47,10 @@ module _ (x : Line) (piece : List ℕ) (lent : Lent) where
       (omega (arith, line-fits core core-holds x l record { typed = h; legal = t } piece lent, leb→le replyRoom (length (lent .room)) u)))
 
   -- what is taken and what is used bring the end nearer
-  brings-nearer : length (x .receiver .held) ≡ 267 → receiveOf core x piece lent .told .refusal ≡ 0
+  brings-nearer : length (x .receiver .held) ≡ holds → receiveOf core x piece lent .told .refusal ≡ 0
       → isLast (receiveOf core x piece lent .told .used) (x .receiver .count) (receiveOf core x piece lent .after .receiver .count) ≡ false
       → 2 * (length piece - receiveOf core x piece lent .told .used) + receiveOf core x piece lent .after .receiver .count < 2 * length piece + x .receiver .count
+  unfolding holds longest
   brings-nearer z e n = go (decLe 1 (length (fitting (x .receiver) piece) + usedOf (findOf run)))
     where
       run : List ℕ
@@ -64,7 +65,7 @@ module _ (x : Line) (piece : List ℕ) (lent : Lent) where
           absurd (true≢false (sym (rw (eq-eqb _ _ u, eq-eqb _ _ c) refl) ∙ n))
 
 pub offer-within : (h : Receiver) (s : Settings) (t i n b d piece room : List ℕ) (q : Received) (t′ i′ n′ b′ d′ room′ : List ℕ) → length (s .password) ≡ fourBytes → length (s .address) ≡ fourBytes
-    → length (h .held) ≡ 267 → ((k : ℕ) → Fits w8 (getD i k 0))
+    → length (h .held) ≡ holds → ((k : ℕ) → Fits w8 (getD i k 0))
     → receivedOf q t′ i′ n′ b′ d′ room′ ≡ receiveOf core (line (readerOf s t i n b d) h) piece (lentOf room)
     → Offered (line (readerOf s t i n b d) h) piece (lentOf room) (receivedOf q t′ i′ n′ b′ d′ room′)
 unfolding Bytes holds longest

@@ -1,5 +1,5 @@
-// The numbers of document 01 and of its change requests that the code needs, by name. specs/Numbers.antt names them for the definitions, and the
-// proofs join the two: a number changed here alone is refused.
+// The numbers of document 01 and of its change requests that the code needs, by name. specs/Numbers.antt names them for the
+// definitions, and the proofs join the two: a number changed here alone is refused.
 
 // ---- lent memory
 

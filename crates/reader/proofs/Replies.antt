@@ -123,7 +123,12 @@ pub record CodeSize (z : ℕ) : Type 0 where
 pub code-size : (code : ℕ) → code ≤ highestSize → CodeSize (sizeOf code)
 code-size code h =
     let z : Size (sizeOf code) = sizes code h in
-    record { carries = T→true (accepts dataPacket (sizeOf code + 2)) (z .carries); ends = T→true (accepts lastPacket (sizeOf code + 2)) (z .ends); all = ap (λ (k : ℕ). k * sizeOf code) (z .count) ∙ z .whole; room = rw (z .count) (omega (arith, z .room)) }
+    record {
+      carries = T→true (accepts dataPacket (sizeOf code + 2)) (z .carries);
+      ends = T→true (accepts lastPacket (sizeOf code + 2)) (z .ends);
+      all = ap (λ (k : ℕ). k * sizeOf code) (z .count) ∙ z .whole;
+      room = rw (z .count) (omega (arith, z .room));
+    }
 
 pub sent-length : (a : List ℕ) (code : ℕ) (s : List ℕ) → length a ≡ 4 → code ≤ highestSize → length s ≡ pageBytes → length (dataPackets a (sizeOf code) s) ≤ uploadBytes
 sent-length a code s h l m = omega (arith, length-data a (sizeOf code) s (sizes code l) h m)

@@ -2,7 +2,7 @@
 use mathlib.Core.Path.{_≡_}
 use lib.ListN.{length}
 use borrow.Author.Needs.{needs}
-use Rattle.protocol.specs.Numbers.{fourBytes}
+use Rattle.protocol.specs.Numbers.{fourBytes, holds, longest}
 use Rattle.bench.proofs.Calls.{offer-within}
 use Rattle.bench.proofs.offer.offer.Statement.{statement}
 use Rattle.bench.proofs.offer.offer.Tie as tie
@@ -39,14 +39,14 @@ same-length-6 : tie.Need-same-length-6
 same-length-6 c = search needs
 
 returns : tie.Need-returns
-unfolding called indexed start
+unfolding called indexed start holds longest
 returns c =
     let o = called c .receive .ensures in
     let k = indexed (called c) .slice-known2 .given in
     let s = start (called c) in
     let p : length (s .args .settings .password) ≡ fourBytes = search (needs, s .good) in
     let a : length (s .args .settings .address) ≡ fourBytes = search (needs, s .good) in
-    let h : length (s .args .receiver .held) ≡ 267 = search (needs, s .good) in
+    let h : length (s .args .receiver .held) ≡ holds = search (needs, s .good) in
     search offer-within
 
 pub offer-spec : {M : Type 1} → statement M
