@@ -33,7 +33,7 @@
  *     At each call send r.length bytes of the reply room, and no more: behind them lie bytes of earlier replies, templates
  *     among them. The next call writes over them, so send ends only when they have left or are copied. A refused call ends
  *     the loop, too. If r.refusal is not 0, stop: the same call will be refused again.
- *   Silence. An unfinished packet stays held, and the rest of it is awaited: up to 266 bytes that come next are taken for it.
+ *   Silence. An unfinished packet stays held, and the rest of it is awaited: up to 266 bytes that come next are taken for it, commands among them.
  *     The core knows no time. After a pause of your own choosing, longer than a host ever makes inside a packet, go on with an
  *     empty receiver: memset(&line.receiver, 0, sizeof line.receiver). Nothing is called for that, and nothing else of the
  *     reader changes. Drop all bytes that are held, and not some: what is left of a packet could have a command in its data.
@@ -69,13 +69,13 @@
 /* The least reply room. No reply is longer. */
 #define BYSTRODOL_REPLY_BYTES 700u
 
-/* A packet beside its content. The most content of a data packet (identifiers 2 and 8), and of a command or an acknowledge (1 and
- * 7). An unfinished packet at most; a receiver has room for one byte more. */
-#define BYSTRODOL_FRAME_BYTES 11u
-#define BYSTRODOL_CONTENT_MOST_DATA 256u
-#define BYSTRODOL_CONTENT_MOST_OTHER 254u
-#define BYSTRODOL_UNFINISHED_MOST 266u
-#define BYSTRODOL_HELD_MOST 267u
+/* Packets. */
+#define BYSTRODOL_FRAME_BYTES 11u         /* a packet beside its content */
+#define BYSTRODOL_CONTENT_MOST_DATA 256u  /* the most content of a data packet, identifier 2 or 8 */
+#define BYSTRODOL_CONTENT_MOST_OTHER 254u /* the most content of a command or an acknowledge, identifier 1 or 7 */
+#define BYSTRODOL_UNFINISHED_MOST 266u    /* the longest packet but for its last byte */
+#define BYSTRODOL_HELD_MOST 267u          /* the longest packet: the cells of a receiver, and the run that a caller without one must
+                                             be able to hold */
 
 /* ---- why a call was refused, tested in this order; 0 is carried out. Refused, it takes, uses, replies and changes nothing. */
 
@@ -86,7 +86,8 @@
                                     receiver's count is above 267 */
 
 /* ---- a packet: EF 01, address (4), identifier, length (2), content, sum (2); numbers high byte first. The length counts content
- * and sum. The sum is identifier, both length bytes and every content byte added, modulo 65536. */
+ * and sum: 3 to 256, for identifiers 2 and 8 3 to 258. The sum is identifier, both length bytes and every content byte added,
+ * modulo 65536. With another identifier or length EF 01 starts no packet: it is passed over, and what follows is searched. */
 
 #define BYSTRODOL_PACKET_COMMAND 1u
 #define BYSTRODOL_PACKET_DATA 2u
@@ -266,8 +267,8 @@ uint8_t bystrodol_line_switch(struct bystrodol_settings *settings, uint8_t *buff
 
 /*
  * A call of the reader: finds the first packet in a run of received bytes, carries it out, and writes the reply. It deals
- * with at most one packet. Used 0, where it is not refused, means that the run is empty, a lone EFh, or an unfinished packet.
- * The caller sends the reply, drops used bytes from the front, and while used is not 0 calls again with what is left.
+ * with at most one packet. Used 0, where it is not refused, means that the run is empty, a lone EFh, or an unfinished packet, of
+ * at most 266 bytes: a caller that can hold 267 never stands still. The caller sends the reply, drops used bytes from the front, and while used is not 0 calls again with what is left.
  *
  *   settings                      the reader's; changed where they lie
  *   run, run_length               the bytes received and not yet dropped

@@ -41,7 +41,7 @@ def parts_of(run):
 def why_unfit(part):
     if part[6] not in IDENTIFIERS:
         return "its identifier is %d, and not 1, 2, 7 or 8" % part[6]
-    return "its length is %d, and not %d to %d" % (number(part[7:HEAD]), LEAST_LENGTH, MOST_LENGTH[part[6]])
+    return "its length is %d, and not %d to %d, which identifier %d has" % (number(part[7:HEAD]), LEAST_LENGTH, MOST_LENGTH[part[6]], part[6])
 
 
 def rest_of(part):

@@ -54,7 +54,7 @@ MEANINGS = {
     "status": lambda n: "password verified" if n & 4 else "no password verified",
     "capacity": lambda n: "pages",
     "security level": lambda n: "of 1 to 5",
-    "size code": lambda n: "%s bytes in a data packet" % SIZES.get(n, "no"),
+    "size code": lambda n: "%d bytes in a data packet" % SIZES[n] if n in SIZES else "no such code",
     "baud factor": lambda n: "%d baud" % (BAUD * n),
 }
 # How longer fields are written; others stand as digits.
