@@ -33,11 +33,11 @@
  *     At each call send r.length bytes of the reply room, and no more: behind them lie bytes of earlier replies, templates
  *     among them. The next call writes over them, so send ends only when they have left or are copied. A refused call ends
  *     the loop, too. If r.refusal is not 0, stop: the same call will be refused again.
- *   Silence. An unfinished packet stays held, and the rest of it is awaited: up to 266 bytes that come next are taken for it, commands among them.
- *     The core knows no time. After a pause of your own choosing, longer than a host ever makes inside a packet, go on with an
- *     empty receiver: memset(&line.receiver, 0, sizeof line.receiver). Nothing is called for that, and nothing else of the
- *     reader changes. Drop all bytes that are held, and not some: what is left of a packet could have a command in its data.
- *     A transfer stays open; the host's next command ends it.
+ *   Silence. An unfinished packet stays held, and the rest of it is awaited: up to 266 bytes that come next are taken for it,
+ *     commands among them. The core knows no time. After a pause of your own choosing, longer than a host ever makes inside a
+ *     packet, go on with an empty receiver: memset(&line.receiver, 0, sizeof line.receiver). Nothing is called for that, and
+ *     nothing else of the reader changes. Drop all bytes that are held, and not some: what is left of a packet could have a
+ *     command in its data. A transfer stays open; the host's next command ends it.
  *   Another host. Call bystrodol_receiver_switch whenever the line goes to another host: without it that one finds the reader
  *     as the last one left it, open and with its buffers. Drop also what is left of a piece and what the port has not handed
  *     over yet, which are the last host's bytes, and let no reply to it go on to the next. Do not call bystrodol_line_switch,
@@ -268,7 +268,8 @@ uint8_t bystrodol_line_switch(struct bystrodol_settings *settings, uint8_t *buff
 /*
  * A call of the reader: finds the first packet in a run of received bytes, carries it out, and writes the reply. It deals
  * with at most one packet. Used 0, where it is not refused, means that the run is empty, a lone EFh, or an unfinished packet, of
- * at most 266 bytes: a caller that can hold 267 never stands still. The caller sends the reply, drops used bytes from the front, and while used is not 0 calls again with what is left.
+ * at most 266 bytes: a caller that can hold 267 never stands still. The caller sends the reply, drops used bytes from the front,
+ * and while used is not 0 calls again with what is left.
  *
  *   settings                      the reader's; changed where they lie
  *   run, run_length               the bytes received and not yet dropped
