@@ -6,19 +6,17 @@ archive=target/staticlib/libboard.a
 archive_log=target/archive.log
 archive_sums=target/archive.sums
 
-is_archived() { [ -f "$archive" ] && [ "$(sum_of board; sha256sum "$archive")" = "$(cat "$archive_sums" 2>/dev/null)" ]; }
-
 prove_archive() {
     sum=$(sum_of board)
     mkdir -p target && rm -f "$archive_sums"
     rt staticlib board >"$archive_log" 2>&1 || { cat "$archive_log" >&2; fail "rt staticlib board failed"; }
-    { echo "$sum" && sha256sum "$archive"; } >"$archive_sums"
+    note_made "$sum" "$archive" "$archive_sums" || fail "$archive_sums cannot be written"
 }
 
 # One script builds at a time, by the lock of tools/build.sh.
 build_archive() {
     exec 9<.
     flock 9
-    is_archived || prove_archive
+    is_made board "$archive" "$archive_sums" || prove_archive
     exec 9<&-
 }

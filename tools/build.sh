@@ -11,7 +11,7 @@ stamp=target/stamp/bench
 . tools/sources.sh
 
 # Whether the program is the one that was built of these very sources.
-is_built() { [ -f "$program" ] && [ "$(sum_of bench; sha256sum "$program")" = "$(cat "$sums" 2>/dev/null)" ]; }
+is_built() { is_made bench "$program" "$sums"; }
 
 # Reads what rt says of so many crates. All of it goes to the log, and a line for each crate proved to standard error.
 # Succeeds if rt ends well.
@@ -44,7 +44,7 @@ prove() {
     echo "bystrodol: rt check bench proves and builds the reader, $crates crates; the first time this takes minutes" >&2
     rt check bench </dev/null 2>&1 | tell "$crates" ||
         fail "rt check bench failed, so there is no reader to run; $log has all that it said"
-    { echo "$sum" && sha256sum "$program"; } >"$sums" || fail "$program is not there, or $sums cannot be written"
+    note_made "$sum" "$program" "$sums" || fail "$program is not there, or $sums cannot be written"
 }
 
 # One start proves at a time, and others wait for it: they lock the repository's folder, which no build removes. The lock

@@ -146,12 +146,17 @@ fn of_receiver() -> Vec<Example> {
     ]
 }
 
+/// A fresh reader, but for a stored size code.
+fn stored_reader(size_code: u8) -> Reader {
+    let mut reader = fresh_reader(10);
+    reader.settings.size_code = size_code;
+    reader
+}
+
 /// What readers with fresh settings and with a stored size code take. That ours start so `of_frames` shows.
 fn of_sizes() -> Vec<Example> {
     let fresh = fresh_reader(10);
-    let mut stored = fresh.clone();
-    stored.settings.size_code = 1;
-
+    let stored = stored_reader(1);
     let data_64 = data("02 00 42", "00", 64, "00 44");
     let data_128 = data("02 00 82", "00", 128, "00 84");
     let code_1 = "EF 01 A 07 00 13 00 0000 0000 000A 0003 A 0001 0006 04 2A";
@@ -191,9 +196,7 @@ fn of_lengths() -> Vec<Example> {
 /// A reader with size code 3.
 fn of_size_code_3() -> Vec<Example> {
     let fresh = fresh_reader(10);
-    let mut stored = fresh.clone();
-    stored.settings.size_code = 3;
-
+    let stored = stored_reader(3);
     let first = data("02 01 02", "11", 256, "11 05");
     let last = data("08 01 02", "22", 256, "22 0B");
     let half = data("02 00 82", "11", 128, "09 04");

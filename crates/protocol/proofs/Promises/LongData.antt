@@ -10,10 +10,9 @@ use lib.Dec.{T, lit≤}
 use lib.ListN.{length, getD, take, drop, length-drop, length-append}
 use lib.Seq.{take-all, length-take-le}
 use Rattle.protocol.specs.Numbers.{longest}
-use Rattle.protocol.specs.Bytes.{joined}
+use Rattle.protocol.specs.Bytes.{four, same, joined}
 use Rattle.protocol.specs.Packet.{packet, accepts, limit, isIdentifier, rightAt}
 use Rattle.protocol.specs.Reader.{closed, opened, Plain, Guarded, Reader, sizeOf, keyed, locked}
-use Rattle.protocol.specs.Bytes.{four, same}
 use Rattle.protocol.specs.Commands.{upChar, barred, command}
 use Rattle.protocol.specs.Data.{acknowledge, packets, dataPackets}
 use Rattle.protocol.specs.Step.{order, piece, hear, rested}
@@ -73,28 +72,24 @@ module _ (r : Reader) (s : List ℕ) (lent : Lent) (l : T (legal core r)) (u : T
         let misfit : GoesIn (r .plain) got (ends i) (rightAt s p n) (contentOf s p n) → ⊥ = λ g. d (sym (content-long s p n w) ∙ ap (λ (k : ℕ). k + 2) (g .long)) in
         piece-fails core r s lent l u (ends i) (rightAt s p n) (contentOf s p n) (heard-piece i) b got e misfit
 
-    -- in one 0Eh, and it ends: of length 257 at every size code, and of 258 at every code but 3
-    pub fails-257 : n ≡ 257 → Leaves (acknowledge (r .plain .address) 0x0e []) (Stopped b r) s lent (callOf core r s lent)
+    -- no size is that long, but that of code 3 at length 258
+    not-in-force : 256 < n → (r .plain .size ≡ 3 → n ≢ 258) → n ≢ sizeOf (r .plain .size) + 2
     unfolding sizeOf
-    fails-257 long = other-size (go (r .plain .size) (legal-means r l .settings .size))
-      where
-        go : (k : ℕ) → k ≤ 3 → n ≢ sizeOf k + 2
-        go zero h q = omega arith
-        go (suc zero) h q = omega arith
-        go (suc (suc zero)) h q = omega arith
-        go (suc (suc (suc zero))) h q = omega arith
-        go (suc (suc (suc (suc k)))) h q = omega arith
-
-    pub fails-258 : n ≡ 258 → r .plain .size ≢ 3 → Leaves (acknowledge (r .plain .address) 0x0e []) (Stopped b r) s lent (callOf core r s lent)
-    unfolding sizeOf
-    fails-258 long d = other-size (go (r .plain .size) (legal-means r l .settings .size) refl)
+    not-in-force long d = go (r .plain .size) (legal-means r l .settings .size) refl
       where
         go : (k : ℕ) → k ≤ 3 → r .plain .size ≡ k → n ≢ sizeOf k + 2
         go zero h z q = omega arith
         go (suc zero) h z q = omega arith
         go (suc (suc zero)) h z q = omega arith
-        go (suc (suc (suc zero))) h z q = d z
+        go (suc (suc (suc zero))) h z q = d z q
         go (suc (suc (suc (suc k)))) h z q = omega arith
+
+    -- in one 0Eh, and it ends: of length 257 at every size code, and of 258 at every code but 3
+    pub fails-257 : n ≡ 257 → Leaves (acknowledge (r .plain .address) 0x0e []) (Stopped b r) s lent (callOf core r s lent)
+    fails-257 long = other-size (not-in-force (omega arith) (λ z q. omega arith))
+
+    pub fails-258 : n ≡ 258 → r .plain .size ≢ 3 → Leaves (acknowledge (r .plain .address) 0x0e []) (Stopped b r) s lent (callOf core r s lent)
+    fails-258 long d = other-size (not-in-force (omega arith) (λ z q. d z))
 
 -- ---- and at code 3 one of length 258 goes in, with its sum right: first with identifier 2, and then with 8
 
