@@ -46,12 +46,14 @@ refuses-268 x piece lent m u k high = receive-refusals x piece lent .0 m .0 u .0
 
 -- ---- "the longest unfinished packet grows to 266", a data packet's; that of a command or an acknowledge keeps 264
 
-pub longest-waits : (c : List ℕ) → length c ≡ 257
-    → (length (0xef ∷ 0x01 ∷ 0xff ∷ 0xff ∷ 0xff ∷ 0xff ∷ 0x02 ∷ 0x01 ∷ 0x02 ∷ c) ≡ 266) × (usedOf (findOf (0xef ∷ 0x01 ∷ 0xff ∷ 0xff ∷ 0xff ∷ 0xff ∷ 0x02 ∷ 0x01 ∷ 0x02 ∷ c)) ≡ 0)
+-- the front of a data packet of length 258
+abbrev pub front : List ℕ → List ℕ
+front c = 0xef ∷ 0x01 ∷ 0xff ∷ 0xff ∷ 0xff ∷ 0xff ∷ 0x02 ∷ 0x01 ∷ 0x02 ∷ c
+
+pub longest-waits : (c : List ℕ) → length c ≡ 257 → (length (front c) ≡ 266) × (usedOf (findOf (front c)) ≡ 0)
 longest-waits c e =
-    let s : List ℕ = 0xef ∷ 0x01 ∷ 0xff ∷ 0xff ∷ 0xff ∷ 0xff ∷ 0x02 ∷ 0x01 ∷ 0x02 ∷ c in
-    let long : length s ≡ 266 = omega arith in
-    let first : First s 0 = record { here = record { inside = omega arith; first = refl; second = refl }; before = λ q h m. omega arith } in
+    let long : length (front c) ≡ 266 = omega arith in
+    let first : First (front c) 0 = record { here = record { inside = omega arith; first = refl; second = refl }; before = λ q h m. omega arith } in
     (long, found (unfinished first (omega arith) (data-accepted 2 258 (inl refl) (lit≤ tt) (lit≤ tt)) (omega arith)) .1)
 
 pub other-waits : (s : List ℕ) → UnfinishedPacket s → 9 ≤ length s → Other (getD s 6 0) → length s ≤ 264
