@@ -6,16 +6,18 @@ use Prim.Native.Nat.{ℕ, zero, suc, _+_, _-_, _*_, _/_, _%_, _^_, _≤_, _<_}
 use native.Mathlib.Nat.{not-suc-le-zero, add-zero, add-suc, div-one}
 use native.Mathlib.Omega.{arith}
 use lib.Dec.{T, eqb, lit<}
-use mir.Syntax.{w8}
+use mir.Syntax.{w8, w32}
 use mir.Val.{Fits}
 use lib.Bits.{bitOr, bitAnd, or-add-and, and-le-l, and-le-r}
-use lib.ListN.{length, getD, set, List·getD-eq-default}
-use lib.Seq.{set-out}
+use lib.Count.{ones, ones-le}
+use lib.ListN.{length, getD, set, drop, List·getD-eq-default, drop-of-length-le}
+use lib.Seq.{set-out, drop-cons}
 use borrow.Author.Tests.{eq-eqb, ne-eqb, eqb-true, eqb-false}
 use Rattle.protocol.specs.Bytes.{Bytes, byteAt}
 use Rattle.protocol.specs.Tests.{every, countBelow}
-use Rattle.protocol.specs.Index.{bit, stored, setBit, clearBit, clearBits, bits, clearFrom}
+use Rattle.protocol.specs.Index.{bit, stored, setBit, clearBit, clearBits, bits, setBits, clearFrom}
 use Rattle.protocol.proofs.Laws.Bits.{everyBit, every-bit, shift-byte}
+use Rattle.protocol.proofs.Laws.Count.{setIn, ones-set, set-first}
 use Rattle.protocol.proofs.Laws.Index.{bit-zero, set-or, clear-and}
 
 -- ---- one bit
@@ -67,16 +69,30 @@ module _ (z x : List ℕ) (p n : ℕ) (e : z ≡ clearBits x p n) where
   unfolding clearBits
   clear-none h = let none : n ≡ 0 = omega arith in sym (rw none at e)
 
--- ---- the set bits, one by one
+-- ---- the set bits, byte by byte
 
-pub count-more : (x : List ℕ) (n p v : ℕ) → n ≡ countBelow (stored x) p → v ≡ bit (byteAt x (p / 8)) (p % 8) → v ≤ 1 → n + v ≡ countBelow (stored x) (p + 1)
-unfolding countBelow stored
-count-more x n p v f e l = let s : p + 1 ≡ suc p = omega arith in sym (rw (s, ← e, f) (go v l))
-  where
-    go : (w : ℕ) → w ≤ 1 → cond (eqb w 1) 1 0 + countBelow (stored x) p ≡ countBelow (stored x) p + w
-    go zero m = omega arith
-    go (suc zero) m = omega arith
-    go (suc (suc w)) m = absurd (omega arith)
+-- n counts those of the bytes before place i
+module _ (x : List ℕ) (n i : ℕ) (e : n + setBits (drop i x) ≡ setBits x) where
+  pub ones-more : ((k : ℕ) → Fits w8 (getD x k 0)) → i < length x → n + ones (byteAt x i) + setBits (drop (i + 1) x) ≡ setBits x
+  ones-more h l =
+      let s : i + 1 ≡ suc i = omega arith in
+      let o : ones (byteAt x i) ≡ setIn 8 (byteAt x i) = ones-set 8 (byteAt x i) (h i .fits) in
+      let f : setBits (drop i x) ≡ setIn 8 (byteAt x i) + setBits (drop (suc i) x) = ap setBits (drop-cons x i 0 l) ∙ set-first (byteAt x i) (drop (suc i) x) in
+      rw s (omega (arith, o, f, e))
+
+  pub ones-all : length x ≤ i → n ≡ setBits x
+  unfolding setBits countBelow
+  ones-all m =
+      let f : setBits (drop i x) ≡ 0 = ap setBits (drop-of-length-le x m) in
+      omega (arith, e, f)
+
+-- a byte has at most 8
+module _ (x : List ℕ) (n i : ℕ) (h : (k : ℕ) → Fits w8 (getD x k 0)) (m : n ≤ 8 * i) where
+  pub ones-most : n + ones (byteAt x i) ≤ 8 * (i + 1)
+  ones-most = omega (arith, ones-le 8 (byteAt x i) (h i .fits))
+
+  pub ones-fit : i < length x → length x < 256 → Fits w32 (n + ones (byteAt x i))
+  ones-fit l k = record { fits = omega (arith, ones-most) }
 
 -- ---- the bits from c on, byte by byte
 

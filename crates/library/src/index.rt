@@ -79,17 +79,16 @@ pub fn is_clear_from(index: &[u8], c: usize) -> bool
     true
 }
 
-// The set bits of a short index, one by one.
-fn count_bits(index: &[u8]) -> usize
+// The set bits of a short index, byte by byte: each byte's by the processor's own ones count.
+fn count_bits(index: &[u8]) -> u32
     requires { ⌜ length (now index) < 256 ⌝ }
     ensures { λ r. ⌜ (r ≡ setBits (now (index .entry))) × (r ≤ 8 * length (now (index .entry))) ⌝ }
 {
-    let end = 8 * index.len();
     let mut n = 0;
-    let mut p = 0;
-    while p < end {
-        n += bit_at(index, p);
-        p += 1;
+    let mut i = 0;
+    while i < index.len() {
+        n += u8::count_ones(index[i]);
+        i += 1;
     }
     n
 }

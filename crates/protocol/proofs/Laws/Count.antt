@@ -2,11 +2,15 @@
 use mathlib.Core.Bool.{Bool, false, cond}
 use mathlib.Core.Path.{_≡_, refl, sym, ap, ap₂, _∙_}
 use mathlib.Core.List.{List, [], _∷_, foldr}
-use Prim.Native.Nat.{ℕ, zero, suc, _+_, _-_, _*_, _/_, _%_, _≤_, _<_}
-use native.Mathlib.Nat.{add-zero, add-suc}
+use Prim.Native.Nat.{ℕ, zero, suc, _+_, _-_, _*_, _/_, _%_, _^_, _≤_, _<_}
+use native.Mathlib.Nat.{add-zero, add-suc, div-one}
 use native.Mathlib.Omega.{arith}
 use lib.Dec.{T, eqb}
+use lib.Arith.{lt-one}
+use lib.Pow.{shr-lt, shr-shr}
+use lib.Count.{ones, ones-step}
 use lib.ListN.{length}
+use Rattle.protocol.specs.Bytes.{Bytes}
 use Rattle.protocol.specs.Tests.{countBelow}
 use Rattle.protocol.specs.Index.{bit, stored, bits, setBits, clearFrom}
 use Rattle.protocol.proofs.Laws.Index.{clear-from}
@@ -36,11 +40,11 @@ below-capacity x c h t =
     in
     ap (countBelow (stored x)) (sym e) ∙ count-add (stored x) c (bits x - c) ∙ omega arith
 
--- ---- the set bits, byte by byte
+-- ---- a number's ones
 
--- the bits of weight 1, 2, 4, ... 128 of a byte, added
-abbrev pub ones : ℕ → ℕ
-ones b = b % 2 + b / 2 % 2 + b / 4 % 2 + b / 8 % 2 + b / 16 % 2 + b / 32 % 2 + b / 64 % 2 + b / 128 % 2
+-- how many of a number's d lowest bits are set
+abbrev pub setIn : ℕ → ℕ → ℕ
+setIn d b = countBelow (λ k. eqb (bit b k) 1) d
 
 as-number : (n : ℕ) → cond (eqb (n % 2) 1) 1 0 ≡ n % 2
 as-number n = go (n % 2) (omega arith)
@@ -50,9 +54,26 @@ as-number n = go (n % 2) (omega arith)
     go (suc zero) h = refl
     go (suc (suc k)) h = absurd (omega arith)
 
-in-byte : (b : ℕ) (x : List ℕ) → countBelow (stored (b ∷ x)) 8 ≡ ones b
-unfolding countBelow stored bit
-in-byte b x = simp as-number (omega arith)
+-- the lowest bit, and those above it
+set-in : (d b : ℕ) → setIn (suc d) b ≡ b % 2 + setIn d (b / 2)
+unfolding countBelow bit
+set-in d b =
+    let e : suc d ≡ 1 + d = omega arith in
+    ap (countBelow (λ k. eqb (bit b k) 1)) e
+    ∙ count-add (λ k. eqb (bit b k) 1) 1 d
+    ∙ ap₂ (λ (m n : ℕ). m + n)
+    (add-zero _ ∙ as-number (b / 1) ∙ ap (λ (n : ℕ). n % 2) (div-one b))
+    (count-ext (λ k. eqb (bit b (1 + k)) 1) (λ k. eqb (bit (b / 2) k) 1) d (λ k l. ap (λ (n : ℕ). eqb (n % 2) 1) (sym (shr-shr b 1 k))))
+
+-- what the processor counts in a number of d bits
+pub ones-set : (d b : ℕ) → b < 2 ^ d → ones b ≡ setIn d b
+unfolding ones countBelow
+ones-set zero b h = ap ones (lt-one h)
+ones-set (suc d) b h =
+    let e : suc d ≡ d + 1 = omega arith in
+    ones-step b ∙ ap (λ (n : ℕ). b % 2 + n) (ones-set d (b / 2) (shr-lt d 1 (rw e at h))) ∙ sym (set-in d b)
+
+-- ---- the set bits of an index, byte by byte
 
 behind-byte : (b : ℕ) (x : List ℕ) (q : ℕ) → stored (b ∷ x) (8 + q) ≡ stored x q
 unfolding stored
@@ -61,11 +82,26 @@ behind-byte b x q =
     let m : (8 + q) % 8 ≡ q % 8 = omega arith in
     rw (d, m) refl
 
-pub set-ones : (x : List ℕ) → setBits x ≡ foldr (λ b n. ones b + n) 0 x
-unfolding setBits countBelow
-set-ones [] = refl
-set-ones (b ∷ x) =
+pub set-first : (b : ℕ) (x : List ℕ) → setBits (b ∷ x) ≡ setIn 8 b + setBits x
+unfolding setBits stored countBelow
+set-first b x =
     let e : 8 * suc (length x) ≡ 8 + bits x = omega arith in
     ap (countBelow (stored (b ∷ x))) e
     ∙ count-add (stored (b ∷ x)) 8 (bits x)
-    ∙ ap₂ (λ (m n : ℕ). m + n) (in-byte b x) (count-ext (λ q. stored (b ∷ x) (8 + q)) (stored x) (bits x) (λ q l. behind-byte b x q) ∙ set-ones x)
+    ∙ ap (λ (n : ℕ). setIn 8 b + n) (count-ext (λ q. stored (b ∷ x) (8 + q)) (stored x) (bits x) (λ q l. behind-byte b x q))
+
+-- the bits of weight 1, 2, 4, ... 128 of every byte, added
+eight : (b : ℕ) → setIn 8 b ≡ b % 2 + b / 2 % 2 + b / 4 % 2 + b / 8 % 2 + b / 16 % 2 + b / 32 % 2 + b / 64 % 2 + b / 128 % 2
+unfolding countBelow bit
+eight b = simp as-number (omega arith)
+
+pub set-weights : (x : List ℕ) → setBits x ≡ foldr (λ b n. b % 2 + b / 2 % 2 + b / 4 % 2 + b / 8 % 2 + b / 16 % 2 + b / 32 % 2 + b / 64 % 2 + b / 128 % 2 + n) 0 x
+unfolding setBits countBelow
+set-weights [] = refl
+set-weights (b ∷ x) = set-first b x ∙ ap₂ (λ (m n : ℕ). m + n) (eight b) (set-weights x)
+
+-- the ones of every byte, added
+pub set-ones : (x : List ℕ) → Bytes x → setBits x ≡ foldr (λ b n. ones b + n) 0 x
+unfolding setBits countBelow Bytes
+set-ones [] h = refl
+set-ones (b ∷ x) h = set-first b x ∙ ap₂ (λ (m n : ℕ). m + n) (sym (ones-set 8 b (h 0))) (set-ones x (λ i. h (suc i)))

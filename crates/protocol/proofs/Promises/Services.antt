@@ -11,7 +11,7 @@ use Rattle.protocol.specs.Finder.{findOf}
 use Rattle.protocol.specs.Call.{core}
 use Rattle.protocol.specs.Services.{sumService, usedService, buildService, countService}
 use Rattle.protocol.proofs.Laws.Lists.{total-added}
-use Rattle.protocol.proofs.Laws.Count.{set-ones}
+use Rattle.protocol.proofs.Laws.Count.{set-weights}
 use Rattle.protocol.proofs.Promises.Words.{lists}
 use Rattle.protocol.proofs.Promises.Finding.{Finds, finds}
 
@@ -35,7 +35,7 @@ build-service a b c d i content room w x y z = rw (lists .four-bytes a b c d w x
 pub count-service : (x : List ℕ) → length x ≡ 32
     → countService x ≡ foldr (λ b n. b % 2 + b / 2 % 2 + b / 4 % 2 + b / 8 % 2 + b / 16 % 2 + b / 32 % 2 + b / 64 % 2 + b / 128 % 2 + n) 0 x
 unfolding countService core
-count-service x e = rw e (set-ones x)
+count-service x e = rw e (set-weights x)
 
 pub count-service-none : (x : List ℕ) → length x ≢ 32 → countService x ≡ 0xffff
 unfolding countService core

@@ -17,7 +17,7 @@ use Rattle.protocol.specs.Call.{core, Told, replyOf}
 use Rattle.protocol.specs.Records.{transferOf, freshOf}
 use Rattle.protocol.proofs.Laws.Logic.{T→true, T→false, and-l, and-r, and-i}
 use Rattle.protocol.proofs.Laws.Lists.{same-refl, same-eq, length-lay, at-before, at-inside, at-behind}
-use Rattle.protocol.proofs.Laws.Count.{set-ones}
+use Rattle.protocol.proofs.Laws.Count.{set-weights}
 
 -- ---- the numbers, by name
 
@@ -71,7 +71,7 @@ memory =
     record {
       pages = λ g. refl;
       bit-stored = λ x p. (eqb-true (getD x (p / 8) 0 / 2 ^ (p % 8) % 2) 1, eq-eqb (getD x (p / 8) 0 / 2 ^ (p % 8) % 2) 1);
-      bits-set = set-ones;
+      bits-set = set-weights;
       emptied-is = refl;
       filled-is = λ b. refl;
       core-is = refl;

@@ -1,50 +1,42 @@
--- The bits before page p are counted, and a bit is at most 1, so that the count fits.
-use mathlib.Core.Path.{_≡_, refl}
+-- The ones of the bytes before place i are counted, and the rest have those that are left; a byte has at most 8, so that the count fits.
+use mathlib.Core.Path.{_≡_, refl, sym, ap, _∙_}
 use mathlib.Core.List.{List}
-use Prim.Native.Nat.{ℕ, _-_, _*_, _≤_}
+use Prim.Native.Nat.{ℕ, _+_, _-_, _*_, _≤_}
 use native.Mathlib.Omega.{arith}
-use lib.ListN.{length}
+use native.Mathlib.Nat.{zero-add}
+use lib.ListN.{length, drop}
 use borrow.Author.Needs.{needs}
-use Rattle.protocol.specs.Tests.{countBelow}
-use Rattle.protocol.specs.Index.{stored, setBits}
-use Rattle.library.proofs.Bits.{count-more}
+use Rattle.protocol.specs.Index.{setBits}
+use Rattle.library.proofs.Bits.{ones-more, ones-all, ones-most, ones-fit}
 use Rattle.library.proofs.index.count_bits.Statement.{statement}
 use Rattle.library.proofs.index.count_bits.Tie as tie
 
-all-counted : (x : List ℕ) (n p : ℕ) → n ≡ countBelow (stored x) p → p ≤ 8 * length x → 8 * length x ≤ p → n ≡ setBits x
-unfolding setBits
-all-counted x n p e h l = let all : p ≡ 8 * length x = omega arith in rw all at e
-
 abbrev Inv-loop : tie.InvT-loop
-Inv-loop index end n₀ p₀ n p = (p ≤ end) × ((n ≤ p) × (n ≡ countBelow (stored index) p))
+Inv-loop index n₀ i₀ n i = (i ≤ length index) × ((n ≤ 8 * i) × (n + setBits (drop i index) ≡ setBits index))
 
 abbrev μ-loop : tie.MeasureT-loop
-μ-loop index end n₀ p₀ n p = end - p
-
-mul-end : tie.Need-mul-end Inv-loop μ-loop
-mul-end c = search needs
+μ-loop index n₀ i₀ n i = length index - i
 
 loop-holds : tie.Need-loop-holds Inv-loop μ-loop
-unfolding countBelow
-loop-holds c = (omega arith, (omega arith, refl))
+loop-holds c = (omega arith, (omega arith, search zero-add))
 
-bit-at-requires : tie.Need-bit-at-requires Inv-loop μ-loop
-bit-at-requires c κs = search needs
+shared-slice-read-n : tie.Need-shared-slice-read-n Inv-loop μ-loop
+shared-slice-read-n c = search needs
 
 add-n : tie.Need-add-n Inv-loop μ-loop
-add-n c = search needs
+add-n c = search ones-fit
 
-add-p : tie.Need-add-p Inv-loop μ-loop
-add-p c = search needs
+add-i : tie.Need-add-i Inv-loop μ-loop
+add-i c = search needs
 
 loop-less : tie.Need-loop-less Inv-loop μ-loop
 loop-less c = search needs
 
 loop-again : tie.Need-loop-again Inv-loop μ-loop
-loop-again c = (omega arith, (omega arith, search count-more))
+loop-again c = (omega arith, (search ones-most, search ones-more))
 
 returns : tie.Need-returns Inv-loop μ-loop
-returns c = (search all-counted, omega arith)
+returns c = (search ones-all, omega arith)
 
 pub count-bits-spec : {M : Type 1} → statement M
 count-bits-spec =
@@ -52,11 +44,10 @@ count-bits-spec =
     (tie.spec
     Inv-loop
     μ-loop
-    mul-end
     loop-holds
-    bit-at-requires
+    shared-slice-read-n
     add-n
-    add-p
+    add-i
     loop-less
     loop-again
     returns)
