@@ -28,7 +28,8 @@ fn content_of(code: u8, bytes: [u8; 32]) -> [u8; 33]
     content
 }
 
-// Writes an acknowledge at the front of the reply room. Most have a code alone.
+// Writes an acknowledge at the front of the reply room. Most have a code alone, and the number of pages has two bytes behind it: their lengths are
+// known when this is compiled.
 fn put_acknowledge(a: Answer, reply: &mut [u8]) -> usize
     requires { ⌜ (a .count ≤ listedBytes) × (replyRoom ≤ length (now reply)) ⌝ }
     ensures { λ r. ⌜ (r ≡ a .count + 1 + frameBytes) × (now (reply .exit) ≡ lay 0 (acknowledge (a .settings .address) (a .code) (take (a .count) (a .bytes))) (now (reply .entry))) ⌝ }
@@ -42,6 +43,13 @@ fn put_acknowledge(a: Answer, reply: &mut [u8]) -> usize
         return made.length;
     }
     let bytes = a.bytes;
+    if n == 2 {
+        let high = bytes[0];
+        let low = bytes[1];
+        let word = [a.code, high, low];
+        let made = builder::build(address, numbers::ACKNOWLEDGE_PACKET, &word, reply);
+        return made.length;
+    }
     let content = content_of(a.code, bytes);
     let made = builder::build(
         address,

@@ -1,9 +1,9 @@
--- The builder refuses neither a code alone nor a code with up to 32 bytes, and lays the packet at the front of the room.
-use mathlib.Core.Path.{_≡_, refl, sym, _∙_}
+-- The builder refuses no content of a code and up to 32 bytes, and lays the packet at the front of the room.
+use mathlib.Core.Path.{_≡_, refl, sym, ap, _∙_}
 use mathlib.Core.List.{List, [], _∷_}
 use Prim.Native.Nat.{ℕ, _+_, _≤_}
 use native.Mathlib.Omega.{arith}
-use lib.ListN.{length, take}
+use lib.ListN.{length, getD, take}
 use Rattle.protocol.specs.declared.Built.{Built}
 use Rattle.protocol.specs.Numbers.{fourBytes, frameBytes, replyRoom, acknowledgePacket}
 use Rattle.protocol.specs.Bytes.{lay}
@@ -19,42 +19,44 @@ use borrow.Author.Needs.{needs}
 use Rattle.reader.proofs.reply.put_acknowledge.Statement.{statement}
 use Rattle.reader.proofs.reply.put_acknowledge.Tie as tie
 
-module _ (a : Answer) (y y′ : List ℕ) (m : Built) (four : length (a .settings .address) ≡ fourBytes) (room : replyRoom ≤ length y) where
-  module _ (z : a .count ≡ 0) (e : madeOf m y′ ≡ buildOf (a .settings .address) acknowledgePacket (a .code ∷ []) y) where
-    alone : (m .length ≡ length (a .code ∷ []) + frameBytes) × (y′ ≡ lay 0 (packet (a .settings .address) acknowledgePacket (a .code ∷ [])) y)
-    alone = front-packet (a .settings .address) acknowledgePacket (a .code ∷ []) y y′ m four (accepted (a .code ∷ []) (omega arith) (omega arith)) (omega arith) e
+module _ (a : Answer) (y y′ : List ℕ) (m : Built) (four : length (a .settings .address) ≡ fourBytes) (all : length (a .bytes) ≡ listedBytes) (few : a .count ≤ listedBytes) (room : replyRoom ≤ length y) where
+  -- a content that is the code and the bytes
+  module _ (x : List ℕ) (f : x ≡ a .code ∷ take (a .count) (a .bytes)) (e : madeOf m y′ ≡ buildOf (a .settings .address) acknowledgePacket x y) where
+    bytes : length x ≡ a .count + 1
+    bytes = ap length f ∙ omega (arith, length-take-le (a .count) (a .bytes) (omega arith))
 
-    alone-long : m .length ≡ a .count + 1 + frameBytes
-    alone-long = alone .0 ∙ omega (arith, z)
+    front : (m .length ≡ length x + frameBytes) × (y′ ≡ lay 0 (packet (a .settings .address) acknowledgePacket x) y)
+    front = front-packet (a .settings .address) acknowledgePacket x y y′ m four (accepted x (omega (arith, bytes)) (omega (arith, bytes))) (omega (arith, bytes)) e
 
-    alone-laid : y′ ≡ lay 0 (acknowledge (a .settings .address) (a .code) (take (a .count) (a .bytes))) y
+    long : m .length ≡ a .count + 1 + frameBytes
+    long = front .0 ∙ omega (arith, bytes)
+
+    laid : y′ ≡ lay 0 (acknowledge (a .settings .address) (a .code) (take (a .count) (a .bytes))) y
     unfolding acknowledge
-    alone-laid = rw z (alone .1)
+    laid = rw f at (front .1)
 
-  module _ (x : List ℕ) (f : x ≡ a .code ∷ a .bytes) (l : length x ≡ 1 + listedBytes) (few : a .count ≤ listedBytes)
-      (e : madeOf m y′ ≡ buildOf (a .settings .address) acknowledgePacket (take (a .count + 1) x) y) where
-    long : length (take (a .count + 1) x) ≡ a .count + 1
-    long = length-take-le (a .count + 1) x (omega arith)
+-- no byte, two, and any number of them
+module _ (k n : ℕ) (w : List ℕ) where
+  alone : n ≡ 0 → k ∷ [] ≡ k ∷ take n w
+  alone z = rw z refl
 
-    listed : (m .length ≡ length (take (a .count + 1) x) + frameBytes) × (y′ ≡ lay 0 (packet (a .settings .address) acknowledgePacket (take (a .count + 1) x)) y)
-    listed =
-        front-packet (a .settings .address) acknowledgePacket (take (a .count + 1) x) y y′ m four
-        (accepted (take (a .count + 1) x) (omega (arith, long)) (omega (arith, long))) (omega (arith, long)) e
+  two : n ≡ 2 → length w ≡ listedBytes → k ∷ getD w 0 0 ∷ getD w 1 0 ∷ [] ≡ k ∷ take n w
+  two z h = rw z (ap (λ (v : List ℕ). k ∷ v) (go w (omega arith)))
+    where
+      go : (v : List ℕ) → 2 ≤ length v → getD v 0 0 ∷ getD v 1 0 ∷ [] ≡ take 2 v
+      go [] h = absurd (omega arith)
+      go (b ∷ []) h = absurd (omega arith)
+      go (b ∷ c ∷ v) h = refl
 
-    listed-long : m .length ≡ a .count + 1 + frameBytes
-    listed-long = listed .0 ∙ omega (arith, long)
+  some : (x : List ℕ) → x ≡ k ∷ w → take (n + 1) x ≡ k ∷ take n w
+  some x f = rw (f, add-one) refl
 
-    listed-laid : y′ ≡ lay 0 (acknowledge (a .settings .address) (a .code) (take (a .count) (a .bytes))) y
-    unfolding acknowledge
-    listed-laid = let t : take (a .count + 1) x ≡ a .code ∷ take (a .count) (a .bytes) = rw (f, add-one) refl in rw t at (listed .1)
-
--- the address has four bytes
+-- an address has four bytes, and a list 32
 four-bytes : (c : tie.Start) → length (c .args .a .settings .address) ≡ fourBytes
 four-bytes c = search (needs, c .good)
 
--- the start, from where there are bytes
-unfoldable start : tie.Else1 → tie.Start
-start c = search
+all-bytes : (c : tie.Start) → length (c .args .a .bytes) ≡ listedBytes
+all-bytes c = search (needs, c .good)
 
 slice-aggregate-build : tie.Need-slice-aggregate-build
 slice-aggregate-build c = search needs
@@ -66,7 +68,25 @@ same-length : tie.Need-same-length
 same-length c = search needs
 
 returns : tie.Need-returns
-returns c = let h = (let s : tie.Start = search in four-bytes s) in (search alone-long, search alone-laid)
+returns c = let s : tie.Start = search in let f = four-bytes s in let h = all-bytes s in let p = s .pre in (search (long, alone), search (laid, alone))
+
+array-read-high : tie.Need-array-read-high
+array-read-high c = search needs
+
+array-read-low : tie.Need-array-read-low
+array-read-low c = search needs
+
+slice-aggregate-build-2 : tie.Need-slice-aggregate-build-2
+slice-aggregate-build-2 c = search needs
+
+build-requires-2 : tie.Need-build-requires-2
+build-requires-2 c κs = search needs
+
+same-length-2 : tie.Need-same-length-2
+same-length-2 c = search needs
+
+returns-2 : tie.Need-returns-2
+returns-2 c = let s : tie.Start = search in let f = four-bytes s in let h = all-bytes s in let p = s .pre in (search (long, two), search (laid, two))
 
 content-of-requires : tie.Need-content-of-requires
 content-of-requires c κs = search needs
@@ -77,18 +97,17 @@ add-content c = search needs
 array-share-prefix-content : tie.Need-array-share-prefix-content
 array-share-prefix-content c = search needs
 
-slice-aggregate-build-2 : tie.Need-slice-aggregate-build-2
-slice-aggregate-build-2 c = sym (length-take-le _ _ (omega arith))
+slice-aggregate-build-3 : tie.Need-slice-aggregate-build-3
+slice-aggregate-build-3 c = sym (length-take-le _ _ (omega arith))
 
-build-requires-2 : tie.Need-build-requires-2
-build-requires-2 c κs = search needs
+build-requires-3 : tie.Need-build-requires-3
+build-requires-3 c κs = search needs
 
-same-length-2 : tie.Need-same-length-2
-same-length-2 c = search needs
+same-length-3 : tie.Need-same-length-3
+same-length-3 c = search needs
 
-returns-2 : tie.Need-returns-2
-unfolding start
-returns-2 c = let h = (let s : tie.Start = search start in four-bytes s) in let p = (let s : tie.Start = search start in s .pre) in (search listed-long, search listed-laid)
+returns-3 : tie.Need-returns-3
+returns-3 c = let s : tie.Start = search in let f = four-bytes s in let h = all-bytes s in let p = s .pre in (search (long, some), search (laid, some))
 
 pub put-acknowledge-spec : {M : Type 1} → statement M
 put-acknowledge-spec =
@@ -98,10 +117,16 @@ put-acknowledge-spec =
     build-requires
     same-length
     returns
-    content-of-requires
-    add-content
-    array-share-prefix-content
+    array-read-high
+    array-read-low
     slice-aggregate-build-2
     build-requires-2
     same-length-2
-    returns-2)
+    returns-2
+    content-of-requires
+    add-content
+    array-share-prefix-content
+    slice-aggregate-build-3
+    build-requires-3
+    same-length-3
+    returns-3)
