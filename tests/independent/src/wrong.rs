@@ -35,7 +35,7 @@ pub fn errors() -> impl Iterator<Item = &'static (&'static str, Error)> {
     ERRORS.iter().chain(&wrong_limits::ERRORS)
 }
 
-const ERRORS: [(&str, Error); 50] = [
+const ERRORS: [(&str, Error); 54] = [
     ("lock-before-sum", OfReader(lock_before_sum)),
     ("delete-keeps-templates", OfReader(delete_keeps_templates)),
     ("sum-in-16-bits", OfReader(sum_in_16_bits)),
@@ -49,7 +49,11 @@ const ERRORS: [(&str, Error); 50] = [
     ("always-unknown", OfReader(always_unknown)),
     ("always-fine", OfReader(always_fine)),
     ("store-moves-nothing", OfReader(store_moves_nothing)),
-    ("invents-count", OfReader(invents_count)),
+    ("invents-count", OfReader(|request| told(request, |count, _| count + 1))),
+    ("counts-all-but-last-byte", OfReader(|request| told(request, |_, index| ones(&index[..INDEX - 1])))),
+    ("counts-highest-bit-twice", OfReader(counts_highest_bit_twice)),
+    ("counts-in-8-bits", OfReader(|request| told(request, |count, _| count % 256))),
+    ("counts-bytes-with-a-bit", OfReader(counts_bytes_with_a_bit)),
     ("keeps-mark", OfReader(keeps_mark)),
     ("old-address", OfReader(old_address)),
     ("foreign-ends-transfer", OfReader(foreign_ends_transfer)),
@@ -236,15 +240,29 @@ fn always_fine(request: &Request) -> Outcome {
     }
 }
 
-/// TempleteNum gives one more than there are.
-fn invents_count(request: &Request) -> Outcome {
+/// The highest bit of each index byte counts as two pages.
+fn counts_highest_bit_twice(request: &Request) -> Outcome {
+    told(request, |count, index| count + index.iter().map(|byte| u16::from(byte >> 7)).sum::<u16>())
+}
+
+/// A byte of the index counts as one page, however many of its bits are set.
+fn counts_bytes_with_a_bit(request: &Request) -> Outcome {
+    told(request, |_, index| index.iter().map(|&byte| u16::from(byte != 0)).sum())
+}
+
+/// TempleteNum gives another number, made of the right one and the index.
+fn told(request: &Request, number: fn(u16, &[u8]) -> u16) -> Outcome {
     let outcome = request.carried_out();
     if is_command(request, TEMPLETE_NUM) && code(&outcome) == Some(0x00) {
-        let count = u16::from_be_bytes([outcome.room[10], outcome.room[11]]) + 1;
-        let [high, low] = count.to_be_bytes();
+        let count = u16::from_be_bytes([outcome.room[10], outcome.room[11]]);
+        let [high, low] = number(count, &request.reader.index).to_be_bytes();
         return reply_instead(request, outcome, &[0x00, high, low]);
     }
     outcome
+}
+
+fn ones(bytes: &[u8]) -> u16 {
+    bytes.iter().map(|byte| byte.count_ones() as u16).sum()
 }
 
 /// A wrong password leaves the verified mark.
