@@ -4,6 +4,7 @@
 mod bench;
 mod cases;
 mod chance;
+mod counts;
 mod coverage;
 mod dialogue;
 mod examples;
@@ -187,6 +188,7 @@ fn compare(options: Options) -> Result<(), End> {
         }
     }
     comparer.limits(seed)?;
+    comparer.counts()?;
     comparer.receivers_in_turn(seed)?;
     comparer.probe.finish()?;
 
@@ -275,6 +277,16 @@ impl Comparer {
         for (place, request) in limits::all(seed).iter().enumerate() {
             self.case = format!("limit {place} of seed {seed}");
             self.agreed(request)?;
+        }
+        Ok(())
+    }
+
+    /// TempleteNum's number, which also binds the independent reader.
+    fn counts(&mut self) -> Result<(), End> {
+        for (place, (request, stored)) in counts::all().enumerate() {
+            self.case = format!("count {place}");
+            let told = self.agreed(&request)?.room;
+            self.demand(told[10..12] == stored.to_be_bytes(), "tells another number")?;
         }
         Ok(())
     }

@@ -102,7 +102,7 @@ set-split (suc k) [] = refl
 set-split (suc k) (b ∷ x) = omega (arith, set-first b x, set-first b (take k x), set-split k x)
 
 -- the bits of weight 1, 2, 4, ... 128 of every byte, added
-eight : (b : ℕ) → setIn 8 b ≡ b % 2 + b / 2 % 2 + b / 4 % 2 + b / 8 % 2 + b / 16 % 2 + b / 32 % 2 + b / 64 % 2 + b / 128 % 2
+pub eight : (b : ℕ) → setIn 8 b ≡ b % 2 + b / 2 % 2 + b / 4 % 2 + b / 8 % 2 + b / 16 % 2 + b / 32 % 2 + b / 64 % 2 + b / 128 % 2
 unfolding countBelow bit
 eight b = simp as-number (omega arith)
 
