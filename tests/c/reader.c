@@ -35,6 +35,7 @@ static struct bystrodol_answer answer;
 static enum { STEP, OFFERED, HELD, DOORS } door;
 
 static const uint8_t handshake[] = {0xEF, 0x01, 0xFF, 0xFF, 0xFF, 0xFF, 0x01, 0x00, 0x03, 0x40, 0x00, 0x44};
+static const uint8_t count[] = {0xEF, 0x01, 0xFF, 0xFF, 0xFF, 0xFF, 0x01, 0x00, 0x03, 0x1D, 0x00, 0x21};
 static const uint8_t done[] = {0xEF, 0x01, 0xFF, 0xFF, 0xFF, 0xFF, 0x07, 0x00, 0x03, 0x00, 0x00, 0x0A};
 
 static void fill_bytes(void) {
@@ -333,9 +334,24 @@ static void any_mark(int mark, uint8_t byte) {
     check_of(name, byte, "what it leaves", unchanged(), extent());
 }
 
+/* Every number of pages, all of them stored: TempleteNum tells how many, and the service counts as many. */
+static void counted(void) {
+    for (size_t n = 1; n <= BYSTRODOL_PAGES_MOST; n++) {
+        uint8_t high = (uint8_t)(n >> 8), low = (uint8_t)n;
+        uint16_t sum = (uint16_t)(0x0C + high + low);
+        uint8_t told[] = {0xEF, 0x01, 0xFF, 0xFF, 0xFF, 0xFF, 0x07, 0x00, 0x05, 0x00, high, low, (uint8_t)(sum >> 8), (uint8_t)sum};
+        set_up();
+        lengths[TEMPLATES] = n * BYSTRODOL_PAGE_BYTES;
+        for (size_t page = 0; page < n; page++) parts[INDEX][page / 8] |= (uint8_t)(1u << page % 8);
+        memcpy(parts[RUN], count, lengths[RUN] = sizeof count);
+        call();
+        is_answered("all pages stored", n, told, sizeof told);
+        check_of("all pages stored", n, "count", bystrodol_count(parts[INDEX], lengths[INDEX]), n);
+    }
+}
+
 /* A reader with a password: the mark decides whether a command is barred, and no byte but 1 opens it. */
 static void opened_by(uint8_t byte) {
-    static const uint8_t count[] = {0xEF, 0x01, 0xFF, 0xFF, 0xFF, 0xFF, 0x01, 0x00, 0x03, 0x1D, 0x00, 0x21};
     static const uint8_t none[] = {0xEF, 0x01, 0xFF, 0xFF, 0xFF, 0xFF, 0x07, 0x00, 0x05, 0x00, 0x00, 0x00, 0x00, 0x0C};
     static const uint8_t barred[] = {0xEF, 0x01, 0xFF, 0xFF, 0xFF, 0xFF, 0x07, 0x00, 0x03, 0x21, 0x00, 0x2B};
     set_up();
@@ -515,6 +531,7 @@ int main(void) {
         order();
         switches();
         changes();
+        counted();
         any_marks();
         any_settings();
         named_codes();

@@ -175,6 +175,28 @@ static void counts(void) {
     }
 }
 
+/* The bits of a byte, one by one. */
+static size_t bits_of(unsigned byte) {
+    size_t bits = 0;
+    for (unsigned weight = 1; weight < 256; weight *= 2) bits += (byte & weight) != 0;
+    return bits;
+}
+
+/* Every byte at every place, the others 0 and then FF, in an index that begins at any address. */
+static void counts_of_bytes(void) {
+    static uint8_t area[BYSTRODOL_INDEX_BYTES + 8];
+    for (size_t at = 0; at < BYSTRODOL_INDEX_BYTES; at++)
+        for (unsigned byte = 0; byte < 256; byte++) {
+            uint8_t *index = area + byte % 8;
+            memset(area, 0xFF, sizeof area);
+            index[at] = (uint8_t)byte;
+            check_of("a byte among pages stored", at << 8 | byte, "count", bystrodol_count(index, 32), 31 * 8 + bits_of(byte));
+            memset(index, 0, BYSTRODOL_INDEX_BYTES);
+            index[at] = (uint8_t)byte;
+            check_of("a byte among pages not stored", at << 8 | byte, "count", bystrodol_count(index, 32), bits_of(byte));
+        }
+}
+
 int main(void) {
     sums();
     used();
@@ -184,5 +206,6 @@ int main(void) {
     read_back(BYSTRODOL_PACKET_LAST_DATA, BYSTRODOL_CONTENT_MOST_DATA);
     read_back(BYSTRODOL_PACKET_COMMAND, BYSTRODOL_CONTENT_MOST_OTHER);
     counts();
+    counts_of_bytes();
     return report("services");
 }
