@@ -10,14 +10,14 @@ use mir.Syntax.{w8, w32}
 use mir.Val.{Fits}
 use lib.Bits.{bitOr, bitAnd, or-add-and, and-le-l, and-le-r}
 use lib.Count.{ones, ones-le}
-use lib.ListN.{length, getD, set, take, drop, List·getD-eq-default, drop-of-length-le}
-use lib.Seq.{set-out, drop-cons, drop-drop}
+use lib.ListN.{length, getD, set, drop, List·getD-eq-default, drop-of-length-le}
+use lib.Seq.{set-out, drop-cons}
 use borrow.Author.Tests.{eq-eqb, ne-eqb, eqb-true, eqb-false}
 use Rattle.protocol.specs.Bytes.{Bytes, byteAt}
 use Rattle.protocol.specs.Tests.{every, countBelow}
 use Rattle.protocol.specs.Index.{bit, stored, setBit, clearBit, clearBits, bits, setBits, clearFrom}
 use Rattle.protocol.proofs.Laws.Bits.{everyBit, every-bit, shift-byte}
-use Rattle.protocol.proofs.Laws.Count.{ones-set, set-first, set-split}
+use Rattle.protocol.proofs.Laws.Count.{setIn, ones-set, set-first}
 use Rattle.protocol.proofs.Laws.Index.{bit-zero, set-or, clear-and}
 
 -- ---- one bit
@@ -71,44 +71,20 @@ module _ (z x : List ℕ) (p n : ℕ) (e : z ≡ clearBits x p n) where
 
 -- ---- the set bits, byte by byte
 
--- the byte at place i, and those behind it
-module _ (x : List ℕ) (h : (k : ℕ) → Fits w8 (getD x k 0)) where
-  ones-at : (i : ℕ) → i < length x → setBits (drop i x) ≡ ones (byteAt x i) + setBits (drop (suc i) x)
-  ones-at i l =
-      ap setBits (drop-cons x i 0 l) ∙ set-first (byteAt x i) (drop (suc i) x)
-      ∙ ap (λ (n : ℕ). n + setBits (drop (suc i) x)) (sym (ones-set 8 (byteAt x i) (h i .fits)))
-
-  pub ones-eight : length x ≡ 8
-      → setBits x ≡ ones (getD x 0 0) + ones (getD x 1 0) + (ones (getD x 2 0) + ones (getD x 3 0)) + (ones (getD x 4 0) + ones (getD x 5 0) + (ones (getD x 6 0) + ones (getD x 7 0)))
-  unfolding setBits countBelow
-  ones-eight e =
-      let none : setBits (drop 8 x) ≡ 0 = ap setBits (drop-of-length-le x {i = 8} (omega (arith, e))) in
-      omega (
-        arith,
-        ones-at 0 (omega (arith, e)),
-        ones-at 1 (omega (arith, e)),
-        ones-at 2 (omega (arith, e)),
-        ones-at 3 (omega (arith, e)),
-        ones-at 4 (omega (arith, e)),
-        ones-at 5 (omega (arith, e)),
-        ones-at 6 (omega (arith, e)),
-        ones-at 7 (omega (arith, e)),
-        none,
-      )
-
 -- n counts those of the bytes before place i
 module _ (x : List ℕ) (n i : ℕ) (e : n + setBits (drop i x) ≡ setBits x) where
   pub ones-more : ((k : ℕ) → Fits w8 (getD x k 0)) → i < length x → n + ones (byteAt x i) + setBits (drop (i + 1) x) ≡ setBits x
-  ones-more h l = let s : i + 1 ≡ suc i = omega arith in rw s (omega (arith, ones-at x h i l, e))
-
-  pub part-more : (w m : ℕ) → m ≡ setBits (take (i + w - i) (drop i x)) → n + m + setBits (drop (i + w) x) ≡ setBits x
-  part-more w m f =
-      let k : i + w - i ≡ w = omega arith in
-      omega (arith, set-split w (drop i x), rw k at f, ap setBits (drop-drop w i x), e)
+  ones-more h l =
+      let s : i + 1 ≡ suc i = omega arith in
+      let o : ones (byteAt x i) ≡ setIn 8 (byteAt x i) = ones-set 8 (byteAt x i) (h i .fits) in
+      let f : setBits (drop i x) ≡ setIn 8 (byteAt x i) + setBits (drop (suc i) x) = ap setBits (drop-cons x i 0 l) ∙ set-first (byteAt x i) (drop (suc i) x) in
+      rw s (omega (arith, o, f, e))
 
   pub ones-all : length x ≤ i → n ≡ setBits x
   unfolding setBits countBelow
-  ones-all m = let f : setBits (drop i x) ≡ 0 = ap setBits (drop-of-length-le x m) in omega (arith, e, f)
+  ones-all m =
+      let f : setBits (drop i x) ≡ 0 = ap setBits (drop-of-length-le x m) in
+      omega (arith, e, f)
 
 -- a byte has at most 8
 module _ (x : List ℕ) (n i : ℕ) (h : (k : ℕ) → Fits w8 (getD x k 0)) (m : n ≤ 8 * i) where

@@ -1,7 +1,6 @@
 // The index: page p is the bit of weight 2^(p mod 8) in byte p / 8. A page that the index has no bit for is not stored, and stays so.
 ghost use mathlib.Core.Path.{_≡_};
-ghost use Prim.Native.Nat.{_+_, _*_, _/_, _%_, _≤_, _<_};
-ghost use lib.Count.{ones};
+ghost use Prim.Native.Nat.{_*_, _/_, _%_, _≤_, _<_};
 ghost use lib.ListN.{length};
 ghost use Rattle.protocol.specs.Bytes.{byteAt};
 ghost use Rattle.protocol.specs.Index.{bit, stored, setBit, clearBit, clearBits, setBits, clearFrom};
@@ -80,50 +79,13 @@ pub fn is_clear_from(index: &[u8], c: usize) -> bool
     true
 }
 
-// Two bytes as one number, two such numbers as one, and two of those. Each has the ones of its parts.
-fn two(a: u8, b: u8) -> u16
-    ensures { λ r. ⌜ ones r ≡ ones a + ones b ⌝ }
-{
-    let high = b as u16 * 256;
-    a as u16 + high
-}
-
-fn four(a: u16, b: u16) -> u32
-    ensures { λ r. ⌜ ones r ≡ ones a + ones b ⌝ }
-{
-    let high = b as u32 * 65536;
-    a as u32 + high
-}
-
-fn eight(a: u32, b: u32) -> u64
-    ensures { λ r. ⌜ ones r ≡ ones a + ones b ⌝ }
-{
-    let high = b as u64 * 4294967296;
-    a as u64 + high
-}
-
-// The set bits of eight bytes, by the processor's own ones count.
-fn count_eight(s: &[u8]) -> u32
-    requires { ⌜ length (now s) ≡ 8 ⌝ }
-    ensures { λ r. ⌜ (r ≡ setBits (now (s .entry))) × (r ≤ 64) ⌝ }
-{
-    let low = four(two(s[0], s[1]), two(s[2], s[3]));
-    let high = four(two(s[4], s[5]), two(s[6], s[7]));
-    u64::count_ones(eight(low, high))
-}
-
-// The set bits of a short index: eight bytes at a time, and those that are left one by one.
+// The set bits of a short index, byte by byte: each byte's by the processor's own ones count.
 fn count_bits(index: &[u8]) -> u32
     requires { ⌜ length (now index) < 256 ⌝ }
     ensures { λ r. ⌜ (r ≡ setBits (now (index .entry))) × (r ≤ 8 * length (now (index .entry))) ⌝ }
 {
     let mut n = 0;
     let mut i = 0;
-    while i + 8 <= index.len() {
-        let e = i + 8;
-        n += count_eight(&index[i..e]);
-        i = e;
-    }
     while i < index.len() {
         n += u8::count_ones(index[i]);
         i += 1;

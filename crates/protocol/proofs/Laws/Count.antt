@@ -3,13 +3,13 @@ use mathlib.Core.Bool.{Bool, false, cond}
 use mathlib.Core.Path.{_≡_, refl, sym, ap, ap₂, _∙_}
 use mathlib.Core.List.{List, [], _∷_, foldr}
 use Prim.Native.Nat.{ℕ, zero, suc, _+_, _-_, _*_, _/_, _%_, _^_, _≤_, _<_}
-use native.Mathlib.Nat.{add-zero, add-suc, add-comm, div-one}
+use native.Mathlib.Nat.{add-zero, add-suc, div-one}
 use native.Mathlib.Omega.{arith}
 use lib.Dec.{T, eqb}
 use lib.Arith.{lt-one}
 use lib.Pow.{shr-lt, shr-shr}
-use lib.Count.{ones, ones-step, ones-cat}
-use lib.ListN.{length, take, drop}
+use lib.Count.{ones, ones-step}
+use lib.ListN.{length}
 use Rattle.protocol.specs.Bytes.{Bytes}
 use Rattle.protocol.specs.Tests.{countBelow}
 use Rattle.protocol.specs.Index.{bit, stored, bits, setBits, clearFrom}
@@ -73,10 +73,6 @@ ones-set (suc d) b h =
     let e : suc d ≡ d + 1 = omega arith in
     ones-step b ∙ ap (λ (n : ℕ). b % 2 + n) (ones-set d (b / 2) (shr-lt d 1 (rw e at h))) ∙ sym (set-in d b)
 
--- two numbers as one, the first of k bits
-pub ones-joined : (k a b r : ℕ) → a < 2 ^ k → r ≡ a + b * 2 ^ k → ones r ≡ ones a + ones b
-ones-joined k a b r h e = ap ones (e ∙ add-comm a (b * 2 ^ k)) ∙ ones-cat k b a h ∙ add-comm (ones b) (ones a)
-
 -- ---- the set bits of an index, byte by byte
 
 behind-byte : (b : ℕ) (x : List ℕ) (q : ℕ) → stored (b ∷ x) (8 + q) ≡ stored x q
@@ -93,13 +89,6 @@ set-first b x =
     ap (countBelow (stored (b ∷ x))) e
     ∙ count-add (stored (b ∷ x)) 8 (bits x)
     ∙ ap (λ (n : ℕ). setIn 8 b + n) (count-ext (λ q. stored (b ∷ x) (8 + q)) (stored x) (bits x) (λ q l. behind-byte b x q))
-
--- the first k bytes, and those behind them
-pub set-split : (k : ℕ) (x : List ℕ) → setBits x ≡ setBits (take k x) + setBits (drop k x)
-unfolding setBits countBelow
-set-split zero x = omega arith
-set-split (suc k) [] = refl
-set-split (suc k) (b ∷ x) = omega (arith, set-first b x, set-first b (take k x), set-split k x)
 
 -- the bits of weight 1, 2, 4, ... 128 of every byte, added
 pub eight : (b : ℕ) → setIn 8 b ≡ b % 2 + b / 2 % 2 + b / 4 % 2 + b / 8 % 2 + b / 16 % 2 + b / 32 % 2 + b / 64 % 2 + b / 128 % 2

@@ -6,7 +6,7 @@ use native.Mathlib.Nat.{zero-add}
 use lib.ListN.{length, drop}
 use borrow.Author.Needs.{needs}
 use Rattle.protocol.specs.Index.{setBits}
-use Rattle.library.proofs.Bits.{ones-more, part-more, ones-all, ones-most, ones-fit}
+use Rattle.library.proofs.Bits.{ones-more, ones-all, ones-most, ones-fit}
 use Rattle.library.proofs.index.count_bits.Statement.{statement}
 use Rattle.library.proofs.index.count_bits.Tie as tie
 
@@ -16,61 +16,25 @@ Inv-loop index n₀ i₀ n i = (i ≤ length index) × ((n ≤ 8 * i) × (n + se
 abbrev μ-loop : tie.MeasureT-loop
 μ-loop index n₀ i₀ n i = length index - i
 
-abbrev Inv-loop2 : tie.InvT-loop2
-Inv-loop2 index n₀ i₀ n i = (i ≤ length index) × ((n ≤ 8 * i) × (n + setBits (drop i index) ≡ setBits index))
-
-abbrev μ-loop2 : tie.MeasureT-loop2
-μ-loop2 index n₀ i₀ n i = length index - i
-
-loop-holds : tie.Need-loop-holds Inv-loop μ-loop Inv-loop2 μ-loop2
+loop-holds : tie.Need-loop-holds Inv-loop μ-loop
 loop-holds c = (omega arith, (omega arith, search zero-add))
 
-add-loop : tie.Need-add-loop Inv-loop μ-loop Inv-loop2 μ-loop2
-add-loop c = search needs
-
-add-e : tie.Need-add-e Inv-loop μ-loop Inv-loop2 μ-loop2
-add-e c = search needs
-
-sub-count-eight : tie.Need-sub-count-eight Inv-loop μ-loop Inv-loop2 μ-loop2
-sub-count-eight c = search needs
-
-part-count-eight-start : tie.Need-part-count-eight-start Inv-loop μ-loop Inv-loop2 μ-loop2
-part-count-eight-start c = search needs
-
-part-count-eight-end : tie.Need-part-count-eight-end Inv-loop μ-loop Inv-loop2 μ-loop2
-part-count-eight-end c = search needs
-
-count-eight-requires : tie.Need-count-eight-requires Inv-loop μ-loop Inv-loop2 μ-loop2
-count-eight-requires c κs = search needs
-
-add-n : tie.Need-add-n Inv-loop μ-loop Inv-loop2 μ-loop2
-add-n c = search needs
-
-loop-less : tie.Need-loop-less Inv-loop μ-loop Inv-loop2 μ-loop2
-loop-less c = search needs
-
-loop-again : tie.Need-loop-again Inv-loop μ-loop Inv-loop2 μ-loop2
-loop-again c = (omega arith, (omega arith, search part-more))
-
-loop2-holds : tie.Need-loop2-holds Inv-loop μ-loop Inv-loop2 μ-loop2
-loop2-holds c = search needs
-
-shared-slice-read-n : tie.Need-shared-slice-read-n Inv-loop μ-loop Inv-loop2 μ-loop2
+shared-slice-read-n : tie.Need-shared-slice-read-n Inv-loop μ-loop
 shared-slice-read-n c = search needs
 
-add-n-2 : tie.Need-add-n-2 Inv-loop μ-loop Inv-loop2 μ-loop2
-add-n-2 c = search ones-fit
+add-n : tie.Need-add-n Inv-loop μ-loop
+add-n c = search ones-fit
 
-add-i : tie.Need-add-i Inv-loop μ-loop Inv-loop2 μ-loop2
+add-i : tie.Need-add-i Inv-loop μ-loop
 add-i c = search needs
 
-loop2-less : tie.Need-loop2-less Inv-loop μ-loop Inv-loop2 μ-loop2
-loop2-less c = search needs
+loop-less : tie.Need-loop-less Inv-loop μ-loop
+loop-less c = search needs
 
-loop2-again : tie.Need-loop2-again Inv-loop μ-loop Inv-loop2 μ-loop2
-loop2-again c = (omega arith, (search ones-most, search ones-more))
+loop-again : tie.Need-loop-again Inv-loop μ-loop
+loop-again c = (omega arith, (search ones-most, search ones-more))
 
-returns : tie.Need-returns Inv-loop μ-loop Inv-loop2 μ-loop2
+returns : tie.Need-returns Inv-loop μ-loop
 returns c = (search ones-all, omega arith)
 
 pub count-bits-spec : {M : Type 1} → statement M
@@ -79,22 +43,10 @@ count-bits-spec =
     (tie.spec
     Inv-loop
     μ-loop
-    Inv-loop2
-    μ-loop2
     loop-holds
-    add-loop
-    add-e
-    sub-count-eight
-    part-count-eight-start
-    part-count-eight-end
-    count-eight-requires
+    shared-slice-read-n
     add-n
+    add-i
     loop-less
     loop-again
-    loop2-holds
-    shared-slice-read-n
-    add-n-2
-    add-i
-    loop2-less
-    loop2-again
     returns)
