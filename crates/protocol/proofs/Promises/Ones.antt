@@ -4,22 +4,25 @@
 use mathlib.Core.Bool.{false}
 use mathlib.Core.Path.{_≡_, sym, ap, ap₂, _∙_, subst}
 use mathlib.Core.List.{List, foldr}
-use Prim.Native.Nat.{ℕ, _+_, _*_, _/_, _%_, _^_, _<_}
+use Prim.Native.Nat.{ℕ, _+_, _*_, _/_, _%_, _^_, _≤_, _<_}
+use native.Mathlib.Omega.{arith}
 use lib.Dec.{T, eqb}
 use lib.Count.{ones}
 use lib.ListN.{length, getD}
 use Rattle.protocol.specs.Bytes.{Bytes}
 use Rattle.protocol.specs.Tests.{countBelow}
 use Rattle.protocol.specs.Index.{bit, stored, setBits}
-use Rattle.protocol.specs.Reader.{Reader, locked}
+use Rattle.protocol.specs.Reader.{Reader, capacity, locked}
 use Rattle.protocol.specs.Commands.{templeteNum, barred, command}
 use Rattle.protocol.specs.Data.{acknowledge}
 use Rattle.protocol.specs.Step.{order, hear, rested}
-use Rattle.protocol.specs.Call.{core, Shape, Lent, fitLent, legal, callOf}
+use Rattle.protocol.specs.Call.{core, Shape, Lent, fitLent, callOf}
 use Rattle.protocol.specs.Services.{countService}
-use Rattle.protocol.proofs.Laws.Count.{ones-set, eight, set-ones}
+use Rattle.protocol.proofs.Laws.Count.{below-capacity, ones-set, eight, set-ones}
+use Rattle.protocol.proofs.Laws.Legal.{Good, good-of}
 use Rattle.protocol.proofs.Laws.Answers.{spared}
 use Rattle.protocol.proofs.Promises.Told.{Gives, word}
+use Rattle.protocol.proofs.Promises.StaysLegal.{Legal}
 use Rattle.protocol.proofs.Promises.Settings.{tells-number}
 
 -- the ones of a byte: its bits of weight 1, 2, 4, ... 128
@@ -30,18 +33,29 @@ byte-ones b h = ones-set 8 b h ∙ eight b
 abbrev pub onesOf : List ℕ → ℕ
 onesOf x = foldr (λ b n. ones b + n) 0 x
 
--- they are as many as the pages that have a bit, of weight 2^(p mod 8) in byte p / 8, and whose bit is set
-pub ones-added : (x : List ℕ) → Bytes x → onesOf x ≡ countBelow (λ p. eqb (getD x (p / 8) 0 / 2 ^ (p % 8) % 2) 1) (8 * length x)
+-- the pages below c that are stored: page p's bit is that of weight 2^(p mod 8) in byte p / 8
+abbrev pub pagesSet : List ℕ → ℕ → ℕ
+pagesSet x c = countBelow (λ p. eqb (getD x (p / 8) 0 / 2 ^ (p % 8) % 2) 1) c
+
+-- they are as many as the pages that an index has bits for and that are stored
+pub ones-added : (x : List ℕ) → Bytes x → onesOf x ≡ pagesSet x (8 * length x)
 unfolding setBits stored bit
 ones-added x h = sym (set-ones x h)
 
--- TempleteNum tells them
-pub ones-told : (σ : Shape) (r : Reader) (s : List ℕ) (lent : Lent) → T (legal σ r) → Bytes (r .guarded .index) → T (fitLent lent) → locked (r .plain) ≡ false
-    → hear (r .plain .address) s ≡ order (command (barred templeteNum))
-    → Gives (acknowledge (r .plain .address) 0x00 (word (onesOf (r .guarded .index)))) (rested r) s lent (callOf σ r s lent)
-ones-told σ r s lent f b u l h =
-    let same = ap₂ (λ (a : List ℕ) (n : ℕ). acknowledge a 0x00 (word n)) (spared r .address) (ap setBits (spared r .index) ∙ set-ones (r .guarded .index) b) in
-    subst (λ (x : List ℕ). Gives x (rested r) s lent (callOf σ r s lent)) same (tells-number σ r s lent f u l h)
+module _ (σ : Shape) (ok : σ .most ≤ 8 * σ .indexed) (r : Reader) (f : Legal σ ok r) where
+  -- and of a legal reader as many as its stored pages, of C
+  pub ones-pages : onesOf (r .guarded .index) ≡ pagesSet (r .guarded .index) (length (r .guarded .templates) / 512)
+  unfolding stored bit capacity
+  ones-pages =
+      let k : Good σ ok r = good-of σ ok r (f .typed) (f .legal) in
+      sym (set-ones (r .guarded .index) (f .typed .index)) ∙ below-capacity (r .guarded .index) (capacity (r .guarded)) (omega (arith, ok, k .shelf .high, k .shelf .wide)) (k .clear)
+
+  -- TempleteNum tells them
+  pub ones-told : (s : List ℕ) (lent : Lent) → T (fitLent lent) → locked (r .plain) ≡ false → hear (r .plain .address) s ≡ order (command (barred templeteNum))
+      → Gives (acknowledge (r .plain .address) 0x00 (word (onesOf (r .guarded .index)))) (rested r) s lent (callOf σ r s lent)
+  ones-told s lent u l h =
+      let same = ap₂ (λ (a : List ℕ) (n : ℕ). acknowledge a 0x00 (word n)) (spared r .address) (ap setBits (spared r .index) ∙ set-ones (r .guarded .index) (f .typed .index)) in
+      subst (λ (x : List ℕ). Gives x (rested r) s lent (callOf σ r s lent)) same (tells-number σ r s lent (f .legal) u l h)
 
 -- and C's count of 32 bytes is them
 pub ones-served : (x : List ℕ) → length x ≡ 32 → Bytes x → countService x ≡ onesOf x
