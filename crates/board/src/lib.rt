@@ -1,5 +1,5 @@
-// What the board's C firmware calls: four plain services, and the whole reader with its settings lent, or with its settings and
-// its receiver. include/bystrodol.h is the C face.
+// What the board's C firmware calls: four plain services, fresh settings, and the whole reader with its settings and its receiver lent.
+// include/bystrodol.h is the C face; the reader on whole runs is in the crate `step`.
 pub mod lines;
 pub mod stored;
 
@@ -8,12 +8,11 @@ ghost use mathlib.Core.List.{List};
 ghost use Prim.Native.Nat.{ℕ};
 ghost use Rattle.protocol.specs.Services.{sumService, usedService, buildService, countService};
 ghost use Rattle.protocol.specs.Records.{lentOf};
-ghost use Rattle.board.specs.Stored.{storedReaderOf, storedFreshOf, storedCallOf, storedSwitchOf, storedEndOf, storedSwitchedOf, storedCalledAt, storedSwitchedAt};
+ghost use Rattle.board.specs.Stored.{storedReaderOf, storedFreshOf};
 ghost use Rattle.board.specs.Lines.{storedLineOf, storedReceiveOf, storedLineSwitchOf, storedReceivedOf, storedEmptiedOf, storedReceivedAt, storedEmptiedAt};
 use crate::lines::StoredLine;
 use crate::stored::StoredSettings;
 use library::index;
-use place::Answered;
 use protocol::numbers;
 use wire::builder;
 use wire::bytes;
@@ -69,52 +68,6 @@ pub extern "C" fn bystrodol_count(index: &[u8]) -> u16
     ensures { λ r. ⌜ r ≡ countService (now (index .entry)) ⌝ }
 {
     index::count(index, numbers::INDEX as u8)
-}
-
-// A call of the reader on lent settings.
-#[no_mangle]
-pub extern "C" fn bystrodol_step(
-    settings: &mut StoredSettings,
-    templates: &mut [u8],
-    index: &mut [u8],
-    notepad: &mut [u8],
-    buffer1: &mut [u8],
-    buffer2: &mut [u8],
-    run: &[u8],
-    reply: &mut [u8],
-) -> Answered
-    ensures { λ r. ⌜ storedEndOf (storedCalledAt (now (settings .exit)) r) (now (templates .exit)) (now (index .exit)) (now (notepad .exit)) (now (buffer1 .exit)) (now (buffer2 .exit)) (now (reply .exit)) ≡ storedCallOf (storedReaderOf (now (settings .entry)) (now (templates .entry)) (now (index .entry)) (now (notepad .entry)) (now (buffer1 .entry)) (now (buffer2 .entry))) (now (run .entry)) (lentOf (now (reply .entry))) ⌝ }
-{
-    let called = stored::step(
-        *settings,
-        templates,
-        index,
-        notepad,
-        buffer1,
-        buffer2,
-        run,
-        reply,
-    );
-    *settings = called.settings;
-    Answered {
-        refusal: called.refusal,
-        used: called.used,
-        length: called.length,
-    }
-}
-
-// A line switch on lent settings.
-#[no_mangle]
-pub extern "C" fn bystrodol_line_switch(
-    settings: &mut StoredSettings,
-    buffer1: &mut [u8],
-    buffer2: &mut [u8],
-) -> u8
-    ensures { λ r. ⌜ ((t i n : List ℕ) → storedSwitchedOf (storedSwitchedAt (now (settings .exit)) r) t i n (now (buffer1 .exit)) (now (buffer2 .exit)) ≡ storedSwitchOf (storedReaderOf (now (settings .entry)) t i n (now (buffer1 .entry)) (now (buffer2 .entry)))) ⌝ }
-{
-    let switched = stored::line_switch(*settings, buffer1, buffer2);
-    *settings = switched.settings;
-    switched.refusal
 }
 
 // A call of the receiver on a lent line.

@@ -1,4 +1,4 @@
--- `board::bystrodol_step` meets its contract: a walk of its MIR, by hand. The borrow of the record is opened, and the record is copied out of its cell; `step` is called with the copy, and with the slices for good, at their own lifetimes, shares and names (`Told.antt`), and what it ensures is handed on as it is; what it returns is taken apart; and the borrow is closed at the new record.
+-- `step::bystrodol_step` meets its contract: a walk of its MIR, by hand. The borrow of the record is opened, and the record is copied out of its cell; `step` is called with the copy, and with the slices for good, at their own lifetimes, shares and names (`Told.antt`), and what it ensures is handed on as it is; what it returns is taken apart; and the borrow is closed at the new record.
 -- All that the proof knows of `step` is that it meets its contract.
 -- Assumes nothing.
 use mathlib.Core.Path.{_≡_, refl, ap}
@@ -40,25 +40,25 @@ use denote.Triple.Entry.{onEntry, alive}
 use denote.Triple.Spec.{Meets, tripleOf}
 use denote.Triple.Table.{entered, cited}
 use denote.Triple.Walked.{Stays, stay-ref, walkOf, goes-ref, Walks, ends-at, walked, walk-meets}
 use Rattle.board.specs.declared.stored.StoredSettings.{StoredSettings}
 use Rattle.board.proofs.stored.StoredSettings as T
 use Rattle.board.proofs.stored.StoredSettings.Laws as T′
 use Rattle.board.specs.declared.stored.StoredCalled.{StoredCalled}
 use Rattle.board.proofs.stored.StoredCalled as D
 use Rattle.board.proofs.stored.StoredCalled.Laws as D′
 use Rattle.place.specs.declared.Answered.{Answered}
 use Rattle.place.proofs.Answered as K
 use Rattle.place.proofs.Answered.Laws as K′
 use Rattle.place.proofs.Lent.{slice, Fits}
 use Rattle.place.proofs.Told.{rest, tolds, tolds-fit, tolds-go}
 use Rattle.board.proofs.stored.step as g
 use Rattle.board.proofs.stored.step.Symbol as g-def
 use Rattle.board.proofs.stored.step.Symbol.{name as #g}
 use Rattle.board.proofs.stored.step.Met as g-thm
-use Rattle.board.proofs.bystrodol_step.Key.{name as #f}
-use Rattle.board.proofs.bystrodol_step as f
-use Rattle.board.proofs.bystrodol_step.Statement as stated
-use Rattle.board.proofs.bystrodol_step.Code as code
+use Rattle.step.proofs.bystrodol_step.Key.{name as #f}
+use Rattle.step.proofs.bystrodol_step as f
+use Rattle.step.proofs.bystrodol_step.Statement as stated
+use Rattle.step.proofs.bystrodol_step.Code as code
 
 abbrev stayed : Stays (f.ended .signature .params) (f.ended .kept)
 stayed = (stay-ref (0 ∷ []) tt (plain (λ _. T.the-row)), tolds (rest (f.ended .signature .params)) (f.ended .kept .1))

@@ -1,4 +1,4 @@
--- `board::bystrodol_line_switch` meets its contract: a walk of its MIR, by hand. The borrow of the record is opened, and the record is copied out of its cell; `line_switch` is called with the copy, and with the slices for good, at their own lifetimes, shares and names (`Told.antt`), and what it ensures is handed on as it is; what it returns is taken apart; and the borrow is closed at the new record.
+-- `step::bystrodol_line_switch` meets its contract: a walk of its MIR, by hand. The borrow of the record is opened, and the record is copied out of its cell; `line_switch` is called with the copy, and with the slices for good, at their own lifetimes, shares and names (`Told.antt`), and what it ensures is handed on as it is; what it returns is taken apart; and the borrow is closed at the new record.
 -- All that the proof knows of `line_switch` is that it meets its contract.
 -- Assumes nothing.
 use mathlib.Core.Path.{_≡_, refl, ap}
@@ -41,22 +41,22 @@ use denote.Triple.Entry.{onEntry, alive}
 use denote.Triple.Spec.{Meets, tripleOf}
 use denote.Triple.Table.{entered, cited}
 use denote.Triple.Walked.{Stays, stay-ref, walkOf, goes-ref, Walks, ends-at, walked, walk-meets}
 use Rattle.board.specs.declared.stored.StoredSettings.{StoredSettings}
 use Rattle.board.proofs.stored.StoredSettings as T
 use Rattle.board.proofs.stored.StoredSettings.Laws as T′
 use Rattle.board.specs.declared.stored.StoredSwitched.{StoredSwitched}
 use Rattle.board.proofs.stored.StoredSwitched as D
 use Rattle.board.proofs.stored.StoredSwitched.Laws as D′
 use Rattle.place.proofs.Lent.{slice, Fits}
 use Rattle.place.proofs.Told.{rest, tolds, tolds-fit, tolds-go}
 use Rattle.board.proofs.stored.line_switch as g
 use Rattle.board.proofs.stored.line_switch.Symbol as g-def
 use Rattle.board.proofs.stored.line_switch.Symbol.{name as #g}
 use Rattle.board.proofs.stored.line_switch.Met as g-thm
-use Rattle.board.proofs.bystrodol_line_switch.Key.{name as #f}
-use Rattle.board.proofs.bystrodol_line_switch as f
-use Rattle.board.proofs.bystrodol_line_switch.Statement as stated
-use Rattle.board.proofs.bystrodol_line_switch.Code as code
+use Rattle.step.proofs.bystrodol_line_switch.Key.{name as #f}
+use Rattle.step.proofs.bystrodol_line_switch as f
+use Rattle.step.proofs.bystrodol_line_switch.Statement as stated
+use Rattle.step.proofs.bystrodol_line_switch.Code as code
 
 abbrev stayed : Stays (f.ended .signature .params) (f.ended .kept)
 stayed = (stay-ref (0 ∷ []) tt (plain (λ _. T.the-row)), tolds (rest (f.ended .signature .params)) (f.ended .kept .1))
