@@ -1,12 +1,14 @@
 /*
  * bystrodol.h: the EF01 reader core for C99 and C++: the whole reader, and four plain services.
  *
- * Link with the archive that `rt staticlib board` writes, target/staticlib/libboard.a (x86-64 Linux). The archive needs
- * memcpy and memset, and nothing else of the C library. Nothing is kept between calls: each answer depends on the arguments
- * and the memory that they lead to, and calls on different memory may run at the same time.
+ * Link with the archive that `rt staticlib board` writes, target/staticlib/libboard.a (x86-64 Linux). The two functions without
+ * a receiver are in another, target/staticlib/libstep.a, which `rt staticlib step` writes. Each needs memcpy and memset, and
+ * nothing else. A function is a section by itself, so that the linker's --gc-sections leaves out those that are not called.
+ * Nothing is kept between calls: each answer depends on the arguments and the memory that they lead to, and calls on
+ * different memory may run at the same time.
  *
  * Each function has an answer for every number, every length and every byte, bad ones included, and that answer is proved
- * (crates/board/src). What no proof can see is the caller's part:
+ * (crates/board/src, crates/step/src). What no proof can see is the caller's part:
  *   - A piece, a run, a content, a room or a lent memory is two arguments, a pointer and a length in bytes. The pointer leads
  *     to that many bytes, all of which the caller may read; where it is not const, also write. They need no alignment.
  *   - Where the length is 0 nothing is read or written, and the pointer may be NULL. No other pointer may be NULL.
@@ -50,12 +52,12 @@
 #include <stddef.h>
 #include <stdint.h>
 
-/* The version of this header and of the archive. Another major number, or, while that is 0, another minor one, may need a
+/* The version of this header and of the archives. Another major number, or, while that is 0, another minor one, may need a
  * change of the caller. */
 #define BYSTRODOL_VERSION_MAJOR 0
-#define BYSTRODOL_VERSION_MINOR 3
+#define BYSTRODOL_VERSION_MINOR 4
 #define BYSTRODOL_VERSION_PATCH 0
-#define BYSTRODOL_VERSION "0.3.0"
+#define BYSTRODOL_VERSION "0.4.0"
 
 /* ---- lengths, in bytes */
 
@@ -255,7 +257,7 @@ struct bystrodol_received bystrodol_receive(struct bystrodol_line *line, uint8_t
                                             uint8_t *buffer2, size_t buffer2_length, const uint8_t *piece,
                                             size_t piece_length, uint8_t *reply, size_t reply_length);
 
-/* ---- the same without a receiver, for a caller that holds the bytes itself */
+/* ---- the same without a receiver, for a caller that holds the bytes itself; these two are in libstep.a */
 
 /*
  * The line switch: verified mark and filled marks 0, transfer closed, both buffers zeroed. It takes any settings, whatever
