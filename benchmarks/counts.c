@@ -254,10 +254,13 @@ static void data_row(const char *name, uint8_t size) {
 
 /* One page: with more the test of the index costs less. */
 static void measure_received(void) {
-    static const uint8_t hand_shake[] = {0x40};
+    static const uint8_t hand_shake[] = {0x40}, count[] = {0x1D};
     received.length = 0;
     begin(&received, "40h HandShake, 12 bytes", 1);
     append_packet(COMMAND, hand_shake, sizeof hand_shake);
+    measure_run(0x00);
+    begin(&received, "1Dh TempleteNum, 12 bytes", 1);
+    append_packet(COMMAND, count, sizeof count);
     measure_run(0x00);
     data_row("data packet, 139 bytes", 2);
     data_row("data packet, 267 bytes", 3);

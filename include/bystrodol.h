@@ -1,9 +1,12 @@
 /*
  * bystrodol.h: the EF01 reader core for C99 and C++: the whole reader, and four plain services.
  *
- * Link with the archive that `rt staticlib board` writes, target/staticlib/libboard.a (x86-64 Linux). The two functions without
- * a receiver are in another, target/staticlib/libstep.a, which `rt staticlib step` writes. Each needs memcpy and memset, and
- * nothing else. A function is a section by itself, so that the linker's --gc-sections leaves out those that are not called.
+ * There are two archives, for x86-64 Linux. bystrodol_step and bystrodol_line_switch are in target/staticlib/libstep.a, which
+ * `rt staticlib step` writes; all else is in target/staticlib/libboard.a, which `rt staticlib board` writes. Link those whose
+ * functions you call, in any order, behind your own files. Neither needs the other; each needs memcpy and memset, and nothing else
+ * of the C library. Each function is a section of its own: with --gc-sections the linker drops those that are not called, and a
+ * firmware that links both should use it, since each archive has a reader.
+ *
  * Nothing is kept between calls: each answer depends on the arguments and the memory that they lead to, and calls on
  * different memory may run at the same time.
  *

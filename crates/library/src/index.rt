@@ -79,7 +79,7 @@ pub fn is_clear_from(index: &[u8], c: usize) -> bool
     true
 }
 
-// The set bits of a short index, byte by byte: each byte's by the processor's own ones count.
+// The set bits of a short index: the ones of each byte, added.
 fn count_bits(index: &[u8]) -> u32
     requires { ⌜ length (now index) < 256 ⌝ }
     ensures { λ r. ⌜ (r ≡ setBits (now (index .entry))) × (r ≤ 8 * length (now (index .entry))) ⌝ }

@@ -65,7 +65,7 @@ set-in d b =
     (add-zero _ ∙ as-number (b / 1) ∙ ap (λ (n : ℕ). n % 2) (div-one b))
     (count-ext (λ k. eqb (bit b (1 + k)) 1) (λ k. eqb (bit (b / 2) k) 1) d (λ k l. ap (λ (n : ℕ). eqb (n % 2) 1) (sym (shr-shr b 1 k))))
 
--- what the processor counts in a number of d bits
+-- the ones of a number of d bits are its bits that are set
 pub ones-set : (d b : ℕ) → b < 2 ^ d → ones b ≡ setIn d b
 unfolding ones countBelow
 ones-set zero b h = ap ones (lt-one h)
@@ -82,6 +82,7 @@ behind-byte b x q =
     let m : (8 + q) % 8 ≡ q % 8 = omega arith in
     rw (d, m) refl
 
+-- those of the first byte, and of the others
 pub set-first : (b : ℕ) (x : List ℕ) → setBits (b ∷ x) ≡ setIn 8 b + setBits x
 unfolding setBits stored countBelow
 set-first b x =
@@ -90,7 +91,7 @@ set-first b x =
     ∙ count-add (stored (b ∷ x)) 8 (bits x)
     ∙ ap (λ (n : ℕ). setIn 8 b + n) (count-ext (λ q. stored (b ∷ x) (8 + q)) (stored x) (bits x) (λ q l. behind-byte b x q))
 
--- the bits of weight 1, 2, 4, ... 128 of every byte, added
+-- the bits of weight 1, 2, 4, ... 128 of a byte; and those of every byte, added
 pub eight : (b : ℕ) → setIn 8 b ≡ b % 2 + b / 2 % 2 + b / 4 % 2 + b / 8 % 2 + b / 16 % 2 + b / 32 % 2 + b / 64 % 2 + b / 128 % 2
 unfolding countBelow bit
 eight b = simp as-number (omega arith)
