@@ -182,7 +182,7 @@ static size_t bits_of(unsigned byte) {
     return bits;
 }
 
-/* Every byte at every place, the others 0 and then FF, in an index that begins at any address. */
+/* Every byte at every place, the others FF and then 0, in an index that begins at one of eight addresses, by the byte. */
 static void counts_of_bytes(void) {
     static uint8_t area[BYSTRODOL_INDEX_BYTES + 8];
     for (size_t at = 0; at < BYSTRODOL_INDEX_BYTES; at++)

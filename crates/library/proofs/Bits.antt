@@ -86,13 +86,13 @@ module _ (x : List ℕ) (n i : ℕ) (e : n + setBits (drop i x) ≡ setBits x) w
       let f : setBits (drop i x) ≡ 0 = ap setBits (drop-of-length-le x m) in
       omega (arith, e, f)
 
--- a byte has at most 8
-module _ (x : List ℕ) (n i : ℕ) (h : (k : ℕ) → Fits w8 (getD x k 0)) (m : n ≤ 8 * i) where
-  pub ones-most : n + ones (byteAt x i) ≤ 8 * (i + 1)
-  ones-most = omega (arith, ones-le 8 (byteAt x i) (h i .fits))
+-- any byte has at most 8
+module _ (n i b : ℕ) (h : Fits w8 b) (m : n ≤ 8 * i) where
+  pub ones-most : n + ones b ≤ 8 * (i + 1)
+  ones-most = omega (arith, ones-le 8 b (h .fits))
 
-  pub ones-fit : i < length x → length x < 256 → Fits w32 (n + ones (byteAt x i))
-  ones-fit l k = record { fits = omega (arith, ones-most) }
+  pub ones-fit : (l : ℕ) → i < l → l < 256 → Fits w32 (n + ones b)
+  ones-fit l k j = record { fits = omega (arith, ones-most) }
 
 -- ---- the bits from c on, byte by byte
 

@@ -11,7 +11,7 @@ use wire::bytes;
 // A page's bit: shifted down and masked.
 fn bit_at(index: &[u8], p: usize) -> usize
     requires { ⌜ p / 8 < length (now index) ⌝ }
-    ensures { λ r. ⌜ (r ≡ bit (byteAt (now (index .entry)) (p / 8)) (p % 8)) × (r ≤ 1) ⌝ }
+    ensures { λ r. ⌜ r ≡ bit (byteAt (now (index .entry)) (p / 8)) (p % 8) ⌝ }
 {
     let b = index[p / 8];
     let v = b >> (p % 8);

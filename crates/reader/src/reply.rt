@@ -28,8 +28,8 @@ fn content_of(code: u8, bytes: [u8; 32]) -> [u8; 33]
     content
 }
 
-// Writes an acknowledge at the front of the reply room. Most have a code alone, and the number of pages has two bytes behind it: their lengths are
-// known when this is compiled.
+// Writes an acknowledge at the front of the reply room. Most have a code alone, and TempleteNum's has two bytes behind it: these two have a content of
+// fixed length.
 fn put_acknowledge(a: Answer, reply: &mut [u8]) -> usize
     requires { ⌜ (a .count ≤ listedBytes) × (replyRoom ≤ length (now reply)) ⌝ }
     ensures { λ r. ⌜ (r ≡ a .count + 1 + frameBytes) × (now (reply .exit) ≡ lay 0 (acknowledge (a .settings .address) (a .code) (take (a .count) (a .bytes))) (now (reply .entry))) ⌝ }

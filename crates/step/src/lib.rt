@@ -1,5 +1,5 @@
 // What a C firmware calls that hands whole runs over: the reader with its settings lent. include/bystrodol.h is the C face.
-// A crate apart from `board`: in the archive of each the reader is called at one place, and the compiler builds it in there.
+// It stands apart from `board`, so that in the archive of each one function leads to the reader's call, and the compiler builds the call into it.
 ghost use mathlib.Core.Path.{_≡_};
 ghost use mathlib.Core.List.{List};
 ghost use Prim.Native.Nat.{ℕ};

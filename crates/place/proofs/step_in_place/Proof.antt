@@ -1,5 +1,5 @@
--- `place::step_in_place` meets its contract: a walk of its MIR, by hand. The borrow of the record is opened, and the record is copied out of its cell; `step` is called with the copy, and with the slices for good, at their own lifetimes, shares and names (`Told.antt`), and what it ensures is handed on as it is; what it returns is taken apart; and the borrow is closed at the new record.
--- All that the proof knows of `step` is that it meets its contract.
+-- `place::step_in_place` meets its contract: a walk of its MIR, by hand. The borrow of the record is opened, and the record is copied out of its cell; `call::step` is called with the copy, and with the slices for good, at their own lifetimes, shares and names (`Told.antt`), and what it ensures is handed on as it is; what it returns is taken apart; and the borrow is closed at the new record.
+-- All that the proof knows of `call::step` is that it meets its contract.
 -- Assumes nothing.
 use mathlib.Core.Path.{_≡_, refl, ap}
 use Prim.Native.Nat.{ℕ}

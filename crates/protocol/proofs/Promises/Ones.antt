@@ -37,27 +37,27 @@ onesOf x = foldr (λ b n. ones b + n) 0 x
 abbrev pub pagesSet : List ℕ → ℕ → ℕ
 pagesSet x c = countBelow (λ p. eqb (getD x (p / 8) 0 / 2 ^ (p % 8) % 2) 1) c
 
--- they are as many as the pages that an index has bits for and that are stored
+-- the ones are as many as the pages that the index has bits for and that are stored
 pub ones-added : (x : List ℕ) → Bytes x → onesOf x ≡ pagesSet x (8 * length x)
 unfolding setBits stored bit
 ones-added x h = sym (set-ones x h)
 
 module _ (σ : Shape) (ok : σ .most ≤ 8 * σ .indexed) (r : Reader) (f : Legal σ ok r) where
-  -- and of a legal reader as many as its stored pages, of C
+  -- those of a legal reader are as many as its stored pages below C
   pub ones-pages : onesOf (r .guarded .index) ≡ pagesSet (r .guarded .index) (length (r .guarded .templates) / 512)
   unfolding stored bit capacity
   ones-pages =
       let k : Good σ ok r = good-of σ ok r (f .typed) (f .legal) in
       sym (set-ones (r .guarded .index) (f .typed .index)) ∙ below-capacity (r .guarded .index) (capacity (r .guarded)) (omega (arith, ok, k .shelf .high, k .shelf .wide)) (k .clear)
 
-  -- TempleteNum tells them
+  -- TempleteNum tells that number
   pub ones-told : (s : List ℕ) (lent : Lent) → T (fitLent lent) → locked (r .plain) ≡ false → hear (r .plain .address) s ≡ order (command (barred templeteNum))
       → Gives (acknowledge (r .plain .address) 0x00 (word (onesOf (r .guarded .index)))) (rested r) s lent (callOf σ r s lent)
   ones-told s lent u l h =
       let same = ap₂ (λ (a : List ℕ) (n : ℕ). acknowledge a 0x00 (word n)) (spared r .address) (ap setBits (spared r .index) ∙ set-ones (r .guarded .index) (f .typed .index)) in
       subst (λ (x : List ℕ). Gives x (rested r) s lent (callOf σ r s lent)) same (tells-number σ r s lent (f .legal) u l h)
 
--- and C's count of 32 bytes is them
+-- and the service for C gives it for 32 bytes
 pub ones-served : (x : List ℕ) → length x ≡ 32 → Bytes x → countService x ≡ onesOf x
 unfolding countService core
 ones-served x e h = rw e (set-ones x h)

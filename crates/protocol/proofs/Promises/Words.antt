@@ -10,6 +10,7 @@ use borrow.Author.Tests.{eqb-true, eq-eqb}
 use lib.ListN.{length, getD, take, replicate}
 use Rattle.protocol.specs.Numbers.{pageBytes, leastPages, mostPages, indexBytes, indexPageBytes, notepadBytes, noteBytes, replyRoom, fourBytes, lowestLevel, highestLevel, lowestBaud, highestBaud, highestSize, baudParameter, levelParameter, sizeParameter, verifiedStatus, firstMark, secondMark, headBytes, frameBytes, commandPacket, dataPacket, acknowledgePacket, lastPacket, shortest, longest, longestOther, holds, done, badPacket, badPage, nothingThere, nothingToSend, transferFailed, badRange, wrongPassword, unknownCommand, badParameter, badValue, badNotePage, passwordFirst, badLength, badRoom, badSetting, badContent, noCount}
 use Rattle.protocol.specs.Bytes.{Bytes, two, four, same, lay, joined}
+use Rattle.protocol.specs.Tests.{countBelow}
 use Rattle.protocol.specs.Index.{bit, stored, setBits}
 use Rattle.protocol.specs.Reader.{closed, opened, unfit, Plain, Guarded, capacity, sizeOf, keyed, locked, bufferOf, emptied, filledWith, fresh, zeroed}
 use Rattle.protocol.specs.Table.{isBuffer, second, statusOf}
@@ -181,6 +182,10 @@ pub record Lists : Type 0 where
   pub laid-behind : (i : ℕ) (s d : List ℕ) → i + length s ≤ length d → (j : ℕ) → i + length s ≤ j → getD (lay i s d) j 0 ≡ getD d j 0
   -- lists one behind the other
   pub joined-is : (ss : List (List ℕ)) → joined ss ≡ foldr _++_ [] ss
+  -- of how many numbers below n a test is true
+  pub count-none : (f : ℕ → Bool) → countBelow f 0 ≡ 0
+  pub count-true : (f : ℕ → Bool) (n : ℕ) → f n ≡ true → countBelow f (suc n) ≡ countBelow f n + 1
+  pub count-false : (f : ℕ → Bool) (n : ℕ) → f n ≡ false → countBelow f (suc n) ≡ countBelow f n
   -- the reply is the front of the reply room, as long as was told
   pub reply-is : (t : Told) → replyOf t ≡ take (t .length) (t .room)
 
@@ -207,7 +212,7 @@ joined-of [] = refl
 joined-of (s ∷ ss) = ap (λ (t : List ℕ). s ++ t) (joined-of ss)
 
 pub lists : Lists
-unfolding Bytes replyOf
+unfolding Bytes countBelow replyOf
 lists =
     record {
       bytes-means = λ s. (λ h. h, λ h. h);
@@ -219,5 +224,8 @@ lists =
       laid-inside = at-inside;
       laid-behind = at-behind;
       joined-is = joined-of;
+      count-none = λ f. refl;
+      count-true = λ f n e. rw e (omega arith);
+      count-false = λ f n e. rw e (omega arith);
       reply-is = λ t. refl;
     }

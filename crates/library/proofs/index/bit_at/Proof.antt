@@ -1,7 +1,6 @@
 -- The byte shifted down by the place has the page's bit lowest, and the mask leaves that bit alone.
 use mathlib.Core.Path.{_≡_, _∙_}
-use Prim.Native.Nat.{ℕ, _/_, _^_, _≤_}
-use native.Mathlib.Omega.{arith}
+use Prim.Native.Nat.{ℕ, _/_, _^_}
 use lib.Bits.{bitAnd}
 use borrow.Author.Needs.{needs}
 use Rattle.protocol.specs.Index.{bit}
@@ -9,9 +8,8 @@ use Rattle.protocol.proofs.Laws.Bits.{shift-bit}
 use Rattle.library.proofs.index.bit_at.Statement.{statement}
 use Rattle.library.proofs.index.bit_at.Tie as tie
 
-masked : (b k r : ℕ) → r ≡ bitAnd (b / 2 ^ k) 1 → (r ≡ bit b k) × (r ≤ 1)
-unfolding bit
-masked b k r e = let f : r ≡ bit b k = e ∙ shift-bit b k in (f, omega arith)
+masked : (b k r : ℕ) → r ≡ bitAnd (b / 2 ^ k) 1 → r ≡ bit b k
+masked b k r e = e ∙ shift-bit b k
 
 shared-slice-read-b : tie.Need-shared-slice-read-b
 shared-slice-read-b c = search needs

@@ -23,7 +23,7 @@ shared-slice-read-n : tie.Need-shared-slice-read-n Inv-loop μ-loop
 shared-slice-read-n c = search needs
 
 add-n : tie.Need-add-n Inv-loop μ-loop
-add-n c = search ones-fit
+add-n c = search (ones-fit, c .shared-slice-known .given)
 
 add-i : tie.Need-add-i Inv-loop μ-loop
 add-i c = search needs
@@ -32,7 +32,7 @@ loop-less : tie.Need-loop-less Inv-loop μ-loop
 loop-less c = search needs
 
 loop-again : tie.Need-loop-again Inv-loop μ-loop
-loop-again c = (omega arith, (search ones-most, search ones-more))
+loop-again c = (omega arith, (search (ones-most, c .shared-slice-known .given), search ones-more))
 
 returns : tie.Need-returns Inv-loop μ-loop
 returns c = (search ones-all, omega arith)

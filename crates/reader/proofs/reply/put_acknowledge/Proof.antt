@@ -51,7 +51,7 @@ module _ (k n : ℕ) (w : List ℕ) where
   some : (x : List ℕ) → x ≡ k ∷ w → take (n + 1) x ≡ k ∷ take n w
   some x f = rw (f, add-one) refl
 
--- an address has four bytes, and a list 32
+-- the address has four bytes, and the listed bytes are 32
 four-bytes : (c : tie.Start) → length (c .args .a .settings .address) ≡ fourBytes
 four-bytes c = search (needs, c .good)
 
