@@ -11,13 +11,13 @@ use Rattle.library.proofs.index.count_bits.Statement.{statement}
 use Rattle.library.proofs.index.count_bits.Tie as tie
 
 abbrev Inv-loop : tie.InvT-loop
-Inv-loop index n₀ i₀ n i = (i ≤ length index) × ((n ≤ 8 * i) × (n + setBits (drop i index) ≡ setBits index))
+Inv-loop index n₀ i₀ n i = (n + setBits (drop i index) ≡ setBits index) × ((i ≤ length index) × (n ≤ 8 * i))
 
 abbrev μ-loop : tie.MeasureT-loop
 μ-loop index n₀ i₀ n i = length index - i
 
 loop-holds : tie.Need-loop-holds Inv-loop μ-loop
-loop-holds c = (omega arith, (omega arith, search zero-add))
+loop-holds c = (search zero-add, (omega arith, omega arith))
 
 shared-slice-read-n : tie.Need-shared-slice-read-n Inv-loop μ-loop
 shared-slice-read-n c = search needs
@@ -32,7 +32,7 @@ loop-less : tie.Need-loop-less Inv-loop μ-loop
 loop-less c = search needs
 
 loop-again : tie.Need-loop-again Inv-loop μ-loop
-loop-again c = (omega arith, (search (ones-most, c .shared-slice-known .given), search ones-more))
+loop-again c = (search ones-more, (omega arith, search (ones-most, c .shared-slice-known .given)))
 
 returns : tie.Need-returns Inv-loop μ-loop
 returns c = (search ones-all, omega arith)
