@@ -17,7 +17,7 @@ use Rattle.protocol.specs.Bytes.{Bytes, byteAt}
 use Rattle.protocol.specs.Tests.{every, countBelow}
 use Rattle.protocol.specs.Index.{bit, stored, setBit, clearBit, clearBits, bits, setBits, clearFrom}
 use Rattle.protocol.proofs.Laws.Bits.{everyBit, every-bit, shift-byte}
-use Rattle.protocol.proofs.Laws.Count.{setIn, ones-set, set-first}
+use Rattle.protocol.proofs.Laws.Count.{ones-first}
 use Rattle.protocol.proofs.Laws.Index.{bit-zero, set-or, clear-and}
 
 -- ---- one bit
@@ -76,9 +76,8 @@ module _ (x : List ℕ) (n i : ℕ) (e : n + setBits (drop i x) ≡ setBits x) w
   pub ones-more : ((k : ℕ) → Fits w8 (getD x k 0)) → i < length x → n + ones (byteAt x i) + setBits (drop (i + 1) x) ≡ setBits x
   ones-more h l =
       let s : i + 1 ≡ suc i = omega arith in
-      let o : ones (byteAt x i) ≡ setIn 8 (byteAt x i) = ones-set 8 (byteAt x i) (h i .fits) in
-      let f : setBits (drop i x) ≡ setIn 8 (byteAt x i) + setBits (drop (suc i) x) = ap setBits (drop-cons x i 0 l) ∙ set-first (byteAt x i) (drop (suc i) x) in
-      rw s (omega (arith, o, f, e))
+      let f : setBits (drop i x) ≡ ones (byteAt x i) + setBits (drop (suc i) x) = ap setBits (drop-cons x i 0 l) ∙ ones-first (byteAt x i) (drop (suc i) x) (h i .fits) in
+      rw s (omega (arith, f, e))
 
   pub ones-all : length x ≤ i → n ≡ setBits x
   unfolding setBits countBelow

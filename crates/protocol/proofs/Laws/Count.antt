@@ -10,7 +10,7 @@ use lib.Arith.{lt-one}
 use lib.Pow.{shr-lt, shr-shr}
 use lib.Count.{ones, ones-step}
 use lib.ListN.{length}
-use Rattle.protocol.specs.Bytes.{Bytes}
+use Rattle.protocol.specs.Bytes.{Bytes, byteAt}
 use Rattle.protocol.specs.Tests.{countBelow}
 use Rattle.protocol.specs.Index.{bit, stored, bits, setBits, clearFrom}
 use Rattle.protocol.proofs.Laws.Index.{clear-from}
@@ -83,7 +83,7 @@ behind-byte b x q =
     rw (d, m) refl
 
 -- those of the first byte, and of the others
-pub set-first : (b : ℕ) (x : List ℕ) → setBits (b ∷ x) ≡ setIn 8 b + setBits x
+set-first : (b : ℕ) (x : List ℕ) → setBits (b ∷ x) ≡ setIn 8 b + setBits x
 unfolding setBits stored countBelow
 set-first b x =
     let e : 8 * suc (length x) ≡ 8 + bits x = omega arith in
@@ -91,18 +91,28 @@ set-first b x =
     ∙ count-add (stored (b ∷ x)) 8 (bits x)
     ∙ ap (λ (n : ℕ). setIn 8 b + n) (count-ext (λ q. stored (b ∷ x) (8 + q)) (stored x) (bits x) (λ q l. behind-byte b x q))
 
--- the bits of weight 1, 2, 4, ... 128 of a byte; and those of every byte, added
-pub eight : (b : ℕ) → setIn 8 b ≡ b % 2 + b / 2 % 2 + b / 4 % 2 + b / 8 % 2 + b / 16 % 2 + b / 32 % 2 + b / 64 % 2 + b / 128 % 2
+-- the same by the first byte's ones
+pub ones-first : (b : ℕ) (x : List ℕ) → b < 256 → setBits (b ∷ x) ≡ ones b + setBits x
+ones-first b x h = set-first b x ∙ ap (λ (n : ℕ). n + setBits x) (sym (ones-set 8 b h))
+
+-- whatever gives the set bits of each byte: added over the bytes
+set-added : (f : ℕ → ℕ) (x : List ℕ) → ((i : ℕ) → setIn 8 (byteAt x i) ≡ f (byteAt x i)) → setBits x ≡ foldr (λ b n. f b + n) 0 x
+unfolding setBits countBelow
+set-added f [] e = refl
+set-added f (b ∷ x) e = set-first b x ∙ ap₂ (λ (m n : ℕ). m + n) (e 0) (set-added f x (λ i. e (suc i)))
+
+-- the bits of weight 1, 2, 4, ... 128 of a byte
+abbrev pub weights : ℕ → ℕ
+weights b = b % 2 + b / 2 % 2 + b / 4 % 2 + b / 8 % 2 + b / 16 % 2 + b / 32 % 2 + b / 64 % 2 + b / 128 % 2
+
+pub eight : (b : ℕ) → setIn 8 b ≡ weights b
 unfolding countBelow bit
 eight b = simp as-number (omega arith)
 
-pub set-weights : (x : List ℕ) → setBits x ≡ foldr (λ b n. b % 2 + b / 2 % 2 + b / 4 % 2 + b / 8 % 2 + b / 16 % 2 + b / 32 % 2 + b / 64 % 2 + b / 128 % 2 + n) 0 x
-unfolding setBits countBelow
-set-weights [] = refl
-set-weights (b ∷ x) = set-first b x ∙ ap₂ (λ (m n : ℕ). m + n) (eight b) (set-weights x)
+pub set-weights : (x : List ℕ) → setBits x ≡ foldr (λ b n. weights b + n) 0 x
+set-weights x = set-added weights x (λ i. eight (byteAt x i))
 
--- the ones of every byte, added
+-- the ones of a byte
 pub set-ones : (x : List ℕ) → Bytes x → setBits x ≡ foldr (λ b n. ones b + n) 0 x
-unfolding setBits countBelow Bytes
-set-ones [] h = refl
-set-ones (b ∷ x) h = set-first b x ∙ ap₂ (λ (m n : ℕ). m + n) (sym (ones-set 8 b (h 0))) (set-ones x (λ i. h (suc i)))
+unfolding Bytes
+set-ones x h = set-added ones x (λ i. sym (ones-set 8 (byteAt x i) (h i)))

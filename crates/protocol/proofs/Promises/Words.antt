@@ -183,9 +183,9 @@ pub record Lists : Type 0 where
   -- lists one behind the other
   pub joined-is : (ss : List (List ℕ)) → joined ss ≡ foldr _++_ [] ss
   -- of how many numbers below n a test is true
-  pub count-none : (f : ℕ → Bool) → countBelow f 0 ≡ 0
-  pub count-true : (f : ℕ → Bool) (n : ℕ) → f n ≡ true → countBelow f (suc n) ≡ countBelow f n + 1
-  pub count-false : (f : ℕ → Bool) (n : ℕ) → f n ≡ false → countBelow f (suc n) ≡ countBelow f n
+  pub none-counted : (f : ℕ → Bool) → countBelow f 0 ≡ 0
+  pub true-counted : (f : ℕ → Bool) (n : ℕ) → f n ≡ true → countBelow f (suc n) ≡ countBelow f n + 1
+  pub false-counted : (f : ℕ → Bool) (n : ℕ) → f n ≡ false → countBelow f (suc n) ≡ countBelow f n
   -- the reply is the front of the reply room, as long as was told
   pub reply-is : (t : Told) → replyOf t ≡ take (t .length) (t .room)
 
@@ -224,8 +224,8 @@ lists =
       laid-inside = at-inside;
       laid-behind = at-behind;
       joined-is = joined-of;
-      count-none = λ f. refl;
-      count-true = λ f n e. rw e (omega arith);
-      count-false = λ f n e. rw e (omega arith);
+      none-counted = λ f. refl;
+      true-counted = λ f n e. rw e (omega arith);
+      false-counted = λ f n e. rw e (omega arith);
       reply-is = λ t. refl;
     }
