@@ -23,6 +23,7 @@ pub mod Switch
 pub mod StaysLegal
 pub mod ReplyFits
 pub mod ValidCount
+pub mod Untouched
 pub mod Ones
 pub mod SizeCode
 pub mod FirstDownload

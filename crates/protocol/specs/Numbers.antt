@@ -177,6 +177,10 @@ badNotePage = 0x1c
 abbrev pub passwordFirst : ℕ
 passwordFirst = 0x21
 
+-- a page that is stored already (request [5])
+abbrev pub pageTaken : ℕ
+pageTaken = 0x22
+
 -- ---- numbers a caller gets back
 
 abbrev pub badLength : ℕ

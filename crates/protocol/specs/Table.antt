@@ -1,10 +1,10 @@
 -- The sixteen commands: document 01's table, right half. Each row's tests, left to right, and its effect.
-use mathlib.Core.Bool.{Bool, _&&_, _||_, cond}
+use mathlib.Core.Bool.{Bool, _&&_, _||_, not, cond}
 use mathlib.Core.List.{List, [], _∷_}
 use Prim.Native.Nat.{ℕ, _+_, _*_, _/_}
 use lib.Dec.{eqb, ltb, leb}
 use lib.ListN.{length}
-use Rattle.protocol.specs.Numbers.{pageBytes, noteBytes, indexPageBytes, lowestLevel, highestLevel, lowestBaud, highestBaud, highestSize, baudParameter, levelParameter, sizeParameter, verifiedStatus, done, badPacket, badPage, nothingThere, nothingToSend, badRange, wrongPassword, badParameter, badValue, badNotePage}
+use Rattle.protocol.specs.Numbers.{pageBytes, noteBytes, indexPageBytes, lowestLevel, highestLevel, lowestBaud, highestBaud, highestSize, baudParameter, levelParameter, sizeParameter, verifiedStatus, done, badPacket, badPage, nothingThere, nothingToSend, badRange, wrongPassword, badParameter, badValue, badNotePage, pageTaken}
 use Rattle.protocol.specs.Bytes.{two, part, zeros, same, lay, joined}
 use Rattle.protocol.specs.Tests.{Test, within}
 use Rattle.protocol.specs.Index.{stored, setBit, clearBits, setBits}
@@ -83,7 +83,9 @@ statusOf p = cond (p .verified) verifiedStatus 0
 unfoldable pub rule : Reader → Barred → Row
 rule r (store b p) =
     let g = r .guarded in
-    does ((isBuffer b, badPacket) ∷ (ltb p (capacity g), badPage) ∷ (bufferOf (second b) g .filled, nothingThere) ∷ []) (fillPage (second b) p)
+    does
+    ((isBuffer b, badPacket) ∷ (ltb p (capacity g), badPage) ∷ (bufferOf (second b) g .filled, nothingThere) ∷ (not (stored (g .index) p), pageTaken) ∷ [])
+    (fillPage (second b) p)
 rule r (loadChar b p) =
     let g = r .guarded in
     does ((isBuffer b, badPacket) ∷ (ltb p (capacity g), badPage) ∷ (stored (g .index) p, nothingThere) ∷ []) (fillBuffer (second b) p)

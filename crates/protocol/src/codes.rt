@@ -24,3 +24,5 @@ pub const BAD_VALUE: u8 = 0x1B;
 pub const BAD_NOTE_PAGE: u8 = 0x1C;
 
 pub const PASSWORD_FIRST: u8 = 0x21;
+
+pub const PAGE_TAKEN: u8 = 0x22;

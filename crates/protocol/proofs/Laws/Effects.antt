@@ -36,7 +36,7 @@ abbrev pub page : Reader → ℕ → List ℕ
 page r q = part (pageBytes * q) pageBytes (r .guarded .templates)
 
 -- n pages laid over from p on: every other page keeps its bytes
-away : (t b : List ℕ) (p n : ℕ) → length b ≡ pageBytes * n → pageBytes * (p + n) ≤ length t → (q : ℕ) → (p ≤ q → q < p + n → ⊥)
+pub away : (t b : List ℕ) (p n : ℕ) → length b ≡ pageBytes * n → pageBytes * (p + n) ≤ length t → (q : ℕ) → (p ≤ q → q < p + n → ⊥)
     → part (pageBytes * q) pageBytes (lay (pageBytes * p) b t) ≡ part (pageBytes * q) pageBytes t
 away t b p n e h q o = go (decLt q p) (decLt q (p + n))
   where

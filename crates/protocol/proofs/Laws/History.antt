@@ -1,6 +1,6 @@
 -- The library and what its host saw: a law of every Store, DeletChar and Empty that was answered 00h is a law of every sequence of calls and
 -- line switches.
-use mathlib.Core.Bool.{Bool, true, false, cond}
+use mathlib.Core.Bool.{Bool, true, false, not, cond}
 use mathlib.Core.Path.{_≡_, refl, ap, _∙_}
 use mathlib.Core.Logic.{_⊎_, inl, inr}
 use mathlib.Core.List.{List, [], _∷_, _++_}
@@ -14,7 +14,7 @@ use Rattle.protocol.specs.Numbers.{pageBytes, done}
 use Rattle.protocol.specs.Bytes.{two, zeros, same, lay, follow}
 use Rattle.protocol.specs.Packet.{packet, addressAt, identifierAt, rightAt, contentAt}
 use Rattle.protocol.specs.Finder.{findOf}
-use Rattle.protocol.specs.Index.{setBit, clearBits}
+use Rattle.protocol.specs.Index.{stored, setBit, clearBits}
 use Rattle.protocol.specs.Reader.{Transfer, closed, opened, unfit, Reader, capacity, bufferOf, emptied, withLibrary, withNotepad, withBuffer}
 use Rattle.protocol.specs.Commands.{Barred, store, loadChar, upChar, downChar, deletChar, empty, setSysPara, readSysPara, setPassword, setAddress, writeNotepad, readNotepad, templeteNum, readIndexTable, barred, command}
 use Rattle.protocol.specs.Data.{acknowledge}
@@ -22,16 +22,22 @@ use Rattle.protocol.specs.Table.{second, rule, apply}
 use Rattle.protocol.specs.Step.{Heard, nothing, order, hearAs, hearAt, hear, Said, silence, says, carryAs, carryFree, ended, rested, takeAs, answer, stepOf, switched, wiped}
 use Rattle.protocol.specs.Call.{Shape, Lent, fitBuffers, fitLengths, legal, Ended, replyOf, refused, carried, callOf, switchRefusal, switchAs, switchOf}
 use Rattle.protocol.specs.Dialogue.{Event, received, switch, on, finally, exchanges, Act, put, cut, cutAll, actsOf, actsIn, addressee, asks, grants, actsSeen, history}
-use Rattle.protocol.proofs.Laws.Logic.{and-l, and-r, passed}
+use Rattle.protocol.proofs.Laws.Logic.{T→false, and-l, and-r, passed}
 use Rattle.protocol.proofs.Laws.Lists.{same-refl, same-eq, same-front, take-lay}
 use Rattle.protocol.proofs.Laws.Answers.{spared, answer-kinds, call-kinds}
 use Rattle.protocol.proofs.Laws.Legal.{buffer-long, fit-buffer, Shelf, shelf}
 
--- a law of templates t, index x and the acts that the host saw so far, kept by each act. A library of c pages has a bit for each
+-- templates t of c pages, and an index x of m bytes that has a bit for each
+pub record Library (m : ℕ) (t x : List ℕ) (c : ℕ) : Type 0 where
+  pub long : length t ≡ pageBytes * c
+  pub wide : length x ≡ m
+  pub small : c ≤ 8 * m
+
+-- a law of templates t, index x and the acts that the host saw so far, kept by each act; a page is put where none is stored
 pub record Keeps (m : ℕ) (P : List ℕ → List ℕ → List Act → Type 0) : Type 0 where
-  pub puts : (t x : List ℕ) (old : List Act) → P t x old → (c : ℕ) → length t ≡ pageBytes * c → c ≤ 8 * m → (p : ℕ) (b : List ℕ) → p < c
-      → length b ≡ pageBytes → P (lay (pageBytes * p) b t) (setBit x p) (put p ∷ old)
-  pub cuts : (t x : List ℕ) (old : List Act) → P t x old → (c : ℕ) → length t ≡ pageBytes * c → c ≤ 8 * m → (p n : ℕ) → p + n ≤ c
+  pub puts : (t x : List ℕ) (old : List Act) → P t x old → (c : ℕ) → Library m t x c → (p : ℕ) (b : List ℕ) → p < c → length b ≡ pageBytes
+      → stored x p ≡ false → P (lay (pageBytes * p) b t) (setBit x p) (put p ∷ old)
+  pub cuts : (t x : List ℕ) (old : List Act) → P t x old → (c : ℕ) → Library m t x c → (p n : ℕ) → p + n ≤ c
       → P (lay (pageBytes * p) (zeros (pageBytes * n)) t) (clearBits x p n) (cut p n ∷ old)
   pub clears : (t x : List ℕ) (old : List Act) → P t x old → P (zeros (length t)) (zeros (length x)) (cutAll ∷ old)
 
@@ -51,8 +57,8 @@ grants-done a = same-refl (acknowledge a done [])
 
 -- ---- an answer, and the acts that its host saw
 
-module _ (m : ℕ) (P : List ℕ → List ℕ → List Act → Type 0) (law : Keeps m P) (r : Reader) (c : ℕ) (long : length (r .guarded .templates) ≡ pageBytes * c)
-    (small : c ≤ 8 * m) (fit : T (fitBuffers (r .guarded))) (old : List Act) (k : P (r .guarded .templates) (r .guarded .index) old) (h : Heard) where
+module _ (m : ℕ) (P : List ℕ → List ℕ → List Act → Type 0) (law : Keeps m P) (r : Reader) (c : ℕ) (library : Library m (r .guarded .templates) (r .guarded .index) c)
+    (fit : T (fitBuffers (r .guarded))) (old : List Act) (k : P (r .guarded .templates) (r .guarded .index) old) (h : Heard) where
   -- templates t and index x after a reply
   abbrev After : List ℕ → List ℕ → List ℕ → Type 0
   After reply t x = P t x (cond (grants (r .plain .address) reply) (actsIn h) [] ++ old)
@@ -80,12 +86,12 @@ module _ (m : ℕ) (P : List ℕ → List ℕ → List Act → Type 0) (law : Ke
   held : P (u .guarded .templates) (u .guarded .index) old
   held = rw (spared r .templates, spared r .index) k
 
-  long-held : length (u .guarded .templates) ≡ pageBytes * c
-  long-held = ap length (spared r .templates) ∙ long
+  library-held : Library m (u .guarded .templates) (u .guarded .index) c
+  library-held = rw (spared r .templates, spared r .index) library
 
   capacity-held : capacity (u .guarded) ≡ c
   unfolding capacity
-  capacity-held = omega (arith, long-held)
+  capacity-held = omega (arith, library-held .long)
 
   fit-held : T (fitBuffers (u .guarded))
   unfolding rested ended emptied
@@ -101,13 +107,14 @@ module _ (m : ℕ) (P : List ℕ → List ℕ → List Act → Type 0) (law : Ke
   unfolding carryAs rule apply withLibrary withNotepad withBuffer follow actsIn actsOf
   does-keeps (store b p) e t =
       let l : p < capacity (u .guarded) = ltb→lt p (capacity (u .guarded)) (search (and-l, and-r)) in
+      let v : T (not (stored (u .guarded .index) p)) = search (and-l, and-r) depth 8 in
       granted _ _ _ (put p ∷ []) (ap actsIn e) refl
-      (law .puts (u .guarded .templates) (u .guarded .index) old held c long-held small p (bufferOf (second b) (u .guarded) .bytes) (omega (arith, capacity-held))
-      (buffer-long (second b) (u .guarded) fit-held))
+      (law .puts (u .guarded .templates) (u .guarded .index) old held c library-held p (bufferOf (second b) (u .guarded) .bytes) (omega (arith, capacity-held))
+      (buffer-long (second b) (u .guarded) fit-held) (T→false (stored (u .guarded .index) p) v))
   does-keeps (deletChar p n) e t =
       let l : p + n ≤ capacity (u .guarded) = leb→le (p + n) (capacity (u .guarded)) (search (and-l, and-r)) in
       granted _ _ _ (cut p n ∷ []) (ap actsIn e) refl
-      (law .cuts (u .guarded .templates) (u .guarded .index) old held c long-held small p n (omega (arith, capacity-held)))
+      (law .cuts (u .guarded .templates) (u .guarded .index) old held c library-held p n (omega (arith, capacity-held)))
   does-keeps empty e t = granted _ _ _ (cutAll ∷ []) (ap actsIn e) refl (law .clears (u .guarded .templates) (u .guarded .index) old held)
   does-keeps (loadChar b p) e t = unasked _ _ _ (spared r .templates) (spared r .index) (ap actsIn e)
   does-keeps (upChar b) e t = unasked _ _ _ (spared r .templates) (spared r .index) (ap actsIn e)
@@ -177,7 +184,8 @@ module _ (σ : Shape) (ok : σ .most ≤ 8 * σ .indexed) (P : List ℕ → List
       heard : Shelf σ ok (r .guarded) → T (fitBuffers (r .guarded)) → (addressee s (findOf s) ≡ r .plain .address) ⊎ (hear (r .plain .address) s ≡ nothing)
           → Kept (o .after) (cond (grants (addressee s (findOf s)) (o .reply)) (actsIn (hear (addressee s (findOf s)) s)) [] ++ old)
       heard l f (inl e) =
-          rw e (answer-keeps (σ .indexed) P law r (capacity (r .guarded)) (l .long) (omega (arith, ok, l .high)) f old k (hear (r .plain .address) s))
+          let b : Library (σ .indexed) (r .guarded .templates) (r .guarded .index) (capacity (r .guarded)) = record { long = l .long; wide = l .wide; small = omega (arith, ok, l .high) } in
+          rw e (answer-keeps (σ .indexed) P law r (capacity (r .guarded)) b f old k (hear (r .plain .address) s))
       heard l f (inr e) = rw e (quietly (addressee s (findOf s)))
         where
           quietly : (a : List ℕ) → Kept (answer r nothing .after) (cond (grants a (answer r nothing .reply)) (actsIn (hear a s)) [] ++ old)

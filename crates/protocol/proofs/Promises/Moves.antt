@@ -78,14 +78,16 @@ module _ (σ : Shape) (ok : σ .most ≤ 8 * σ .indexed) (r : Reader) (l : Lega
     pub others : (q : ℕ) → q ≢ p → page (called .after) q ≡ page r q
     pub bits : (q : ℕ) → has (called .after) q ≡ (eqb p q || has r q)
 
-  pub store-moves : (b p : ℕ) → Asks (store b p) → Numbered b → p < pages r → buffer b (t .guarded) .filled ≡ true → Stored b p
+  pub store-moves : (b p : ℕ) → Asks (store b p) → Numbered b → p < pages r → buffer b (t .guarded) .filled ≡ true → has r p ≡ false → Stored b p
   unfolding rule apply withLibrary carryAs follow stored bit
-  store-moves b p h i m e =
+  store-moves b p h i m e o =
       let g : Guarded = t .guarded in
       let c : Buffer = bufferOf (second b) g in
       let x = below p m in
       let f : T (c .filled) = rw (buffer-is b i g, e) tt in
-      let d : T (passed (rule t (store b p) .tests)) = and-i (isBuffer b) (ltb p (capacity g) && (c .filled && true)) (numbered b .1 i) (and-i (ltb p (capacity g)) (c .filled && true) x (and-i (c .filled) true f tt)) in
+      let y : T (not (stored (g .index) p)) = rw (spared r .index, o) tt in
+      let z : T (isBuffer b) = numbered b .1 i in
+      let d : T (passed (rule t (store b p) .tests)) = search and-i depth 9 in
       let n : p < capacity g = ltb→lt p (capacity g) x in
       let w : Filled t (second b) p = fill-page t (second b) p (buffer-long (second b) g (k .buffers)) (omega (arith, k .shelf .long)) in
       let a = carried (store b p) h d in

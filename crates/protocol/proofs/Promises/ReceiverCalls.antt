@@ -1,26 +1,29 @@
 -- A receiver's pieces are document 01's calls on its held bytes: so what is promised of any sequence of calls is promised of pieces.
 use mathlib.Core.Bool.{Bool, true, false, cond}
 use mathlib.Core.Path.{_≡_, refl, sym, ap, _∙_, subst}
+use mathlib.Core.Logic.{_⊎_}
 use mathlib.Core.List.{List, [], _∷_}
 use Prim.Native.Nat.{ℕ, zero, suc, _*_, _≤_}
 use native.Mathlib.Omega.{arith}
 use lib.Dec.{leb, le→leb}
 use lib.ListN.{length, length-drop}
 use Rattle.protocol.specs.Numbers.{holds, longest}
-use Rattle.protocol.specs.Bytes.{zeros}
+use Rattle.protocol.specs.Bytes.{Bytes, zeros}
 use Rattle.protocol.specs.Index.{setBits}
 use Rattle.protocol.specs.Reader.{Reader}
 use Rattle.protocol.specs.Step.{stepOf}
 use Rattle.protocol.specs.Call.{Shape, Lent, Ended, carried, callOf, switchOf}
-use Rattle.protocol.specs.Dialogue.{Event, received, switch, on, finally, Dialogue, over, first, dialogue}
+use Rattle.protocol.specs.Dialogue.{Event, received, switch, on, finally, exchanges, Dialogue, over, first, dialogue}
 use Rattle.protocol.specs.Receiver.{holding, Line, Handed, runOf, handed, receiveOf, lineSwitchOf}
 use Rattle.protocol.specs.Caller.{onLine, finallyOn, runs, Talk, endsAt, begins, talk}
 use Rattle.protocol.proofs.Laws.Logic.{T→true}
 use Rattle.protocol.proofs.Laws.Answers.{switch-stays}
 use Rattle.protocol.proofs.Laws.Holding.{few-held, handedBy, receive-kinds, receive-call, switch-tells, switch-kinds}
+use Rattle.protocol.proofs.Promises.Told.{has}
 use Rattle.protocol.proofs.Promises.StaysLegal.{Legal}
 use Rattle.protocol.proofs.Promises.ReplyFits.{reply-fits}
 use Rattle.protocol.proofs.Promises.ValidCount.{livePages, valid-count}
+use Rattle.protocol.proofs.Promises.Untouched.{SawDeleted, Untouched, only-by-deletion}
 use Rattle.protocol.proofs.Promises.SizeCode.{Unset, code-kept}
 
 -- ---- one call
@@ -129,6 +132,13 @@ line-count σ ok x few z es =
 pub line-code : (σ : Shape) (x : Line) → x .receiver .count ≤ 267 → (es : List Event) → Unset σ (x .reader) (runs σ x es)
     → finallyOn σ x es .reader .plain .size ≡ x .reader .plain .size
 line-code σ x few es u = ap (λ (r : Reader). r .plain .size) (as-calls σ es x few) ∙ code-kept σ (runs σ x es) (x .reader) u
+
+-- request [5]'s stored pages: each stays as it was, or the host saw it deleted, of the runs that were held and the replies to them
+pub line-only-by-deletion : (σ : Shape) (ok : σ .most ≤ 8 * σ .indexed) (x : Line) → x .receiver .count ≤ 267 → Bytes (x .reader .guarded .index) → (q : ℕ)
+    → has (x .reader) q ≡ true → (es : List Event) → Untouched q (x .reader) (finallyOn σ x es .reader) ⊎ SawDeleted q (exchanges σ (x .reader) (runs σ x es))
+line-only-by-deletion σ ok x few y q s es =
+    subst (λ (r : Reader). Untouched q (x .reader) r ⊎ SawDeleted q (exchanges σ (x .reader) (runs σ x es))) (sym (as-calls σ es x few))
+    (only-by-deletion σ ok (x .reader) y q s (runs σ x es))
 
 -- the reply never exceeds the reply room that is asked for
 pub line-fits : (σ : Shape) (ok : σ .most ≤ 8 * σ .indexed) (x : Line) → x .receiver .count ≤ 267 → Legal σ ok (x .reader) → (piece : List ℕ) (lent : Lent)

@@ -1,5 +1,5 @@
 -- Document 01's table of commands, its tests: each row's, left to right, with the code that it gives where it fails. One table under one statement.
-use mathlib.Core.Bool.{Bool, true, false, _&&_}
+use mathlib.Core.Bool.{Bool, true, false, _&&_, not}
 use mathlib.Core.Path.{_≡_, refl, sym, ap, _∙_, subst}
 use mathlib.Core.Logic.{_⊎_, inl, inr, _↔_}
 use mathlib.Core.List.{List, [], _∷_, _++_}
@@ -17,7 +17,7 @@ use Rattle.protocol.specs.Data.{acknowledge}
 use Rattle.protocol.specs.Table.{Row, second, inRange, rule}
 use Rattle.protocol.specs.Step.{order, hear, says, carryAs, rested}
 use Rattle.protocol.specs.Call.{core, Lent, fitLent, legal, Ended, callOf}
-use Rattle.protocol.proofs.Laws.Logic.{T→true, and-l, and-r, and-i}
+use Rattle.protocol.proofs.Laws.Logic.{T→true, T→false, and-l, and-r, and-i}
 use Rattle.protocol.proofs.Laws.Lists.{follow-append}
 use Rattle.protocol.proofs.Laws.Lines.{Line, unless, Follows, Matches, follows}
 use Rattle.protocol.proofs.Laws.Answers.{spared, row-answer}
@@ -30,7 +30,7 @@ InRange k v = (k ≡ 4 → (1 ≤ v) × (v ≤ 12)) × ((k ≡ 5 → (1 ≤ v) �
 
 -- the table: of the reader t, unless this holds, that code
 abbrev pub lines : Reader → Barred → List Line
-lines t (store b p) = unless (Numbered b) 0x01 ∷ unless (p < pages t) 0x0b ∷ unless (buffer b (t .guarded) .filled ≡ true) 0x0c ∷ []
+lines t (store b p) = unless (Numbered b) 0x01 ∷ unless (p < pages t) 0x0b ∷ unless (buffer b (t .guarded) .filled ≡ true) 0x0c ∷ unless (has t p ≡ false) 0x22 ∷ []
 lines t (loadChar b p) = unless (Numbered b) 0x01 ∷ unless (p < pages t) 0x0b ∷ unless (has t p ≡ true) 0x0c ∷ []
 lines t (upChar b) = unless (Numbered b) 0x01 ∷ unless (buffer b (t .guarded) .filled ≡ true) 0x0d ∷ []
 lines t (downChar b) = unless (Numbered b) 0x01 ∷ []
@@ -49,6 +49,9 @@ lines t (readIndexTable p) = unless (p ≡ 0) 0x0b ∷ []
 
 truth : (b : Bool) → T b ↔ (b ≡ true)
 truth b = (λ t. T→true b t, λ e. rw e tt)
+
+untruth : (b : Bool) → T (not b) ↔ (b ≡ false)
+untruth b = (λ t. T→false b t, λ e. rw e tt)
 
 below : (p n : ℕ) → T (ltb p n) ↔ (p < n)
 below p n = (λ t. ltb→lt p n t, λ h. lt→ltb p n h)
@@ -107,7 +110,7 @@ module _ (r : Reader) (s : List ℕ) (lent : Lent) (f : T (legal core r)) (u : T
 
   matches : (c : Barred) → Matches (rule t c .tests) (lines t c)
   unfolding rule capacity stored bit
-  matches (store b p) = (numbered b, (refl, λ i. (below p (pages t), (refl, λ h. (filled t b i, (refl, λ e. tt))))))
+  matches (store b p) = (numbered b, (refl, λ i. (below p (pages t), (refl, λ h. (filled t b i, (refl, λ e. (untruth (has t p), (refl, λ n. tt))))))))
   matches (loadChar b p) = (numbered b, (refl, λ i. (below p (pages t), (refl, λ h. (truth (has t p), (refl, λ e. tt))))))
   matches (upChar b) = (numbered b, (refl, λ i. (filled t b i, (refl, λ e. tt))))
   matches (downChar b) = (numbered b, (refl, λ i. tt))

@@ -35,16 +35,16 @@ unfolding live
 tells-kept m =
     record {
       puts =
-          λ t x old k c long small p b l e.
+          λ t x old k c a p b l e v.
           record {
             fine = fine-with x p (k .fine);
-            pages = λ q. stored-with x (k .fine .bytes) p (omega (arith, k .fine .long)) q ∙ ap (λ (y : Bool). eqb p q || y) (k .pages q);
+            pages = λ q. stored-with x (k .fine .bytes) p (omega (arith, a .wide, a .small)) q ∙ ap (λ (y : Bool). eqb p q || y) (k .pages q);
           };
       cuts =
-          λ t x old k c long small p n l.
+          λ t x old k c a p n l.
           record {
             fine = fine-span x p n (k .fine);
-            pages = λ q. stored-span x p n (k .fine) (omega arith) q ∙ ap (λ (y : Bool). not (among p n q) && y) (k .pages q);
+            pages = λ q. stored-span x p n (k .fine) (omega (arith, a .small)) q ∙ ap (λ (y : Bool). not (among p n q) && y) (k .pages q);
           };
       clears =
           λ t x old k.

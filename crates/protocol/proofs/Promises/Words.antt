@@ -8,7 +8,7 @@ use native.Mathlib.Omega.{arith}
 use lib.Dec.{T, eqb, T-not, not-T}
 use borrow.Author.Tests.{eqb-true, eq-eqb}
 use lib.ListN.{length, getD, take, replicate}
-use Rattle.protocol.specs.Numbers.{pageBytes, leastPages, mostPages, indexBytes, indexPageBytes, notepadBytes, noteBytes, replyRoom, fourBytes, lowestLevel, highestLevel, lowestBaud, highestBaud, highestSize, baudParameter, levelParameter, sizeParameter, verifiedStatus, firstMark, secondMark, headBytes, frameBytes, commandPacket, dataPacket, acknowledgePacket, lastPacket, shortest, longest, longestOther, holds, done, badPacket, badPage, nothingThere, nothingToSend, transferFailed, badRange, wrongPassword, unknownCommand, badParameter, badValue, badNotePage, passwordFirst, badLength, badRoom, badSetting, badContent, noCount}
+use Rattle.protocol.specs.Numbers.{pageBytes, leastPages, mostPages, indexBytes, indexPageBytes, notepadBytes, noteBytes, replyRoom, fourBytes, lowestLevel, highestLevel, lowestBaud, highestBaud, highestSize, baudParameter, levelParameter, sizeParameter, verifiedStatus, firstMark, secondMark, headBytes, frameBytes, commandPacket, dataPacket, acknowledgePacket, lastPacket, shortest, longest, longestOther, holds, done, badPacket, badPage, nothingThere, nothingToSend, transferFailed, badRange, wrongPassword, unknownCommand, badParameter, badValue, badNotePage, passwordFirst, pageTaken, badLength, badRoom, badSetting, badContent, noCount}
 use Rattle.protocol.specs.Bytes.{Bytes, two, four, same, lay, joined}
 use Rattle.protocol.specs.Tests.{countBelow}
 use Rattle.protocol.specs.Index.{bit, stored, setBits}
@@ -35,8 +35,8 @@ pub record Numbers : Type 0 where
   pub packets : (firstMark ∷ secondMark ∷ headBytes ∷ frameBytes ∷ shortest ∷ longest ∷ longestOther ∷ holds ∷ []) ≡ (0xef ∷ 0x01 ∷ 9 ∷ 11 ∷ 3 ∷ 258 ∷ 256 ∷ 267 ∷ [])
   pub identifiers : (commandPacket ∷ dataPacket ∷ acknowledgePacket ∷ lastPacket ∷ []) ≡ (1 ∷ 2 ∷ 7 ∷ 8 ∷ [])
   pub codes :
-      (done ∷ badPacket ∷ badPage ∷ nothingThere ∷ nothingToSend ∷ transferFailed ∷ badRange ∷ wrongPassword ∷ unknownCommand ∷ badParameter ∷ badValue ∷ badNotePage ∷ passwordFirst ∷ [])
-      ≡ (0x00 ∷ 0x01 ∷ 0x0b ∷ 0x0c ∷ 0x0d ∷ 0x0e ∷ 0x10 ∷ 0x13 ∷ 0x19 ∷ 0x1a ∷ 0x1b ∷ 0x1c ∷ 0x21 ∷ [])
+      (done ∷ badPacket ∷ badPage ∷ nothingThere ∷ nothingToSend ∷ transferFailed ∷ badRange ∷ wrongPassword ∷ unknownCommand ∷ badParameter ∷ badValue ∷ badNotePage ∷ passwordFirst ∷ pageTaken ∷ [])
+      ≡ (0x00 ∷ 0x01 ∷ 0x0b ∷ 0x0c ∷ 0x0d ∷ 0x0e ∷ 0x10 ∷ 0x13 ∷ 0x19 ∷ 0x1a ∷ 0x1b ∷ 0x1c ∷ 0x21 ∷ 0x22 ∷ [])
 
 pub numbers : Numbers
 unfolding highestSize longest holds

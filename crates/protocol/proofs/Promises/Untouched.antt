@@ -1,0 +1,281 @@
+-- Document 02, request [5]: "Don't write over an enrolled finger." What Store answers for a page that is stored, how a host replaces a template, and that
+-- no other way leads from one stored template to another.
+use mathlib.Core.Bool.{Bool, true, false, true≢false, _&&_, _||_, not, cond}
+use mathlib.Core.Path.{_≡_, refl, sym, ap, _∙_, subst}
+use mathlib.Core.Logic.{_⊎_, inl, inr, _≢_}
+use mathlib.Core.List.{List, [], _∷_, _++_}
+use Prim.Native.Nat.{ℕ, zero, suc, _+_, _*_, _/_, _≤_, _<_}
+use native.Mathlib.Omega.{arith}
+use native.Mathlib.Decide.{ℕ-discrete, decLe, decLt}
+use lib.Dec.{T, eqb, ltb, leb}
+use lib.ListN.{length, drop, length-take, length-drop, length-replicate}
+use borrow.Author.Tests.{ne-eqb, le-leb, lt-leb, lt-ltb, le-ltb}
+use Rattle.protocol.specs.Bytes.{Bytes, part, zeros, same, lay}
+use Rattle.protocol.specs.Finder.{findOf}
+use Rattle.protocol.specs.Index.{bit, stored, setBit, clearBits}
+use Rattle.protocol.specs.Reader.{Plain, Buffer, Reader, locked}
+use Rattle.protocol.specs.Commands.{Barred, store, loadChar, upChar, downChar, deletChar, empty, setSysPara, readSysPara, setPassword, setAddress, writeNotepad, readNotepad, templeteNum, readIndexTable, free, barred, damaged, unknown, misfit, command}
+use Rattle.protocol.specs.Data.{acknowledge}
+use Rattle.protocol.specs.Step.{Heard, nothing, order, piece, hear, rested}
+use Rattle.protocol.specs.Call.{Shape, core, Lent, fitLent, legal, Ended, callOf}
+use Rattle.protocol.specs.Dialogue.{Event, received, on, finally, Exchange, exchanges, Act, put, cut, cutAll, actsOf, actsIn, addressee, asks, grants, actsSeen, history}
+use Rattle.protocol.proofs.Laws.Logic.{eqb-same}
+use Rattle.protocol.proofs.Laws.Lists.{same-eq}
+use Rattle.protocol.proofs.Laws.Index.{Fine, stored-with, stored-span, fine-with, fine-span, fine-zeros}
+use Rattle.protocol.proofs.Laws.Effects.{away}
+use Rattle.protocol.proofs.Laws.Answers.{spared}
+use Rattle.protocol.proofs.Laws.Locked.{rested-still}
+use Rattle.protocol.proofs.Laws.History.{Library, Keeps, events-keep}
+use Rattle.protocol.proofs.Promises.Told.{Replies, Says, pages, page, has, Numbered, buffer}
+use Rattle.protocol.proofs.Promises.StaysLegal.{Legal, good, rested-closed, stays-legal}
+use Rattle.protocol.proofs.Promises.Moves.{Stored, store-moves, Deleted, delete-moves}
+use Rattle.protocol.proofs.Promises.Rows.{rows}
+
+-- ---- "Store to a page whose bit is set must now answer 22h and change nothing", "after 01h, 0Bh and 0Ch"
+
+-- whatever bytes the page and the buffer have, the same ones too
+pub answers-22 : (r : Reader) (s : List ℕ) (lent : Lent) (f : T (legal core r)) (u : T (fitLent lent)) (l : locked (r .plain) ≡ false) (b p : ℕ)
+    → hear (r .plain .address) s ≡ order (command (barred (store b p))) → Numbered b → p < pages (rested r) → buffer b (rested r .guarded) .filled ≡ true
+    → has (rested r) p ≡ true → Says (rested r) 0x22 s lent (callOf core r s lent)
+answers-22 r s lent f u l b p h i m e o = rows r s lent f u l (store b p) h .0 i .0 m .0 e .1 (λ n. true≢false (sym o ∙ n))
+
+-- ---- "the host deletes first"
+
+-- q is none of the n numbers from p on
+apart : (p n q : ℕ) → (p ≤ q → q < p + n → ⊥) → (leb p q && ltb q (p + n)) ≡ false
+apart p n q o = go (decLe p q) (decLt q (p + n))
+  where
+    go : Dec (p ≤ q) → Dec (q < p + n) → (leb p q && ltb q (p + n)) ≡ false
+    go (yes e) (yes f) = absurd (o e f)
+    go (yes e) (no f) = rw (le-leb p q e, le-ltb q (p + n) (omega arith)) refl
+    go (no e) f = rw (lt-leb p q (omega arith)) refl
+
+-- a page of 512 bytes is there
+whole-page : (t : List ℕ) (p : ℕ) → length (part (512 * p) 512 t) ≡ 512 → p < length t / 512
+whole-page t p e = let f = length-take 512 (drop (512 * p) t) in let g = length-drop (512 * p) t in omega arith
+
+module _ (σ : Shape) (ok : σ .most ≤ 8 * σ .indexed) (r : Reader) (l : Legal σ ok r) (u : locked (r .plain) ≡ false) (s : List ℕ) (lent : Lent) (v : T (fitLent lent))
+    (s′ : List ℕ) (lent′ : Lent) (v′ : T (fitLent lent′)) where
+  -- the first call, and the one behind it
+  abbrev cleared : Ended
+  cleared = callOf σ r s lent
+
+  abbrev replaced : Ended
+  replaced = callOf σ (cleared .after) s′ lent′
+
+  -- both are answered 00h; page p has the buffer's bytes and its bit, and every other page keeps both
+  pub record Replaced (b p : ℕ) : Type 0 where
+    pub first : Replies (acknowledge (r .plain .address) 0x00 []) s lent cleared
+    pub next : Replies (acknowledge (r .plain .address) 0x00 []) s′ lent′ replaced
+    pub bytes : page (replaced .after) p ≡ buffer b (rested r .guarded) .bytes
+    pub others : (q : ℕ) → q ≢ p → page (replaced .after) q ≡ page r q
+    pub bits : (q : ℕ) → has (replaced .after) q ≡ (eqb p q || has r q)
+
+  pub delete-then-store : (b p : ℕ) → hear (r .plain .address) s ≡ order (command (barred (deletChar p 1)))
+      → hear (r .plain .address) s′ ≡ order (command (barred (store b p))) → Numbered b → p < pages r → buffer b (rested r .guarded) .filled ≡ true → Replaced b p
+  unfolding on
+  delete-then-store b p h h′ i m e =
+      record {
+        first = subst (λ (a : List ℕ). Replies (acknowledge a 0x00 []) s lent cleared) (spared r .address) (d .quiet .told);
+        next = subst (λ (a : List ℕ). Replies (acknowledge a 0x00 []) s′ lent′ replaced) (spared (cleared .after) .address ∙ address) (w .quiet .told);
+        bytes = w .bytes ∙ ap (λ (c : Buffer). c .bytes) buffers;
+        others = λ q o. w .others q o ∙ d .others q (λ j k. o (omega arith));
+        bits = λ q. w .bits q ∙ ap (λ (c : Bool). eqb p q || c) (d .bits q) ∙ bits q (ℕ-discrete p q);
+      }
+    where
+      d : Deleted σ ok r l u s lent v p 1
+      d = delete-moves σ ok r l u s lent v p 1 h m (omega arith)
+
+      address : cleared .after .plain .address ≡ r .plain .address
+      address = ap (λ (x : Plain). x .address) (d .quiet .settings) ∙ spared r .address
+
+      still : rested (cleared .after) ≡ cleared .after
+      still = rested-still (cleared .after) (ap (λ (x : Plain). x .transfer) (d .quiet .settings) ∙ rested-closed σ ok r (good σ ok r l))
+
+      -- the buffer is what it was
+      kept : (n : ℕ) → buffer n (cleared .after .guarded) ≡ buffer n (rested r .guarded)
+      kept zero = d .quiet .buffer1
+      kept (suc zero) = d .quiet .buffer1
+      kept (suc (suc n)) = d .quiet .buffer2
+
+      buffers : buffer b (rested (cleared .after) .guarded) ≡ buffer b (rested r .guarded)
+      buffers = ap (λ (x : Reader). buffer b (x .guarded)) still ∙ kept b
+
+      there : p < pages (cleared .after)
+      there = whole-page (cleared .after .guarded .templates) p (ap length (d .bytes p (omega arith) (omega arith)) ∙ length-replicate {A = ℕ} 512 0)
+
+      vacant : has (cleared .after) p ≡ false
+      vacant = d .bits p ∙ rw (le-leb p p (omega arith), lt-ltb p (p + 1) (omega arith)) refl
+
+      w : Stored σ ok (cleared .after) (stays-legal σ ok r l (received s lent)) (ap locked (d .quiet .settings) ∙ spared r .lock ∙ u) s′ lent′ v′ b p
+      w =
+          store-moves σ ok (cleared .after) (stays-legal σ ok r l (received s lent)) (ap locked (d .quiet .settings) ∙ spared r .lock ∙ u) s′ lent′ v′ b p
+          (ap (λ (a : List ℕ). hear a s′) address ∙ h′) i there (ap (λ (c : Buffer). c .filled) buffers ∙ e) vacant
+
+      bits : (q : ℕ) → Dec (p ≡ q) → (eqb p q || (not (leb p q && ltb q (p + 1)) && has r q)) ≡ (eqb p q || has r q)
+      bits q (yes f) = rw (← f, eqb-same p) refl
+      bits q (no f) = rw (ne-eqb p q f, apart p 1 q (λ j k. f (omega arith))) refl
+
+-- ---- what the host saw of a deletion
+
+-- the run asks the reader of an address for the command c, and the reply is that reader's 00h
+pub record Granted (x : Exchange) (c : Barred) : Type 0 where
+  pub address : List ℕ
+  pub asked : hear address (x .run) ≡ order (command (barred c))
+  pub reply : x .reply ≡ acknowledge address 0x00 []
+
+-- page q is among the pages of a DeletChar that was granted, or Empty was
+pub data Deletes (q : ℕ) (x : Exchange) : Type 0 where
+  one-of : (p n : ℕ) → Granted x (deletChar p n) → p ≤ q → q < p + n → Deletes q x
+  all : Granted x empty → Deletes q x
+
+abbrev pub SawDeleted : ℕ → List Exchange → Type 0
+SawDeleted q [] = ⊥
+SawDeleted q (x ∷ xs) = Deletes q x ⊎ SawDeleted q xs
+
+-- the same of the acts that the host saw
+abbrev Cut : ℕ → List Act → Type 0
+Cut q [] = ⊥
+Cut q (put p ∷ old) = Cut q old
+Cut q (cut p n ∷ old) = ((p ≤ q) × (q < p + n)) ⊎ Cut q old
+Cut q (cutAll ∷ old) = Unit {0}
+
+module _ (q : ℕ) (x : Exchange) (a : List ℕ) (e : x .reply ≡ acknowledge a 0x00 []) (old : List Act) where
+  abbrev Seen : Heard → Type 0
+  Seen h = hear a (x .run) ≡ h → Cut q (actsIn h ++ old) → Deletes q x ⊎ Cut q old
+
+  seen-order : (c : Barred) → Seen (order (command (barred c)))
+  unfolding actsIn actsOf
+  seen-order (deletChar p n) h (inl (l, m)) = inl (one-of p n record { address = a; asked = h; reply = e } l m)
+  seen-order (deletChar p n) h (inr d) = inr d
+  seen-order empty h d = inl (all record { address = a; asked = h; reply = e })
+  seen-order (store b p) h d = inr d
+  seen-order (loadChar b p) h d = inr d
+  seen-order (upChar b) h d = inr d
+  seen-order (downChar b) h d = inr d
+  seen-order (setSysPara k v) h d = inr d
+  seen-order readSysPara h d = inr d
+  seen-order (setPassword w) h d = inr d
+  seen-order (setAddress b) h d = inr d
+  seen-order (writeNotepad p b) h d = inr d
+  seen-order (readNotepad p) h d = inr d
+  seen-order templeteNum h d = inr d
+  seen-order (readIndexTable p) h d = inr d
+
+  seen-heard : (h : Heard) → Seen h
+  unfolding actsIn
+  seen-heard (order (command (barred c))) h d = seen-order c h d
+  seen-heard (order (command (free c))) h d = inr d
+  seen-heard (order damaged) h d = inr d
+  seen-heard (order unknown) h d = inr d
+  seen-heard (order misfit) h d = inr d
+  seen-heard nothing h d = inr d
+  seen-heard (piece last right content) h d = inr d
+
+seen : (q : ℕ) (x : Exchange) (old : List Act) → Cut q (actsSeen x ++ old) → Deletes q x ⊎ Cut q old
+unfolding actsSeen asks grants
+seen q x old = go (grants a (x .reply)) refl
+  where
+    a : List ℕ
+    a = addressee (x .run) (findOf (x .run))
+
+    go : (g : Bool) → grants a (x .reply) ≡ g → Cut q (cond g (actsIn (hear a (x .run))) [] ++ old) → Deletes q x ⊎ Cut q old
+    go true e d = seen-heard q x a (same-eq (x .reply) (acknowledge a 0x00 []) e) old (hear a (x .run)) refl d
+    go false e d = inr d
+
+told : (q : ℕ) (xs : List Exchange) (old : List Act) → Cut q (history xs old) → SawDeleted q xs ⊎ Cut q old
+unfolding history
+told q [] old d = inr d
+told q (x ∷ xs) old d = later (told q xs (actsSeen x ++ old) d)
+  where
+    first : Deletes q x ⊎ Cut q old → SawDeleted q (x ∷ xs) ⊎ Cut q old
+    first (inl y) = inl (inl y)
+    first (inr z) = inr z
+
+    later : SawDeleted q xs ⊎ Cut q (actsSeen x ++ old) → SawDeleted q (x ∷ xs) ⊎ Cut q old
+    later (inl y) = inl (inr y)
+    later (inr z) = first (seen q x old z)
+
+-- ---- a stored page and the acts: it keeps its bit and its bytes b, unless one of them cuts it
+
+record Holds (q : ℕ) (b t x : List ℕ) : Type 0 where
+  bit-set : stored x q ≡ true
+  bytes : part (512 * q) 512 t ≡ b
+
+record Spared (q : ℕ) (b t x : List ℕ) (acts : List Act) : Type 0 where
+  typed : Bytes x
+  kept : Holds q b t x ⊎ Cut q acts
+
+spared-kept : (m q : ℕ) (b : List ℕ) → Keeps m (Spared q b)
+spared-kept m q b = record { puts = puts; cuts = cuts; clears = λ t x old k. record { typed = fine-zeros (length x) .bytes; kept = inr tt } }
+  where
+    fine : (x : List ℕ) → Bytes x → length x ≡ m → Fine m x
+    fine x y w = record { long = w; bytes = y }
+
+    puts : (t x : List ℕ) (old : List Act) → Spared q b t x old → (c : ℕ) → Library m t x c → (p : ℕ) (d : List ℕ) → p < c → length d ≡ 512
+        → stored x p ≡ false → Spared q b (lay (512 * p) d t) (setBit x p) (put p ∷ old)
+    puts t x old k c a p d l e v = record { typed = fine-with x p (fine x (k .typed) (a .wide)) .bytes; kept = go (k .kept) }
+      where
+        go : Holds q b t x ⊎ Cut q old → Holds q b (lay (512 * p) d t) (setBit x p) ⊎ Cut q old
+        go (inr z) = inr z
+        go (inl h) =
+            let o : p ≢ q = (λ f. true≢false (sym (h .bit-set) ∙ ap (stored x) (sym f) ∙ v)) in
+            inl
+            record {
+              bit-set = stored-with x (k .typed) p (omega (arith, a .wide, a .small)) q ∙ rw (ne-eqb p q o) (h .bit-set);
+              bytes = away t d p 1 (omega arith) (omega (arith, a .long)) q (λ g f. o (omega arith)) ∙ h .bytes;
+            }
+
+    cuts : (t x : List ℕ) (old : List Act) → Spared q b t x old → (c : ℕ) → Library m t x c → (p n : ℕ) → p + n ≤ c
+        → Spared q b (lay (512 * p) (zeros (512 * n)) t) (clearBits x p n) (cut p n ∷ old)
+    cuts t x old k c a p n l = record { typed = fine-span x p n y .bytes; kept = go (k .kept) (decLe p q) (decLt q (p + n)) }
+      where
+        y : Fine m x
+        y = fine x (k .typed) (a .wide)
+
+        stays : Holds q b t x → (p ≤ q → q < p + n → ⊥) → Holds q b (lay (512 * p) (zeros (512 * n)) t) (clearBits x p n)
+        stays h o =
+            record {
+              bit-set = stored-span x p n y (omega (arith, a .small)) q ∙ rw (apart p n q o, h .bit-set) refl;
+              bytes = away t (zeros (512 * n)) p n (length-replicate (512 * n) 0) (omega (arith, a .long)) q o ∙ h .bytes;
+            }
+
+        go : Holds q b t x ⊎ Cut q old → Dec (p ≤ q) → Dec (q < p + n)
+            → Holds q b (lay (512 * p) (zeros (512 * n)) t) (clearBits x p n) ⊎ (((p ≤ q) × (q < p + n)) ⊎ Cut q old)
+        go (inr z) e f = inr (inr z)
+        go (inl h) (yes e) (yes f) = inr (inl (e, f))
+        go (inl h) (yes e) (no f) = inl (stays h (λ g i. f i))
+        go (inl h) (no e) f = inl (stays h (λ g i. e g))
+
+-- ---- "A clerk stored a new driver on page 12 and the old driver was gone."
+
+-- page q is still stored, and its 512 bytes are the same
+pub record Untouched (q : ℕ) (before after : Reader) : Type 0 where
+  pub bit-set : has after q ≡ true
+  pub bytes : page after q ≡ page before q
+
+module _ (σ : Shape) (ok : σ .most ≤ 8 * σ .indexed) (r : Reader) (y : Bytes (r .guarded .index)) (q : ℕ) (s : has r q ≡ true) (es : List Event) where
+  -- whatever the reader, legal or not: over any runs, reply rooms and line switches a stored page stays, or the host saw it deleted
+  pub only-by-deletion : Untouched q r (finally σ r es) ⊎ SawDeleted q (exchanges σ r es)
+  unfolding stored bit
+  only-by-deletion = go (k .kept)
+    where
+      k : Spared q (page r q) (finally σ r es .guarded .templates) (finally σ r es .guarded .index) (history (exchanges σ r es) [])
+      k = events-keep σ ok (Spared q (page r q)) (spared-kept (σ .indexed) q (page r q)) es r [] record { typed = y; kept = inl record { bit-set = s; bytes = refl } }
+
+      seen-cut : SawDeleted q (exchanges σ r es) ⊎ ⊥ → SawDeleted q (exchanges σ r es)
+      seen-cut (inl d) = d
+      seen-cut (inr z) = absurd z
+
+      go : Holds q (page r q) (finally σ r es .guarded .templates) (finally σ r es .guarded .index) ⊎ Cut q (history (exchanges σ r es) [])
+          → Untouched q r (finally σ r es) ⊎ SawDeleted q (exchanges σ r es)
+      go (inl h) = inl record { bit-set = h .bit-set; bytes = h .bytes }
+      go (inr z) = inr (seen-cut (told q (exchanges σ r es) [] z))
+
+  -- so a page that the host did not see deleted is still stored, with the same bytes
+  pub untouched : (SawDeleted q (exchanges σ r es) → ⊥) → Untouched q r (finally σ r es)
+  untouched n = go only-by-deletion
+    where
+      go : Untouched q r (finally σ r es) ⊎ SawDeleted q (exchanges σ r es) → Untouched q r (finally σ r es)
+      go (inl u) = u
+      go (inr d) = absurd (n d)
