@@ -61,6 +61,10 @@ pub(crate) fn store_page<'a>(
     if !full {
         return answers::plain(codes::NOTHING_THERE, settings);
     }
+    let taken = index::has_bit(index, page);
+    if taken {
+        return answers::plain(codes::PAGE_TAKEN, settings);
+    }
     store_now(templates, index, b, c, n, page);
     answers::plain(codes::DONE, settings)
 }
