@@ -104,6 +104,7 @@ static void command_rows(size_t capacity) {
         const struct command command = command_of(i, capacity);
         begin(&calls, command.name, capacity);
         row->is_bound = command.content[0] == 0x1D;
+        if (command.content[0] == 0x06) clear_stored(&reader.memory, capacity - 1);
         measure_command(0x00, command.content, command.length);
     }
     begin(&calls, "0Ch DeletChar, all pages", capacity);
@@ -112,6 +113,7 @@ static void command_rows(size_t capacity) {
 
 static void refused_command_rows(size_t capacity) {
     static const uint8_t count[] = {0x1D}, unknown[] = {0x05}, password[] = {0x13, 0, 0, 0, 6};
+    const struct command store = command_of(0, capacity);
     begin(&calls, "wrong sum: 01h", capacity);
     append_packet(COMMAND, count, sizeof count);
     run[run_length - 1]++;
@@ -120,6 +122,8 @@ static void refused_command_rows(size_t capacity) {
     measure_command(0x19, unknown, sizeof unknown);
     begin(&calls, "wrong password: 13h", capacity);
     measure_command(0x13, password, sizeof password);
+    begin(&calls, "06h Store, page stored: 22h", capacity);
+    measure_command(0x22, store.content, store.length);
     begin(&calls, "locked: 21h", capacity);
     reader.line.settings.verified = 0;
     measure_command(0x21, count, sizeof count);

@@ -18,7 +18,7 @@ enum command {
 enum code {
     DONE = 0x00, BAD_PACKET = 0x01, BAD_PAGE = 0x0B, NOT_THERE = 0x0C, NOT_FILLED = 0x0D, BAD_DATA = 0x0E,
     NOT_DELETED = 0x10, WRONG_PASSWORD = 0x13, UNKNOWN_COMMAND = 0x19, BAD_PARAMETER = 0x1A, BAD_VALUE = 0x1B,
-    BAD_NOTEPAD_PAGE = 0x1C, PASSWORD_FIRST = 0x21
+    BAD_NOTEPAD_PAGE = 0x1C, PASSWORD_FIRST = 0x21, PAGE_STORED = 0x22
 };
 
 /* Where the parts of a packet are. */
@@ -176,6 +176,7 @@ static enum code store(struct reader *reader, uint8_t buffer, size_t page) {
     if (!is_buffer(buffer)) return BAD_PACKET;
     if (page >= reader->pages) return BAD_PAGE;
     if (!is_filled(reader->settings, buffer)) return NOT_THERE;
+    if (is_stored(reader->index, page)) return PAGE_STORED;
     memcpy(page_of(reader, page), buffer_of(reader, buffer), BYSTRODOL_PAGE_BYTES);
     set_stored(reader->index, page);
     return DONE;

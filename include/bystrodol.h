@@ -58,9 +58,9 @@
 /* The version of this header and of the archives. Another major number, or, while that is 0, another minor one, may need a
  * change of the caller. */
 #define BYSTRODOL_VERSION_MAJOR 0
-#define BYSTRODOL_VERSION_MINOR 4
+#define BYSTRODOL_VERSION_MINOR 5
 #define BYSTRODOL_VERSION_PATCH 0
-#define BYSTRODOL_VERSION "0.4.0"
+#define BYSTRODOL_VERSION "0.5.0"
 
 /* ---- lengths, in bytes */
 
@@ -149,6 +149,7 @@
 #define BYSTRODOL_CODE_BAD_VALUE 0x1Bu       /* SetSysPara: a value outside the parameter's range */
 #define BYSTRODOL_CODE_BAD_NOTE_PAGE 0x1Cu   /* no such page of the notepad */
 #define BYSTRODOL_CODE_PASSWORD_FIRST 0x21u  /* the reader is locked */
+#define BYSTRODOL_CODE_PAGE_TAKEN 0x22u      /* Store: the page is stored already; a host that means it deletes the page first */
 
 /*
  * A reader's settings, 20 bytes without a gap. Numbers are in the machine's byte order. They hold no pointer: they may be

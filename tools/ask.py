@@ -87,7 +87,7 @@ FORMS = (
     Form("delete", (PAGE,), "DeletChar", "deletes a page", after=(1,)),
     Form("delete", (PAGE, COUNT), "DeletChar", "deletes so many pages from this one on"),
     Form("empty", (), "Empty", "deletes all pages; asks first, unless --yes is given"),
-    Form("store", (BUFFER, PAGE), "Store", "from buffer 1 or 2 to a page"),
+    Form("store", (BUFFER, PAGE), "Store", "from buffer 1 or 2 to a page that is not stored"),
     Form("load", (BUFFER, PAGE), "LoadChar", "from a page to a buffer"),
     Form("upload", (BUFFER, FILE), "UpChar", "from a buffer to a new file, in the size that the reader has"),
     Form("download", (BUFFER, FILE), "DownChar", "from a file of 512 bytes to a buffer, in that size; reads it back and compares"),

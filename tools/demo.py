@@ -107,6 +107,7 @@ def dialogue(reader):
     reader.download(template)
     reader.ask("Buffer 1 is stored on page 7.", "Store", 1, 7)
     reader.ask("How many templates are stored?", "TempleteNum", listed=two_bytes(1))
+    reader.ask("Page 7 is not written over.", "Store", 1, 7, code=0x22)
     reader.ask("Page 7 is loaded into buffer 2.", "LoadChar", 2, 7)
     reader.ask("What buffer 2 holds is the template that was sent.", "UpChar", 2)
     reader.upload(template)

@@ -66,6 +66,7 @@ ACKNOWLEDGES = {
     0x1B: "no such value",
     0x1C: "no such notepad page",
     0x21: "locked: the password first",
+    0x22: "the page is stored already: delete it first",
 }
 
 

@@ -90,6 +90,12 @@ static void call(void) {
     else receive(door == HELD ? lengths[RUN] / 2 : 0);
 }
 
+/* A packet to the reader as it is. */
+static void send(uint8_t identifier, const uint8_t *content, size_t length) {
+    lengths[RUN] = bystrodol_build(0xFFFFFFFF, identifier, content, length, parts[RUN], rooms[RUN]);
+    call();
+}
+
 /* The receiver's padding means nothing. */
 static size_t unchanged(void) {
     size_t padding = offsetof(struct bystrodol_receiver, held) + BYSTRODOL_HELD_MOST;
@@ -138,6 +144,15 @@ static void answers_and_ends(const char *name, size_t which, int buffer) {
     was.line.settings.transfer = 0, was.line.settings.got = 0;
     memset(part_was(buffer), 0, 512);
     is_done(name, which);
+}
+
+/* The acknowledge code of a packet sent to the reader as it is. */
+static void is_code(const char *name, size_t which, uint8_t identifier, const uint8_t *content, size_t length, uint8_t code) {
+    send(identifier, content, length);
+    check_of(name, which, "refusal", answer.refusal, BYSTRODOL_ACCEPTED);
+    check_of(name, which, "bytes used", answer.used, lengths[RUN]);
+    check_of(name, which, "identifier", parts[REPLY][6], BYSTRODOL_PACKET_ACKNOWLEDGE);
+    check_of(name, which, "code", parts[REPLY][9], code);
 }
 
 /* ---- lent lengths and the reply room */
@@ -299,6 +314,57 @@ static void changes(void) {
     call();
     was.line.settings.verified = 1;
     is_done("VfyPwd", 0);
+}
+
+/* ---- a page that is stored is not written over */
+
+static uint8_t *page_of(uint8_t *templates, uint8_t page) { return templates + BYSTRODOL_PAGE_BYTES * page; }
+
+/* A reader with both buffers filled and a page stored; where it says same, the page has the buffer's bytes. */
+static void set_up_stored(int buffer, uint8_t page, int same) {
+    set_up();
+    area.line.settings.filled1 = area.line.settings.filled2 = 1;
+    parts[INDEX][page / 8] = (uint8_t)(1u << page % 8);
+    if (same) memcpy(page_of(parts[TEMPLATES], page), parts[buffer], BYSTRODOL_PAGE_BYTES);
+}
+
+/* Store to the page: 22h, and nothing changes. Once the page is deleted, Store puts the buffer there. */
+static void is_kept(int buffer, uint8_t page, int same) {
+    static const uint8_t taken[] = {0xEF, 0x01, 0xFF, 0xFF, 0xFF, 0xFF, 0x07, 0x00, 0x03, 0x22, 0x00, 0x2C};
+    const uint8_t store[] = {BYSTRODOL_COMMAND_STORE, buffer == BUFFER1 ? 1 : 2, 0, page};
+    const uint8_t delete[] = {BYSTRODOL_COMMAND_DELET_CHAR, 0, page, 0, 1};
+    set_up_stored(buffer, page, same);
+    send(BYSTRODOL_PACKET_COMMAND, store, sizeof store);
+    is_answered("Store to a stored page", page, taken, sizeof taken);
+    send(BYSTRODOL_PACKET_COMMAND, delete, sizeof delete);
+    memset(page_of(part_was(TEMPLATES), page), 0, BYSTRODOL_PAGE_BYTES);
+    part_was(INDEX)[page / 8] = 0;
+    is_done("DeletChar of a stored page", page);
+    send(BYSTRODOL_PACKET_COMMAND, store, sizeof store);
+    memcpy(page_of(part_was(TEMPLATES), page), part_was(buffer), BYSTRODOL_PAGE_BYTES);
+    part_was(INDEX)[page / 8] = (uint8_t)(1u << page % 8);
+    is_done("Store to a deleted page", page);
+}
+
+/* The command ends a transfer into the other buffer first; and a buffer that is not filled is told before a page that is stored. */
+static void ends_transfer(void) {
+    static const uint8_t store[] = {BYSTRODOL_COMMAND_STORE, 1, 0, 4}, other[] = {BYSTRODOL_COMMAND_STORE, 2, 0, 4};
+    set_up_stored(BUFFER1, 4, 0);
+    area.line.settings.filled2 = 0, area.line.settings.transfer = 2, area.line.settings.got = 128;
+    is_code("Store to a stored page, in a transfer", 0, BYSTRODOL_PACKET_COMMAND, store, sizeof store, BYSTRODOL_CODE_PAGE_TAKEN);
+    check("the transfer is closed", area.line.settings.transfer, 0);
+    memset(part_was(BUFFER2), 0, BYSTRODOL_PAGE_BYTES);
+    check("its buffer is zeroed", differ(parts[BUFFER2], part_was(BUFFER2), 512), 512);
+    is_code("Store to a stored page, not filled", 0, BYSTRODOL_PACKET_COMMAND, other, sizeof other, BYSTRODOL_CODE_NOTHING_THERE);
+}
+
+static void kept_pages(void) {
+    for (uint8_t page = 0; page < 10; page++)
+        for (int same = 0; same < 2; same++) {
+            is_kept(BUFFER1, page, same);
+            is_kept(BUFFER2, page, same);
+        }
+    ends_transfer();
 }
 
 /* ---- marks: 0 and 1 are taken, and every other byte is a setting that is not legal */
@@ -476,16 +542,6 @@ static const struct {
     {BYSTRODOL_CODE_UNKNOWN_COMMAND, 1, {0x41}},
 };
 
-/* The acknowledge code of a packet sent to the reader as it is. */
-static void is_code(const char *name, size_t which, uint8_t identifier, const uint8_t *content, size_t length, uint8_t code) {
-    lengths[RUN] = bystrodol_build(0xFFFFFFFF, identifier, content, length, parts[RUN], rooms[RUN]);
-    call();
-    check_of(name, which, "refusal", answer.refusal, BYSTRODOL_ACCEPTED);
-    check_of(name, which, "bytes used", answer.used, lengths[RUN]);
-    check_of(name, which, "identifier", parts[REPLY][6], BYSTRODOL_PACKET_ACKNOWLEDGE);
-    check_of(name, which, "code", parts[REPLY][9], code);
-}
-
 static void named_codes(void) {
     static const uint8_t empty = BYSTRODOL_COMMAND_EMPTY, data[] = {1, 2, 3};
     for (size_t i = 0; i < sizeof calls / sizeof *calls; i++) {
@@ -531,6 +587,7 @@ int main(void) {
         order();
         switches();
         changes();
+        kept_pages();
         counted();
         any_marks();
         any_settings();

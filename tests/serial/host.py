@@ -134,6 +134,8 @@ def enrol(host, number):
     host.ask("Store", b"\x06\x01" + two_bytes(page))
     host.ask("TempleteNum, one", b"\x1d", 0, two_bytes(1))
     host.ask("ReadIndexTable, one", b"\x1f\x00", 0, index([page]))
+    host.download(1, bytes(512))
+    host.ask("Store, page stored", b"\x06\x01" + two_bytes(page), 0x22)
     host.ask("LoadChar", b"\x07\x02" + two_bytes(page))
     host.upload(2, bytes(template))
     host.ask("WriteNotepad", b"\x18" + bytes([number]) + note)

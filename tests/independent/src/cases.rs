@@ -108,20 +108,21 @@ impl Author<'_> {
             return vec![Event::Bytes(self.right_password())];
         }
         let scene = match self.chance.below(100) {
-            0..=29 => self.runs(1, 1, Author::any_command),
-            30..=39 => self.runs(2, 6, Author::any_command),
-            40..=46 => self.runs(1, 2, Author::damaged_command),
-            47..=50 => self.runs(1, 2, Author::foreign),
-            51..=54 => self.runs(1, 3, Author::noise),
-            55..=58 => self.runs(1, 2, Author::header),
-            59..=60 => self.runs(1, 2, Author::stray),
-            61..=62 => self.runs(1, 2, Author::long_packet),
-            63..=66 => self.runs(1, 2, Author::wrong_command),
-            67..=79 => self.download(),
-            80..=84 => self.store_and_load(),
-            85..=89 => self.lock(),
-            90..=92 => self.new_address(),
-            93..=96 => self.runs(1, 3, |author| author.command(DELET_CHAR)),
+            0..=27 => self.runs(1, 1, Author::any_command),
+            28..=37 => self.runs(2, 6, Author::any_command),
+            38..=43 => self.runs(1, 2, Author::damaged_command),
+            44..=47 => self.runs(1, 2, Author::foreign),
+            48..=50 => self.runs(1, 3, Author::noise),
+            51..=54 => self.runs(1, 2, Author::header),
+            55..=56 => self.runs(1, 2, Author::stray),
+            57..=58 => self.runs(1, 2, Author::long_packet),
+            59..=62 => self.runs(1, 2, Author::wrong_command),
+            63..=73 => self.download(),
+            74..=78 => self.store_and_load(),
+            79..=85 => self.store_again(),
+            86..=90 => self.lock(),
+            91..=93 => self.new_address(),
+            94..=96 => self.runs(1, 3, |author| author.command(DELET_CHAR)),
             _ => vec![Event::LineSwitch],
         };
         self.arranged(scene)
@@ -218,6 +219,17 @@ impl Author<'_> {
             self.chance.below(usize::from(capacity).max(1)) as u16
         } else {
             self.chance.pick(&[capacity.wrapping_sub(1), capacity, capacity + 1, 255, 256, 0x8000, 0xFFFF])
+        }
+    }
+
+    /// A page whose bit is set; any page if there is none.
+    fn stored_page(&mut self) -> u16 {
+        let bits = 0..8 * self.reader.index.len();
+        let stored: Vec<usize> = bits.filter(|&page| self.reader.stored(page)).collect();
+        if stored.is_empty() {
+            self.page()
+        } else {
+            self.chance.pick(&stored) as u16
         }
     }
 
@@ -425,17 +437,40 @@ impl Author<'_> {
         bytes_events(parts)
     }
 
-    /// A template goes from a buffer to a page and back, with an upload at the end.
+    /// A template goes from a buffer to a page, which is at times deleted first, and back, with an upload at the end.
     fn store_and_load(&mut self) -> Vec<Event> {
         let [high, low] = self.page().to_be_bytes();
         let (from, to) = self.chance.pick(&[(1, 2), (2, 1), (1, 1), (2, 2)]);
-        let mut packets = vec![self.packet(COMMAND, &[STORE, from, high, low])];
+        let mut packets = Vec::new();
+        if self.chance.percent(50) {
+            packets.push(self.packet(COMMAND, &[DELET_CHAR, high, low, 0, 1]));
+        }
+        packets.push(self.packet(COMMAND, &[STORE, from, high, low]));
         if self.chance.percent(30) {
             let code = self.chance.pick(&[EMPTY, DELET_CHAR, TEMPLETE_NUM, READ_INDEX_TABLE]);
             packets.push(self.command(code));
         }
         packets.push(self.packet(COMMAND, &[LOAD_CHAR, to, high, low]));
         packets.push(self.packet(COMMAND, &[UP_CHAR, to]));
+        bytes_events(packets)
+    }
+
+    /// A stored page is stored to again and again: as it is, when it was loaded, in a transfer, and when it is deleted.
+    fn store_again(&mut self) -> Vec<Event> {
+        let [high, low] = self.stored_page().to_be_bytes();
+        let (one, other) = self.chance.pick(&[(1, 2), (2, 1)]);
+        let [store, store_other] = [one, other].map(|buffer| self.packet(COMMAND, &[STORE, buffer, high, low]));
+        let mut packets = vec![
+            store.clone(),
+            self.packet(COMMAND, &[LOAD_CHAR, one, high, low]),
+            store.clone(),
+            self.packet(COMMAND, &[DOWN_CHAR, other]),
+            store.clone(),
+            store_other,
+            self.packet(COMMAND, &[DELET_CHAR, high, low, 0, 1]),
+            store,
+        ];
+        packets.retain(|_| self.chance.percent(85));
         bytes_events(packets)
     }
 

@@ -4,9 +4,9 @@ use crate::frame::{Outcome, Request};
 use crate::reader::*;
 use std::collections::BTreeSet;
 
-/// Document 01's table: a command, its length field, and the codes of its row's tests.
+/// Document 01's table with document 02's request [5]: a command, its length field, and the codes of its row's tests.
 pub const ROWS: [(u8, usize, &[u8]); COMMANDS.len()] = [
-    (STORE, 6, &[0x01, 0x0B, 0x0C]),
+    (STORE, 6, &[0x01, 0x0B, 0x0C, 0x22]),
     (LOAD_CHAR, 6, &[0x01, 0x0B, 0x0C]),
     (UP_CHAR, 4, &[0x01, 0x0D]),
     (DOWN_CHAR, 4, &[0x01]),

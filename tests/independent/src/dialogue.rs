@@ -1,5 +1,5 @@
 //! The stored dialogue with the bench program: what a host sends, and beside it what it must get, written by hand from
-//! document 01 and document 02's requests [2] and [3].
+//! document 01 and document 02's requests [2], [3] and [5].
 
 use crate::coverage::ROWS;
 use crate::examples::{bytes, count, COUNT, FINE, HAND_SHAKE};
@@ -28,11 +28,15 @@ const SCENES: &[fn(&mut Host)] = &[
     notepad,
     transfers_of_256,
     transfer_of_32,
+    replaced,
     failed_transfers,
     long_data,
     transfers_broken_off,
     delete,
     empty,
+    new_driver,
+    stored_page,
+    deleted_first,
     lock,
     locked,
     passwords,
@@ -118,7 +122,7 @@ fn asked_64(host: &mut Host) {
     host.commands(&[
         ("Store page 7", "06 02 0007", 0x00),
         ("Store page 8", "06 02 0008", 0x00),
-        ("Store page 7 again", "06 02 0007", 0x00),
+        ("Store page 7 again", "06 02 0007", 0x22),
     ]);
     host.index("pages 0, 7, 8, 9 and 63", "81 03 00 00 00 00 00 80");
     host.count("five stored", 5);
@@ -287,8 +291,19 @@ fn transfer_of_32(host: &mut Host) {
     host.download("size 32", 1, &third(), 32, &[]);
     host.upload("UpChar by 32", 1, &third(), 32);
     host.upload("buffer 2 is still the second template", 2, &second(), 32);
-    host.command("Store page 9 over the first template", "06 01 0009", 0x00);
+}
+
+/// Page 9 keeps the first template until it is deleted; then the third goes there.
+fn replaced(host: &mut Host) {
+    host.command("Store page 9, where the first template is", "06 01 0009", 0x22);
     host.count("still five", 5);
+    host.command("LoadChar 2 from page 9", "07 02 0009", 0x00);
+    host.upload("it is still the first template", 2, &first(), 32);
+    host.command("LoadChar 2 from page 7", "07 02 0007", 0x00);
+    host.command("DeletChar (9, 1)", "0C 0009 0001", 0x00);
+    host.count("four left", 4);
+    host.command("Store page 9", "06 01 0009", 0x00);
+    host.count("five again", 5);
     host.command("size code 2", "0E 06 02", 0x00);
     host.command("LoadChar 1 from page 63", "07 01 003F", 0x00);
     host.upload("it is the first template", 1, &first(), 128);
@@ -412,13 +427,64 @@ fn empty(host: &mut Host) {
     host.index("no page", "");
     host.command("LoadChar page 0", "07 01 0000", 0x0C);
     host.upload("buffer 2 stays", 2, &first(), 128);
-    host.command("Store page 5", "06 02 0005", 0x00);
+    host.command("Store page 7, emptied", "06 02 0007", 0x00);
+}
+
+/// A clerk stores a new driver on page 12, where the old one is: 22h, and nothing changes.
+fn new_driver(host: &mut Host) {
+    host.command("Store page 12, the old driver", "06 01 000C", 0x00);
+    host.count("two stored", 2);
+    host.download("the new driver", 1, &third(), 128, &[]);
+    host.command("Store page 12, the new driver", "06 01 000C", 0x22);
+    host.count("still two", 2);
+    host.index("pages 7 and 12", "80 10");
+    host.command("LoadChar 2 from page 12", "07 02 000C", 0x00);
+    host.upload("it is the old driver", 2, &second(), 128);
+    host.upload("buffer 1 is still the new one", 1, &third(), 128);
+}
+
+/// What else gets 22h, and what comes before it; the old driver stays.
+fn stored_page(host: &mut Host) {
+    host.commands(&[
+        ("Store page 12 from buffer 2, the same bytes", "06 02 000C", 0x22),
+        ("LoadChar 2 from page 7", "07 02 0007", 0x00),
+        ("Store page 12 from buffer 2, other bytes", "06 02 000C", 0x22),
+        ("Store page 12, buffer 3: buffer first", "06 03 000C", 0x01),
+        ("DownChar 2", "09 02", 0x00),
+    ]);
+    host.silent("one part", &part(host));
+    host.command("Store page 12 ends the transfer", "06 01 000C", 0x22);
+    closed(host, "closed");
+    host.command("buffer 2 is not filled", "08 02", 0x0D);
+    host.command("Store page 12, not filled: filled mark first", "06 02 000C", 0x0C);
+    host.command("DownChar 2", "09 02", 0x00);
+    host.command("Store page 12, not filled, ends the transfer too", "06 02 000C", 0x0C);
+    closed(host, "closed");
+    host.count("still two", 2);
+    host.command("LoadChar 2 from page 12", "07 02 000C", 0x00);
+    host.upload("it is still the old driver", 2, &second(), 128);
+}
+
+/// The host deletes the old driver first; then the new one goes there, though the page beside is stored.
+fn deleted_first(host: &mut Host) {
+    host.command("Store page 13, the page beside", "06 01 000D", 0x00);
+    host.command("DeletChar (12, 1)", "0C 000C 0001", 0x00);
+    host.index("pages 7 and 13", "80 20");
+    host.command("Store page 12, deleted", "06 01 000C", 0x00);
+    host.index("pages 7, 12 and 13", "80 30");
+    host.command("LoadChar 2 from page 12", "07 02 000C", 0x00);
+    host.upload("it is the new driver", 2, &third(), 128);
+    host.command("Store page 12 again", "06 01 000C", 0x22);
+    host.command("DeletChar (13, 1)", "0C 000D 0001", 0x00);
+    host.count("two stored", 2);
+    host.command("LoadChar 2 from page 7", "07 02 0007", 0x00);
+    host.upload("it is still the first template", 2, &first(), 128);
 }
 
 fn lock(host: &mut Host) {
     host.command("VfyPwd 1 while the password is 0", "13 00000001", 0x13);
     host.parameters("status 0", 0, 5, 2, 6);
-    host.count("not locked all the same", 1);
+    host.count("not locked all the same", 2);
     host.command("VfyPwd 0", "13 00000000", 0x00);
     host.parameters("status 4", 4, 5, 2, 6);
     host.command("SetPwd", "12 EF01A5FF", 0x00);
@@ -426,8 +492,8 @@ fn lock(host: &mut Host) {
 
 /// A locked reader: sum, code and length come before the lock, and the lock before the row's tests.
 fn locked(host: &mut Host) {
-    locked_out(host, "06 01 0000, 06 00 0000, 07 01 0005, 08 01, 08 03, 09 01, 0C 0000 0001, 0C FFFF FFFF, 0D");
-    locked_out(host, "0E 04 01, 0E 09 00, 0F, 12 00000000, 15 12345678");
+    locked_out(host, "06 01 0000, 06 00 0000, 06 01 000C, 06 02 000C, 07 01 0007, 08 01, 08 03, 09 01");
+    locked_out(host, "0C 0000 0001, 0C FFFF FFFF, 0D, 0E 04 01, 0E 09 00, 0F, 12 00000000, 15 12345678");
     host.write_note("locked: WriteNotepad page 0", 0, &[0; NOTE], 0x21);
     host.write_note("locked: WriteNotepad page 77h", 0x77, &[0; NOTE], 0x21);
     locked_out(host, "19 00, 19 10, 1D, 1F 00, 1F 01");
@@ -454,7 +520,7 @@ fn passwords(host: &mut Host) {
     host.command("still locked", "1D", 0x21);
     host.command("right password", "13 EF01A5FF", 0x00);
     host.parameters("status 4", 4, 5, 2, 6);
-    host.count("nothing was lost: one stored", 1);
+    host.count("nothing was lost: two stored", 2);
     host.upload("nothing was lost: buffer 2", 2, &first(), 128);
     host.command("transfer open, then a wrong password: DownChar 1", "09 01", 0x00);
     host.silent("one part", &part(host));
@@ -481,11 +547,11 @@ fn addresses(host: &mut Host) {
     host.readdress("SetAdder EF01EF01", [0xEF, 0x01, 0xEF, 0x01]);
     host.command("HandShake there", "40", 0x00);
     let noisy = [bytes("EF"), host.packet(COMMAND, &[0x1D])].concat();
-    host.sends("with noise EF before it", &noisy, &host.acknowledge(0x00, &[0, 1]));
+    host.sends("with noise EF before it", &noisy, &host.acknowledge(0x00, &[0, 2]));
     host.silent("old and oldest", &[old, bytes(HAND_SHAKE)].concat());
     host.readdress("SetAdder back", FRESH);
     host.command("HandShake", "40", 0x00);
-    host.count("last count", 1);
+    host.count("last count", 2);
 }
 
 /// An unfinished packet at the end, with whole packets in it: 266 of 267 bytes.

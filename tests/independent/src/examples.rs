@@ -1,6 +1,6 @@
-//! The table of examples P1 to P12, and examples of document 02's requests [1] to [3].
+//! The table of examples P1 to P12, and examples of document 02's requests [1] to [3] and [5].
 
-use crate::reader::Reader;
+use crate::reader::{Reader, SET};
 use crate::readers::fresh_reader;
 use crate::receiver::Receiver;
 
@@ -30,24 +30,30 @@ const DELETE_0_0: &str = "EF 01 A 01 00 07 0C 00 00 00 00 00 14";
 pub const FINE: &str = "EF 01 A 07 00 03 00 00 0A";
 const UNKNOWN: &str = "EF 01 A 07 00 03 19 00 23";
 const FAILED: &str = "EF 01 A 07 00 03 0E 00 18";
+const NOT_FILLED: &str = "EF 01 A 07 00 03 0C 00 16";
+const LOCKED: &str = "EF 01 A 07 00 03 21 00 2B";
+const STORED: &str = "EF 01 A 07 00 03 22 00 2C";
 const SIZE_CODE_1: &str = "EF 01 A 01 00 05 0E 06 01 00 1B";
 const SIZE_CODE_3: &str = "EF 01 A 01 00 05 0E 06 03 00 1D";
 const SIZE_CODE_4: &str = "EF 01 A 01 00 05 0E 06 04 00 1E";
 const PARAMETERS: &str = "EF 01 A 01 00 03 0F 00 13";
 const UP_CHAR_1: &str = "EF 01 A 01 00 04 08 01 00 0E";
+const UP_CHAR_2: &str = "EF 01 A 01 00 04 08 02 00 0F";
 const DOWN_CHAR_1: &str = "EF 01 A 01 00 04 09 01 00 0F";
+const DOWN_CHAR_2: &str = "EF 01 A 01 00 04 09 02 00 10";
+const STORE_1_9: &str = "EF 01 A 01 00 06 06 01 00 09 00 17";
+const STORE_2_9: &str = "EF 01 A 01 00 06 06 02 00 09 00 18";
+const LOAD_CHAR_2_9: &str = "EF 01 A 01 00 06 07 02 00 09 00 19";
 
 pub fn all() -> Vec<Example> {
-    [of_document_01(), of_receiver(), of_sizes(), of_lengths(), of_size_code_3()].into_iter().flatten().collect()
+    let all = [of_document_01(), of_receiver(), of_sizes(), of_lengths(), of_size_code_3(), of_stores()];
+    all.into_iter().flatten().collect()
 }
 
 fn of_document_01() -> Vec<Example> {
     let fresh = fresh_reader(10);
-    let mut locked = fresh.clone();
-    locked.settings.password = [0, 0, 0, 5];
-    let mut two_stored = fresh.clone();
-    two_stored.index[..2].copy_from_slice(&[0x01, 0x02]);
-
+    let locked = locked(&fresh);
+    let two_stored = two_stored();
     vec![
         example("P1", &fresh, &[(HAND_SHAKE, 12, FINE)]),
         example("P2", &fresh, &[("", 0, "")]),
@@ -57,7 +63,7 @@ fn of_document_01() -> Vec<Example> {
         example("P6", &fresh, &[("EF 01 A 01 00 02 40", 2, "")]),
         example("P7", &fresh, &[("EF 01 A 01 01 01 40", 2, ""), ("EF 01 A 01 01 00 40", 0, "")]),
         example("P8", &fresh, &[(COUNT, 12, &count(0))]),
-        example("P9", &locked, &[(COUNT, 12, "EF 01 A 07 00 03 21 00 2B")]),
+        example("P9", &locked, &[(COUNT, 12, LOCKED)]),
         example("P10", &locked, &[("EF 01 A 01 00 07 13 00 00 00 05 00 20", 16, FINE), (COUNT, 12, &count(0))]),
         example("P11", &two_stored, &[(COUNT, 12, &count(2)), (DELETE_9_1, 16, FINE), (COUNT, 12, &count(1))]),
         example(
@@ -66,6 +72,20 @@ fn of_document_01() -> Vec<Example> {
             &[(DELETE_9_2, 16, "EF 01 A 07 00 03 10 00 1A"), (DELETE_0_0, 16, FINE), (COUNT, 12, &count(2))],
         ),
     ]
+}
+
+/// The reader with P9's password; the mark is clear.
+fn locked(reader: &Reader) -> Reader {
+    let mut reader = reader.clone();
+    reader.settings.password = [0, 0, 0, 5];
+    reader
+}
+
+/// The reader of P11: pages 0 and 9 are stored.
+fn two_stored() -> Reader {
+    let mut reader = fresh_reader(10);
+    reader.index[..2].copy_from_slice(&[0x01, 0x02]);
+    reader
 }
 
 /// A reader without a receiver: a run, the bytes used of it, and the reply.
@@ -217,6 +237,37 @@ fn of_size_code_3() -> Vec<Example> {
     ]
 }
 
+/// The reader of P11, its pages zero, with buffer 1 filled: Store to page 9.
+fn of_stores() -> Vec<Example> {
+    let mut zero = two_stored();
+    zero.settings.filled[0] = SET;
+    let mut filled = zero.clone();
+    filled.buffers[0].fill(0x11);
+    let data_64 = data("02 00 42", "00", 64, "00 44");
+    let old = upload_128("00", "00 84", "00 8A");
+    let new = upload_128("11", "09 04", "09 0A");
+    vec![
+        example(
+            "Store to a stored page",
+            &filled,
+            &[(STORE_1_9, 15, STORED), (COUNT, 12, &count(2)), (LOAD_CHAR_2_9, 15, FINE), (UP_CHAR_2, 13, &old)],
+        ),
+        example(
+            "Store to a deleted page",
+            &filled,
+            &[(DELETE_9_1, 16, FINE), (STORE_1_9, 15, FINE), (LOAD_CHAR_2_9, 15, FINE), (UP_CHAR_2, 13, &new)],
+        ),
+        example("the same bytes to a stored page", &zero, &[(STORE_1_9, 15, STORED)]),
+        example("not filled and stored", &filled, &[(STORE_2_9, 15, NOT_FILLED)]),
+        example("locked and stored", &locked(&filled), &[(STORE_1_9, 15, LOCKED)]),
+        example(
+            "Store to a stored page in a transfer",
+            &filled,
+            &[(DOWN_CHAR_2, 13, FINE), (STORE_1_9, 15, STORED), (&data_64, 75, ""), (UP_CHAR_1, 13, &new)],
+        ),
+    ]
+}
+
 /// Frames in and the frames out, byte by byte.
 pub fn of_frames() -> Vec<(&'static str, Vec<u8>, Vec<u8>)> {
     let example = |name, frame_in: &str, frame_out: &str| (name, bytes(frame_in), bytes(frame_out));
@@ -272,6 +323,12 @@ pub fn count(stored: u8) -> String {
 /// A data packet: identifier and length field, a byte that is all its content, so many times, and the sum.
 fn data(head: &str, byte: &str, count: usize, sum: &str) -> String {
     format!("EF 01 A {head} {} {sum}", byte.repeat(count))
+}
+
+/// The reply to UpChar by 128: a byte that is all the buffer, the sum of a data packet with 2, and that with 8.
+fn upload_128(byte: &str, sum: &str, last_sum: &str) -> String {
+    let part = data("02 00 82", byte, 128, sum);
+    format!("{FINE} {part} {part} {part} {}", data("08 00 82", byte, 128, last_sum))
 }
 
 /// So many zero bytes, with a space before each.

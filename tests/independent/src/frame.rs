@@ -1,6 +1,6 @@
 //! The frames that a probe takes and gives. All numbers are high byte first.
 
-use crate::reader::{self, Answer, Mark, Reader, Settings};
+use crate::reader::{self, Answer, Mark, Reader, Settings, COMMAND, STORE};
 use crate::receiver::{self, Receiver};
 use std::io::{Error, ErrorKind, Read, Result};
 
@@ -120,6 +120,16 @@ impl Request {
         match self.kind.receiver() {
             Some(receiver) => receiver.joined(&self.run),
             None => self.run.clone(),
+        }
+    }
+
+    /// The place of the buffer and the page that a Store names, if both are there.
+    pub fn store(&self) -> Option<(usize, usize)> {
+        let run = self.whole_run();
+        let packet = reader::find(&run).1.filter(|packet| packet.identifier == COMMAND)?;
+        match packet.content {
+            [STORE, parameters @ ..] if parameters.len() == 3 => self.reader.buffer_and_page(parameters).ok(),
+            _ => None,
         }
     }
 

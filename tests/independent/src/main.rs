@@ -1,5 +1,5 @@
-//! Pits a reader and a receiver, written from document 01 and document 02's requests [1] to [3] alone, against another
-//! implementation of the papers, and writes the stored dialogue of the bench program with them.
+//! Pits a reader and a receiver, written from document 01 and document 02's requests [1] to [3] and [5] alone, against
+//! another implementation of the papers, and writes the stored dialogue of the bench program with them.
 
 mod bench;
 mod cases;
@@ -22,6 +22,7 @@ mod tally;
 mod templates;
 mod wrong;
 mod wrong_limits;
+mod wrong_stores;
 
 use cases::Dialogue;
 use chance::Chance;

@@ -1,5 +1,5 @@
-//! The reader of document 01, with the fresh settings of document 02's request [2] and the limits of its request [3],
-//! written from those papers alone and in document 01's order.
+//! The reader of document 01, with the fresh settings of document 02's request [2], the limits of its request [3] and
+//! the Store of its request [5], written from those papers alone and in document 01's order.
 
 use std::ops::RangeInclusive;
 
@@ -222,7 +222,11 @@ impl Reader {
         self.index[page / 8] & bit(page) != 0
     }
 
-    fn template(&mut self, page: usize) -> &mut [u8] {
+    pub fn template(&self, page: usize) -> &[u8] {
+        &self.templates[PAGE * page..PAGE * (page + 1)]
+    }
+
+    pub fn template_mut(&mut self, page: usize) -> &mut [u8] {
         &mut self.templates[PAGE * page..PAGE * (page + 1)]
     }
 
@@ -310,8 +314,9 @@ impl Reader {
             STORE => {
                 let (buffer, page) = self.buffer_and_page(parameters)?;
                 demand(self.settings.filled[buffer].is_set(), 0x0C)?;
+                demand(!self.stored(page), 0x22)?;
                 let template = self.buffers[buffer].clone();
-                self.template(page).copy_from_slice(&template);
+                self.template_mut(page).copy_from_slice(&template);
                 self.index[page / 8] |= bit(page);
             }
             LOAD_CHAR => {
@@ -336,7 +341,7 @@ impl Reader {
                 let (page, count) = (number(&parameters[..2]), number(&parameters[2..]));
                 demand(page < self.capacity() && page + count <= self.capacity(), 0x10)?;
                 for page in page..page + count {
-                    self.template(page).fill(0);
+                    self.template_mut(page).fill(0);
                     self.index[page / 8] &= !bit(page);
                 }
             }
@@ -386,7 +391,7 @@ impl Reader {
     }
 
     /// The first two tests of Store and LoadChar.
-    fn buffer_and_page(&self, parameters: &[u8]) -> Result<(usize, usize), u8> {
+    pub fn buffer_and_page(&self, parameters: &[u8]) -> Result<(usize, usize), u8> {
         let buffer = buffer(parameters[0])?;
         let page = number(&parameters[1..]);
         demand(page < self.capacity(), 0x0B)?;
@@ -538,7 +543,7 @@ fn note(page: u8) -> Result<usize, u8> {
 }
 
 /// The bit of a page in its byte of the index.
-fn bit(page: usize) -> u8 {
+pub fn bit(page: usize) -> u8 {
     1 << (page % 8)
 }
 

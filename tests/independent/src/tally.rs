@@ -48,20 +48,39 @@ const DATA_258: usize = 23;
 const STRAY_257: usize = 24;
 const STRAY_258: usize = 25;
 const UNFINISHED: usize = 26;
+const STORES_VACANT: usize = 27;
+const STORES_VACANT_BYTES: usize = 28;
+const STORES_OTHER: usize = 29;
+const STORES_SAME: usize = 30;
+const STORES_IN_TRANSFER: usize = 31;
 
 /// What a legal reader on a line brings about, in the stored dialogue too.
-pub const ON_A_LINE: &[usize] =
-    &[ACKNOWLEDGES, FINE, UPLOADS, DOWNLOADS, SIZES_SET, SIZES_NOT_SET, HEADERS_257, HEADERS_258, DATA_257, DATA_258];
+pub const ON_A_LINE: &[usize] = &[
+    ACKNOWLEDGES,
+    FINE,
+    UPLOADS,
+    DOWNLOADS,
+    SIZES_SET,
+    SIZES_NOT_SET,
+    HEADERS_257,
+    HEADERS_258,
+    DATA_257,
+    DATA_258,
+    STORES_VACANT,
+    STORES_OTHER,
+    STORES_SAME,
+    STORES_IN_TRANSFER,
+];
 /// What else calls and line switches bring about, with a receiver or without.
 pub const CALLED: &[usize] =
-    &[REFUSALS, SWITCHES, MARKS, MARKS_SWITCHED, SIZES_REFUSED, STRAY_257, STRAY_258, UNFINISHED];
+    &[REFUSALS, SWITCHES, MARKS, MARKS_SWITCHED, SIZES_REFUSED, STRAY_257, STRAY_258, UNFINISHED, STORES_VACANT_BYTES];
 /// What needs a receiver.
 pub const RECEIVED: &[usize] = &[COUNTS, COUNTS_SWITCHED, PAST, LOCKED, PIECES, HELD];
 /// What stands there when fresh settings are asked for.
 pub const FRESHENED: &[usize] = &[FRESH, FRESH_SIZES, FRESH_MARKS];
 
-/// The acknowledge codes of document 01.
-pub const CODES: [u8; 13] = [0x00, 0x01, 0x0B, 0x0C, 0x0D, 0x0E, 0x10, 0x13, 0x19, 0x1A, 0x1B, 0x1C, 0x21];
+/// The acknowledge codes of document 01, and 22h of document 02's request [5].
+pub const CODES: [u8; 14] = [0x00, 0x01, 0x0B, 0x0C, 0x0D, 0x0E, 0x10, 0x13, 0x19, 0x1A, 0x1B, 0x1C, 0x21, 0x22];
 
 /// The identifiers of document 01.
 const IDENTIFIERS: [usize; 4] = [COMMAND as usize, DATA as usize, ACKNOWLEDGE as usize, LAST_DATA as usize];
@@ -70,7 +89,7 @@ const IDENTIFIERS: [usize; 4] = [COMMAND as usize, DATA as usize, ACKNOWLEDGE as
 const MOST_SIZE_CODE: usize = SIZES.len() - 1;
 const UNFIT_SIZE_CODES: [usize; 2] = [MOST_SIZE_CODE + 1, 255];
 
-const KINDS: [Kind; 27] = [
+const KINDS: [Kind; 32] = [
     Kind { name: "acknowledge codes", awaited: Codes(&CODES) },
     Kind { name: "commands answered 00h", awaited: Codes(&COMMANDS) },
     Kind { name: "uploads by size", awaited: Numbers(&SIZES) },
@@ -98,6 +117,11 @@ const KINDS: [Kind; 27] = [
     Kind { name: "data packets of length 257 without a transfer by size", awaited: Numbers(&SIZES) },
     Kind { name: "data packets of length 258 without a transfer by size", awaited: Numbers(&SIZES) },
     Kind { name: "unfinished packets by the bytes that are there", awaited: Numbers(&[264, 265, 266]) },
+    Kind { name: "Stores to a vacant page by code", awaited: Codes(&[0x00, 0x0C]) },
+    Kind { name: "Stores to a vacant page that is not all zero by code", awaited: Codes(&[0x00]) },
+    Kind { name: "Stores to a stored page of other bytes by code", awaited: Codes(&[0x0C, 0x21, 0x22]) },
+    Kind { name: "Stores to a stored page of the buffer's bytes by code", awaited: Codes(&[0x22]) },
+    Kind { name: "Stores to a stored page that ended a transfer by code", awaited: Codes(&[0x0C, 0x22]) },
 ];
 
 #[derive(Default)]
@@ -162,6 +186,7 @@ impl Tally {
         let before = &request.reader.settings;
         if outcome.answer.length > 0 {
             self.add_reply(packet, outcome.room[9], before.size());
+            self.add_store(request, outcome.room[9]);
         } else if before.transfer != 0 && outcome.reader.settings.transfer == 0 {
             self.count(DOWNLOADS, before.size());
         }
@@ -181,6 +206,27 @@ impl Tally {
             ([SET_SYS_PARA, 6, size_code], 0x00) => self.count(SIZES_SET, *size_code),
             ([SET_SYS_PARA, 6, size_code], 0x1B) => self.count(SIZES_NOT_SET, *size_code),
             _ => {}
+        }
+    }
+
+    /// The code of a Store, by what it found.
+    fn add_store(&mut self, request: &Request, code: u8) {
+        let before = &request.reader;
+        let (buffer, page) = match request.store() {
+            Some(named) => named,
+            None => return,
+        };
+        let template = before.template(page);
+        if before.stored(page) {
+            self.count(if template == before.buffers[buffer] { STORES_SAME } else { STORES_OTHER }, code);
+            if before.settings.transfer != 0 {
+                self.count(STORES_IN_TRANSFER, code);
+            }
+        } else {
+            self.count(STORES_VACANT, code);
+            if template.iter().any(|&byte| byte != 0) {
+                self.count(STORES_VACANT_BYTES, code);
+            }
         }
     }
 

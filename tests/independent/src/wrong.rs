@@ -5,6 +5,7 @@ use crate::frame::{Kind, Outcome, Request};
 use crate::reader::*;
 use crate::receiver::{Receiver, HOLDS};
 use crate::wrong_limits;
+use crate::wrong_stores;
 use Error::{OfFresh, OfReader, OfReceiver};
 
 pub enum Error {
@@ -32,7 +33,7 @@ impl Error {
 
 /// All wrong ones by name.
 pub fn errors() -> impl Iterator<Item = &'static (&'static str, Error)> {
-    ERRORS.iter().chain(&wrong_limits::ERRORS)
+    ERRORS.iter().chain(&wrong_limits::ERRORS).chain(&wrong_stores::ERRORS)
 }
 
 const ERRORS: [(&str, Error); 54] = [
@@ -608,7 +609,7 @@ pub fn left(outcome: &Outcome) -> Vec<u8> {
 }
 
 /// The packet of a request, if it was a command that got a reply.
-fn answered<'a>(request: &'a Request, outcome: &Outcome) -> Option<Packet<'a>> {
+pub fn answered<'a>(request: &'a Request, outcome: &Outcome) -> Option<Packet<'a>> {
     find(&request.run).1.filter(|packet| packet.identifier == COMMAND && outcome.answer.length > 0)
 }
 

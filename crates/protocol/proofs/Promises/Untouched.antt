@@ -10,7 +10,7 @@ use native.Mathlib.Decide.{ℕ-discrete, decLe, decLt}
 use lib.Dec.{T, eqb, ltb, leb}
 use lib.ListN.{length, drop, length-take, length-drop, length-replicate}
 use borrow.Author.Tests.{ne-eqb, le-leb, lt-leb, lt-ltb, le-ltb}
-use Rattle.protocol.specs.Bytes.{Bytes, part, zeros, same, lay}
+use Rattle.protocol.specs.Bytes.{Bytes, part, zeros, lay}
 use Rattle.protocol.specs.Finder.{findOf}
 use Rattle.protocol.specs.Index.{bit, stored, setBit, clearBits}
 use Rattle.protocol.specs.Reader.{Plain, Buffer, Reader, locked}
