@@ -143,12 +143,13 @@ fine-less {n} x p f = go (stored x p) refl
 
 -- ---- n bits from p on cleared
 
-among-none : (p q : ℕ) → among p 0 q ≡ false
-among-none p q = go (decLe p q)
+pub not-among : (p n q : ℕ) → (p ≤ q → q < p + n → ⊥) → among p n q ≡ false
+not-among p n q o = go (decLe p q) (decLt q (p + n))
   where
-    go : Dec (p ≤ q) → among p 0 q ≡ false
-    go (yes l) = rw (le-leb p q l, le-ltb q (p + 0) (omega arith)) refl
-    go (no l) = rw (lt-leb p q (omega arith)) refl
+    go : Dec (p ≤ q) → Dec (q < p + n) → among p n q ≡ false
+    go (yes a) (yes b) = absurd (o a b)
+    go (yes a) (no b) = rw (le-leb p q a, le-ltb q (p + n) (omega arith)) refl
+    go (no a) b = rw (lt-leb p q (omega arith)) refl
 
 among-more : (p n q : ℕ) → (not (among (suc p) n q) && not (eqb p q)) ≡ not (among p (suc n) q)
 among-more p n q = go (decLe (suc p) q) (ℕ-discrete p q) (decLt q (p + suc n))
@@ -172,7 +173,7 @@ fine-span x p (suc n) f = fine-span (clearBit x p) (suc p) n (fine-less x p f)
 
 pub stored-span : {m : ℕ} (x : List ℕ) (p n : ℕ) → Fine m x → p + n ≤ 8 * m → (q : ℕ) → stored (clearBits x p n) q ≡ (not (among p n q) && stored x q)
 unfolding clearBits
-stored-span x p zero f h q = rw (among-none p q) refl
+stored-span x p zero f h q = rw (not-among p zero q (λ a b. omega arith)) refl
 stored-span x p (suc n) f h q =
     stored-span (clearBit x p) (suc p) n (fine-less x p f) (omega arith) q
     ∙ ap (λ (b : Bool). not (among (suc p) n q) && b) (stored-less x (f .bytes) p (omega (arith, f .long)) q)

@@ -9,7 +9,7 @@ use native.Mathlib.Omega.{arith}
 use native.Mathlib.Decide.{ℕ-discrete, decLe, decLt}
 use lib.Dec.{T, eqb, ltb, leb}
 use lib.ListN.{length, drop, length-take, length-drop, length-replicate}
-use borrow.Author.Tests.{ne-eqb, le-leb, lt-leb, lt-ltb, le-ltb}
+use borrow.Author.Tests.{ne-eqb, le-leb, lt-ltb}
 use Rattle.protocol.specs.Bytes.{Bytes, part, zeros, lay}
 use Rattle.protocol.specs.Finder.{findOf}
 use Rattle.protocol.specs.Index.{bit, stored, setBit, clearBits}
@@ -21,7 +21,7 @@ use Rattle.protocol.specs.Call.{Shape, core, Lent, fitLent, legal, Ended
 use Rattle.protocol.specs.Dialogue.{Event, received, on, finally, Exchange, exchanges, Act, put, cut, cutAll, actsOf, actsIn, addressee, asks, grants, actsSeen, history}
 use Rattle.protocol.proofs.Laws.Logic.{eqb-same}
 use Rattle.protocol.proofs.Laws.Lists.{same-eq}
-use Rattle.protocol.proofs.Laws.Index.{Fine, stored-with, stored-span, fine-with, fine-span, fine-zeros}
+use Rattle.protocol.proofs.Laws.Index.{Fine, not-among, stored-with, stored-span, fine-with, fine-span, fine-zeros}
 use Rattle.protocol.proofs.Laws.Effects.{away}
 use Rattle.protocol.proofs.Laws.Answers.{spared}
 use Rattle.protocol.proofs.Laws.Locked.{rested-still}
@@ -35,20 +35,12 @@ use Rattle.protocol.proofs.Promises.Rows.{rows}
 
 -- whatever bytes the page and the buffer have, the same ones too
 pub answers-22 : (r : Reader) (s : List ℕ) (lent : Lent) (f : T (legal core r)) (u : T (fitLent lent)) (l : locked (r .plain) ≡ false) (b p : ℕ)
-    → hear (r .plain .address) s ≡ order (command (barred (store b p))) → Numbered b → p < pages (rested r) → buffer b (rested r .guarded) .filled ≡ true
-    → has (rested r) p ≡ true → Says (rested r) 0x22 s lent (callOf core r s lent)
-answers-22 r s lent f u l b p h i m e o = rows r s lent f u l (store b p) h .0 i .0 m .0 e .1 (λ n. true≢false (sym o ∙ n))
+    → hear (r .plain .address) s ≡ order (command (barred (store b p))) → Numbered b → p < pages r → buffer b (rested r .guarded) .filled ≡ true
+    → has r p ≡ true → Says (rested r) 0x22 s lent (callOf core r s lent)
+answers-22 r s lent f u l b p h i m e o =
+    rows r s lent f u l (store b p) h .0 i .0 (rw (spared r .templates) m) .0 e .1 (λ n. true≢false (sym o ∙ (rw (spared r .index) at n)))
 
 -- ---- "the host deletes first"
-
--- q is none of the n numbers from p on
-apart : (p n q : ℕ) → (p ≤ q → q < p + n → ⊥) → (leb p q && ltb q (p + n)) ≡ false
-apart p n q o = go (decLe p q) (decLt q (p + n))
-  where
-    go : Dec (p ≤ q) → Dec (q < p + n) → (leb p q && ltb q (p + n)) ≡ false
-    go (yes e) (yes f) = absurd (o e f)
-    go (yes e) (no f) = rw (le-leb p q e, le-ltb q (p + n) (omega arith)) refl
-    go (no e) f = rw (lt-leb p q (omega arith)) refl
 
 -- a page of 512 bytes is there
 whole-page : (t : List ℕ) (p : ℕ) → length (part (512 * p) 512 t) ≡ 512 → p < length t / 512
@@ -114,7 +106,7 @@ module _ (σ : Shape) (ok : σ .most ≤ 8 * σ .indexed) (r : Reader) (l : Lega
 
       bits : (q : ℕ) → Dec (p ≡ q) → (eqb p q || (not (leb p q && ltb q (p + 1)) && has r q)) ≡ (eqb p q || has r q)
       bits q (yes f) = rw (← f, eqb-same p) refl
-      bits q (no f) = rw (ne-eqb p q f, apart p 1 q (λ j k. f (omega arith))) refl
+      bits q (no f) = rw (ne-eqb p q f, not-among p 1 q (λ j k. f (omega arith))) refl
 
 -- ---- what the host saw of a deletion
 
@@ -236,7 +228,7 @@ spared-kept m q b = record { puts = puts; cuts = cuts; clears = λ t x old k. re
         stays : Holds q b t x → (p ≤ q → q < p + n → ⊥) → Holds q b (lay (512 * p) (zeros (512 * n)) t) (clearBits x p n)
         stays h o =
             record {
-              bit-set = stored-span x p n y (omega (arith, a .small)) q ∙ rw (apart p n q o, h .bit-set) refl;
+              bit-set = stored-span x p n y (omega (arith, a .small)) q ∙ rw (not-among p n q o, h .bit-set) refl;
               bytes = away t (zeros (512 * n)) p n (length-replicate (512 * n) 0) (omega (arith, a .long)) q o ∙ h .bytes;
             }
 
