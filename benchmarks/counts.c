@@ -104,6 +104,7 @@ static void command_rows(size_t capacity) {
         const struct command command = command_of(i, capacity);
         begin(&calls, command.name, capacity);
         row->is_bound = command.content[0] == 0x1D;
+        /* Store wants a vacant page. */
         if (command.content[0] == 0x06) clear_stored(&reader.memory, capacity - 1);
         measure_command(0x00, command.content, command.length);
     }
