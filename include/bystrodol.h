@@ -112,7 +112,7 @@
  * run, and its code stands 9 bytes further; the reply's code is byte 9 of the reply room. A receiver's run is what it held
  * before the call, and behind that what the call took; the call drops it, so look before, or compare what is stored.
  */
-#define BYSTRODOL_COMMAND_STORE 0x06u            /* buffer, page: templates and index */
+#define BYSTRODOL_COMMAND_STORE 0x06u            /* buffer, page that is not stored: templates and index */
 #define BYSTRODOL_COMMAND_LOAD_CHAR 0x07u        /* buffer, page: that buffer; settings (its filled mark) */
 #define BYSTRODOL_COMMAND_UP_CHAR 0x08u          /* buffer: nothing */
 #define BYSTRODOL_COMMAND_DOWN_CHAR 0x09u        /* buffer: that buffer; settings (its filled mark, the transfer) */
@@ -149,7 +149,7 @@
 #define BYSTRODOL_CODE_BAD_VALUE 0x1Bu       /* SetSysPara: a value outside the parameter's range */
 #define BYSTRODOL_CODE_BAD_NOTE_PAGE 0x1Cu   /* no such page of the notepad */
 #define BYSTRODOL_CODE_PASSWORD_FIRST 0x21u  /* the reader is locked */
-#define BYSTRODOL_CODE_PAGE_TAKEN 0x22u      /* Store: the page is stored already; a host that means it deletes the page first */
+#define BYSTRODOL_CODE_PAGE_TAKEN 0x22u      /* Store: the page is stored already, and kept; DeletChar, then Store, replaces it */
 
 /*
  * A reader's settings, 20 bytes without a gap. Numbers are in the machine's byte order. They hold no pointer: they may be

@@ -97,6 +97,7 @@ class Reader:
 def dialogue(reader):
     password = bytes.fromhex("12345678")
     template = bytes(3 * i % 251 for i in range(TEMPLATE))
+    other = bytes(5 * i % 251 for i in range(TEMPLATE))
     note = b"Station 12, vault 3".ljust(NOTE, b"\0")
     print("A packet: ef 01, address (4 bytes), identifier (1), length (2), content, sum (2).")
     reader.ask("Is a reader there?", "HandShake")
@@ -107,9 +108,11 @@ def dialogue(reader):
     reader.download(template)
     reader.ask("Buffer 1 is stored on page 7.", "Store", 1, 7)
     reader.ask("How many templates are stored?", "TempleteNum", listed=two_bytes(1))
-    reader.ask("Page 7 is not written over.", "Store", 1, 7, code=0x22)
+    reader.ask("Another template goes into buffer 1.", "DownChar", 1)
+    reader.download(other)
+    reader.ask("Buffer 1 is stored on page 7 again, but a page that is stored is not written over.", "Store", 1, 7, code=0x22)
     reader.ask("Page 7 is loaded into buffer 2.", "LoadChar", 2, 7)
-    reader.ask("What buffer 2 holds is the template that was sent.", "UpChar", 2)
+    reader.ask("What buffer 2 holds is the template that was stored.", "UpChar", 2)
     reader.upload(template)
     reader.ask("A note is written on notepad page 3.", "WriteNotepad", 3, note)
     reader.ask("What is on notepad page 3?", "ReadNotepad", 3, listed=note)
@@ -120,6 +123,7 @@ def dialogue(reader):
     reader.ask("The right password unlocks it.", "VfyPwd", password)
     reader.ask("Page 7 is deleted.", "DeletChar", 7, 1)
     reader.ask("How many templates are stored?", "TempleteNum", listed=two_bytes(0))
+    reader.ask("Now buffer 1 can be stored there.", "Store", 1, 7)
     reader.end()
 
 

@@ -56,7 +56,7 @@ ACKNOWLEDGES = {
     DONE: "done",
     DAMAGED: "damaged packet or bad parameter",
     0x0B: "no such page",
-    0x0C: "nothing is there",
+    0x0C: "nothing is there: a buffer that is not filled, or a page that is not stored",
     0x0D: "the buffer is not filled",
     TRANSFER_FAILED: "the transfer failed: a data packet does not fit in size, sum or total",
     0x10: "no such pages",
@@ -66,7 +66,7 @@ ACKNOWLEDGES = {
     0x1B: "no such value",
     0x1C: "no such notepad page",
     0x21: "locked: the password first",
-    0x22: "the page is stored already: delete it first",
+    0x22: "the page is stored already: to replace it, delete it and store again",
 }
 
 

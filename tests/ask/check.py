@@ -65,7 +65,7 @@ DIALOGUE = (
     ("store|1|7", "01 00 06 06 01 00 07 00 15", DONE, 0, "buffer 1, page 7"),
     ("store|1|8", "01 00 06 06 01 00 08 00 16", DONE, 0),
     ("store|1|11", "01 00 06 06 01 00 0b 00 19", DONE, 0),
-    ("store|1|11", "01 00 06 06 01 00 0b 00 19", "07 00 03 22 00 2c", 1, "acknowledge 22h", "the page is stored already: delete it first"),
+    ("store|1|11", "01 00 06 06 01 00 0b 00 19", "07 00 03 22 00 2c", 1, "acknowledge 22h", "the page is stored already: to replace it, delete it and store again"),
     ("store|3|7", "01 00 06 06 03 00 07 00 17", "07 00 03 01 00 0b", 1, "bad parameter"),
     ("store|1|64", "01 00 06 06 01 00 40 00 4e", "07 00 03 0b 00 15", 1, "no such page"),
     ("count", "01 00 03 1d 00 21", "07 00 05 00 00 03 00 0f", 0, "templates stored 3"),
