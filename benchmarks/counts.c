@@ -114,7 +114,7 @@ static void command_rows(size_t capacity) {
 
 static void refused_command_rows(size_t capacity) {
     static const uint8_t count[] = {0x1D}, unknown[] = {0x05}, password[] = {0x13, 0, 0, 0, 6};
-    const struct command store = command_of(0, capacity);
+    const uint8_t store[] = {0x06, 1, 0, (uint8_t)(capacity - 1)};
     begin(&calls, "wrong sum: 01h", capacity);
     append_packet(COMMAND, count, sizeof count);
     run[run_length - 1]++;
@@ -124,7 +124,7 @@ static void refused_command_rows(size_t capacity) {
     begin(&calls, "wrong password: 13h", capacity);
     measure_command(0x13, password, sizeof password);
     begin(&calls, "06h Store, page stored: 22h", capacity);
-    measure_command(0x22, store.content, store.length);
+    measure_command(0x22, store, sizeof store);
     begin(&calls, "locked: 21h", capacity);
     reader.line.settings.verified = 0;
     measure_command(0x21, count, sizeof count);

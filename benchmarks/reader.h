@@ -51,7 +51,7 @@ void append(const uint8_t *bytes, size_t n);
 void append_noise(size_t n);
 void append_packet(enum identifier identifier, const uint8_t *content, size_t n);
 
-/* ---- the sixteen commands, with parameters for a reader that does them all: its last page is stored, but vacant for Store */
+/* ---- the sixteen commands, with parameters for a reader that does them all, if its last page is stored or, for Store, vacant */
 
 struct command {
     const char *name;

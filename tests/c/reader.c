@@ -146,15 +146,6 @@ static void answers_and_ends(const char *name, size_t which, int buffer) {
     is_done(name, which);
 }
 
-/* The acknowledge code of a packet sent to the reader as it is. */
-static void is_code(const char *name, size_t which, uint8_t identifier, const uint8_t *content, size_t length, uint8_t code) {
-    send(identifier, content, length);
-    check_of(name, which, "refusal", answer.refusal, BYSTRODOL_ACCEPTED);
-    check_of(name, which, "bytes used", answer.used, lengths[RUN]);
-    check_of(name, which, "identifier", parts[REPLY][6], BYSTRODOL_PACKET_ACKNOWLEDGE);
-    check_of(name, which, "code", parts[REPLY][9], code);
-}
-
 /* ---- lent lengths and the reply room */
 
 static void bad_lengths(void) {
@@ -320,30 +311,48 @@ static void changes(void) {
 
 static uint8_t *page_of(uint8_t *templates, uint8_t page) { return templates + BYSTRODOL_PAGE_BYTES * page; }
 
-/* A reader with both buffers filled and a page stored; where it says same, the page has the buffer's bytes. */
+/* A reader with both buffers filled and all ten pages stored; where it says same, the page has the buffer's bytes. */
 static void set_up_stored(int buffer, uint8_t page, int same) {
     set_up();
     area.line.settings.filled1 = area.line.settings.filled2 = 1;
-    parts[INDEX][page / 8] = (uint8_t)(1u << page % 8);
+    parts[INDEX][0] = 0xFF, parts[INDEX][1] = 0x03;
     if (same) memcpy(page_of(parts[TEMPLATES], page), parts[buffer], BYSTRODOL_PAGE_BYTES);
+}
+
+/* A command without listed bytes is answered by the code alone; nothing else of the area changes but what is changed of it as it was. */
+static void is_said(const char *name, uint8_t page, uint8_t code) {
+    const uint8_t reply[] = {0xEF, 0x01, 0xFF, 0xFF, 0xFF, 0xFF, 0x07, 0x00, 0x03, code, 0x00, (uint8_t)(0x0A + code)};
+    is_answered(name, page, reply, sizeof reply);
 }
 
 /* Store to the page: 22h, and nothing changes. Once the page is deleted, Store puts the buffer there. */
 static void is_kept(int buffer, uint8_t page, int same) {
-    static const uint8_t taken[] = {0xEF, 0x01, 0xFF, 0xFF, 0xFF, 0xFF, 0x07, 0x00, 0x03, 0x22, 0x00, 0x2C};
     const uint8_t store[] = {BYSTRODOL_COMMAND_STORE, buffer == BUFFER1 ? 1 : 2, 0, page};
     const uint8_t delete[] = {BYSTRODOL_COMMAND_DELET_CHAR, 0, page, 0, 1};
+    const uint8_t bit = (uint8_t)(1u << page % 8);
     set_up_stored(buffer, page, same);
     send(BYSTRODOL_PACKET_COMMAND, store, sizeof store);
-    is_answered("Store to a stored page", page, taken, sizeof taken);
+    is_said("Store to a stored page", page, BYSTRODOL_CODE_PAGE_TAKEN);
     send(BYSTRODOL_PACKET_COMMAND, delete, sizeof delete);
     memset(page_of(part_was(TEMPLATES), page), 0, BYSTRODOL_PAGE_BYTES);
-    part_was(INDEX)[page / 8] = 0;
-    is_done("DeletChar of a stored page", page);
+    part_was(INDEX)[page / 8] &= (uint8_t)~bit;
+    is_said("DeletChar of a stored page", page, BYSTRODOL_CODE_DONE);
     send(BYSTRODOL_PACKET_COMMAND, store, sizeof store);
     memcpy(page_of(part_was(TEMPLATES), page), part_was(buffer), BYSTRODOL_PAGE_BYTES);
-    part_was(INDEX)[page / 8] = (uint8_t)(1u << page % 8);
-    is_done("Store to a deleted page", page);
+    part_was(INDEX)[page / 8] |= bit;
+    is_said("Store to a deleted page", page, BYSTRODOL_CODE_DONE);
+}
+
+/* A page whose bit is clear takes a template, whatever bytes it has. */
+static void is_taken_up(uint8_t page) {
+    const uint8_t store[] = {BYSTRODOL_COMMAND_STORE, 1, 0, page};
+    const uint8_t bit = (uint8_t)(1u << page % 8);
+    set_up_stored(BUFFER1, page, 0);
+    parts[INDEX][page / 8] &= (uint8_t)~bit;
+    send(BYSTRODOL_PACKET_COMMAND, store, sizeof store);
+    memcpy(page_of(part_was(TEMPLATES), page), part_was(BUFFER1), BYSTRODOL_PAGE_BYTES);
+    part_was(INDEX)[page / 8] |= bit;
+    is_said("Store to a vacant page that has bytes", page, BYSTRODOL_CODE_DONE);
 }
 
 /* The command ends a transfer into the other buffer first; and a buffer that is not filled is told before a page that is stored. */
@@ -351,19 +360,22 @@ static void ends_transfer(void) {
     static const uint8_t store[] = {BYSTRODOL_COMMAND_STORE, 1, 0, 4}, other[] = {BYSTRODOL_COMMAND_STORE, 2, 0, 4};
     set_up_stored(BUFFER1, 4, 0);
     area.line.settings.filled2 = 0, area.line.settings.transfer = 2, area.line.settings.got = 128;
-    is_code("Store to a stored page, in a transfer", 0, BYSTRODOL_PACKET_COMMAND, store, sizeof store, BYSTRODOL_CODE_PAGE_TAKEN);
-    check("the transfer is closed", area.line.settings.transfer, 0);
+    send(BYSTRODOL_PACKET_COMMAND, store, sizeof store);
+    was.line.settings.transfer = 0, was.line.settings.got = 0;
     memset(part_was(BUFFER2), 0, BYSTRODOL_PAGE_BYTES);
-    check("its buffer is zeroed", differ(parts[BUFFER2], part_was(BUFFER2), 512), 512);
-    is_code("Store to a stored page, not filled", 0, BYSTRODOL_PACKET_COMMAND, other, sizeof other, BYSTRODOL_CODE_NOTHING_THERE);
+    is_said("Store to a stored page, in a transfer", 4, BYSTRODOL_CODE_PAGE_TAKEN);
+    send(BYSTRODOL_PACKET_COMMAND, other, sizeof other);
+    is_said("Store to a stored page, not filled", 4, BYSTRODOL_CODE_NOTHING_THERE);
 }
 
 static void kept_pages(void) {
-    for (uint8_t page = 0; page < 10; page++)
+    for (uint8_t page = 0; page < 10; page++) {
         for (int same = 0; same < 2; same++) {
             is_kept(BUFFER1, page, same);
             is_kept(BUFFER2, page, same);
         }
+        is_taken_up(page);
+    }
     ends_transfer();
 }
 
@@ -541,6 +553,15 @@ static const struct {
     {BYSTRODOL_CODE_DONE, 1, {BYSTRODOL_COMMAND_HAND_SHAKE}},
     {BYSTRODOL_CODE_UNKNOWN_COMMAND, 1, {0x41}},
 };
+
+/* The acknowledge code of a packet sent to the reader as it is. */
+static void is_code(const char *name, size_t which, uint8_t identifier, const uint8_t *content, size_t length, uint8_t code) {
+    send(identifier, content, length);
+    check_of(name, which, "refusal", answer.refusal, BYSTRODOL_ACCEPTED);
+    check_of(name, which, "bytes used", answer.used, lengths[RUN]);
+    check_of(name, which, "identifier", parts[REPLY][6], BYSTRODOL_PACKET_ACKNOWLEDGE);
+    check_of(name, which, "code", parts[REPLY][9], code);
+}
 
 static void named_codes(void) {
     static const uint8_t empty = BYSTRODOL_COMMAND_EMPTY, data[] = {1, 2, 3};

@@ -1,4 +1,4 @@
--- The sixteen commands: document 01's table, right half. Each row's tests, left to right, and its effect.
+-- The sixteen commands: document 01's table, right half. Each row's tests, left to right, and its effect. Store's last test is request [5]'s.
 use mathlib.Core.Bool.{Bool, _&&_, _||_, not, cond}
 use mathlib.Core.List.{List, [], _∷_}
 use Prim.Native.Nat.{ℕ, _+_, _*_, _/_}

@@ -1,4 +1,4 @@
-// The acknowledge codes of document 01, each named once; specs/Numbers.antt has them for the definitions.
+// The acknowledge codes of document 01 and of its change requests, each named once; specs/Numbers.antt has them for the definitions.
 pub const DONE: u8 = 0x00;
 
 pub const BAD_PACKET: u8 = 0x01;

@@ -1,5 +1,6 @@
 -- The premises of the promises can be met: of demand 3's by two legal locked readers of ten pages, one empty and one full, with the same settings but for the
--- filled marks; of others by every new vault.
+-- filled marks; of request [5]'s by the full one without a password; of others by every new vault.
+use mathlib.Core.Bool.{true, false}
 use mathlib.Core.Path.{_≡_, refl, ap, _∙_}
 use mathlib.Core.List.{[], _∷_}
 use Prim.Native.Nat.{ℕ, _*_, _/_, _%_, _^_, _≤_}
@@ -11,10 +12,12 @@ use Rattle.protocol.specs.Bytes.{zeros, four, same, lay}
 use Rattle.protocol.specs.Tests.{within, every}
 use Rattle.protocol.specs.Index.{bit, stored, clearFrom}
 use Rattle.protocol.specs.Reader.{closed, Reader, capacity, keyed, locked, bufferOf, emptied, filledWith, withPassword, fresh, zeroed, contents, reader}
+use Rattle.protocol.specs.Step.{ended, rested}
 use Rattle.protocol.specs.Call.{core, fitLibrary, fitBuffers, fitLengths, fitPlain, fitTransfer, sound, legal}
 use Rattle.protocol.specs.Records.{freshOf}
 use Rattle.protocol.specs.Receiver.{holding, line}
 use Rattle.protocol.proofs.Laws.Index.{byte-zeros, bit-zero, fine-zeros}
+use Rattle.protocol.proofs.Promises.Told.{pages, has}
 use Rattle.protocol.proofs.Promises.Examples.{keyed10, fresh10}
 use Rattle.protocol.proofs.Promises.LegalMeans.{core-holds, means-legal}
 use Rattle.protocol.proofs.Promises.StaysLegal.{Legal}
@@ -38,6 +41,22 @@ pub record Met (r t : Reader) : Type 0 where
 pub premises-met : Met keyed10 full10
 unfolding keyed10 fresh10 full10 fresh zeroed withPassword emptied filledWith four same within every bit stored clearFrom capacity keyed locked bufferOf core fitLibrary fitBuffers fitLengths fitPlain fitTransfer sound legal highestSize
 premises-met = record { one = tt; other = tt; locks = tt; keys = tt; still = refl; settings = refl; pages = refl }
+
+-- of request [5]'s by the full reader without a password: it is not locked, and each of its pages is stored
+pub open10 : Reader
+open10 = reader (fresh10 .plain) (full10 .guarded)
+
+pub record AllStored (r : Reader) : Type 0 where
+  pub one : T (legal core r)
+  pub unlocked : locked (r .plain) ≡ false
+  pub ten : pages r ≡ 10
+  pub all : T (every (has r) 10)
+  pub filled1 : rested r .guarded .buffer1 .filled ≡ true
+  pub filled2 : rested r .guarded .buffer2 .filled ≡ true
+
+pub stored-met : AllStored open10
+unfolding fresh10 full10 open10 fresh zeroed emptied filledWith four same within every bit stored clearFrom capacity keyed locked bufferOf core fitLibrary fitBuffers fitLengths fitPlain fitTransfer sound legal highestSize rested ended
+stored-met = record { one = tt; unlocked = refl; ten = refl; all = tt; filled1 = refl; filled2 = refl }
 
 -- fresh settings and zeroed memory are legal: every new vault, of 1 to 256 pages
 pub new-vault : (c : ℕ) → 1 ≤ c → c ≤ 256 → Legal core core-holds (freshOf (replicate (512 * c) 0) (replicate 32 0) (replicate 512 0) (replicate 512 0) (replicate 512 0))

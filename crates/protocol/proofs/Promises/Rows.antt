@@ -28,7 +28,7 @@ use Rattle.protocol.proofs.Promises.Told.{Replies, Says, answered, page
 abbrev pub InRange : ℕ → ℕ → Type 0
 InRange k v = (k ≡ 4 → (1 ≤ v) × (v ≤ 12)) × ((k ≡ 5 → (1 ≤ v) × (v ≤ 5)) × (k ≡ 6 → v ≤ 3))
 
--- the table: of the reader t, unless this holds, that code
+-- the table: of the reader t, unless this holds, that code; 22h is request [5]'s
 abbrev pub lines : Reader → Barred → List Line
 lines t (store b p) = unless (Numbered b) 0x01 ∷ unless (p < pages t) 0x0b ∷ unless (buffer b (t .guarded) .filled ≡ true) 0x0c ∷ unless (has t p ≡ false) 0x22 ∷ []
 lines t (loadChar b p) = unless (Numbered b) 0x01 ∷ unless (p < pages t) 0x0b ∷ unless (has t p ≡ true) 0x0c ∷ []

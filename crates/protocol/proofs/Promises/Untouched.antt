@@ -55,13 +55,17 @@ module _ (σ : Shape) (ok : σ .most ≤ 8 * σ .indexed) (r : Reader) (l : Lega
   abbrev replaced : Ended
   replaced = callOf σ (cleared .after) s′ lent′
 
-  -- both are answered 00h; page p has the buffer's bytes and its bit, and every other page keeps both
+  -- both are answered 00h; page p has the buffer's bytes and its bit, every other page keeps both, and all else stays
   pub record Replaced (b p : ℕ) : Type 0 where
     pub first : Replies (acknowledge (r .plain .address) 0x00 []) s lent cleared
     pub next : Replies (acknowledge (r .plain .address) 0x00 []) s′ lent′ replaced
     pub bytes : page (replaced .after) p ≡ buffer b (rested r .guarded) .bytes
     pub others : (q : ℕ) → q ≢ p → page (replaced .after) q ≡ page r q
     pub bits : (q : ℕ) → has (replaced .after) q ≡ (eqb p q || has r q)
+    pub settings : replaced .after .plain ≡ rested r .plain
+    pub notepad : replaced .after .guarded .notepad ≡ r .guarded .notepad
+    pub buffer1 : replaced .after .guarded .buffer1 ≡ rested r .guarded .buffer1
+    pub buffer2 : replaced .after .guarded .buffer2 ≡ rested r .guarded .buffer2
 
   pub delete-then-store : (b p : ℕ) → hear (r .plain .address) s ≡ order (command (barred (deletChar p 1)))
       → hear (r .plain .address) s′ ≡ order (command (barred (store b p))) → Numbered b → p < pages r → buffer b (rested r .guarded) .filled ≡ true → Replaced b p
@@ -73,6 +77,10 @@ module _ (σ : Shape) (ok : σ .most ≤ 8 * σ .indexed) (r : Reader) (l : Lega
         bytes = w .bytes ∙ ap (λ (c : Buffer). c .bytes) buffers;
         others = λ q o. w .others q o ∙ d .others q (λ j k. o (omega arith));
         bits = λ q. w .bits q ∙ ap (λ (c : Bool). eqb p q || c) (d .bits q) ∙ bits q (ℕ-discrete p q);
+        settings = w .quiet .settings ∙ ap (λ (x : Reader). x .plain) still ∙ d .quiet .settings;
+        notepad = w .quiet .notepad ∙ ap (λ (x : Reader). x .guarded .notepad) still ∙ d .quiet .notepad ∙ spared r .notepad;
+        buffer1 = w .quiet .buffer1 ∙ ap (λ (x : Reader). x .guarded .buffer1) still ∙ d .quiet .buffer1;
+        buffer2 = w .quiet .buffer2 ∙ ap (λ (x : Reader). x .guarded .buffer2) still ∙ d .quiet .buffer2;
       }
     where
       d : Deleted σ ok r l u s lent v p 1
@@ -175,10 +183,10 @@ seen q x old = go (grants a (x .reply)) refl
     go true e d = seen-heard q x a (same-eq (x .reply) (acknowledge a 0x00 []) e) old (hear a (x .run)) refl d
     go false e d = inr d
 
-told : (q : ℕ) (xs : List Exchange) (old : List Act) → Cut q (history xs old) → SawDeleted q xs ⊎ Cut q old
+cut-seen : (q : ℕ) (xs : List Exchange) (old : List Act) → Cut q (history xs old) → SawDeleted q xs ⊎ Cut q old
 unfolding history
-told q [] old d = inr d
-told q (x ∷ xs) old d = later (told q xs (actsSeen x ++ old) d)
+cut-seen q [] old d = inr d
+cut-seen q (x ∷ xs) old d = later (cut-seen q xs (actsSeen x ++ old) d)
   where
     first : Deletes q x ⊎ Cut q old → SawDeleted q (x ∷ xs) ⊎ Cut q old
     first (inl y) = inl (inl y)
@@ -194,18 +202,18 @@ record Holds (q : ℕ) (b t x : List ℕ) : Type 0 where
   bit-set : stored x q ≡ true
   bytes : part (512 * q) 512 t ≡ b
 
-record Spared (q : ℕ) (b t x : List ℕ) (acts : List Act) : Type 0 where
+record Survives (q : ℕ) (b t x : List ℕ) (acts : List Act) : Type 0 where
   typed : Bytes x
   kept : Holds q b t x ⊎ Cut q acts
 
-spared-kept : (m q : ℕ) (b : List ℕ) → Keeps m (Spared q b)
-spared-kept m q b = record { puts = puts; cuts = cuts; clears = λ t x old k. record { typed = fine-zeros (length x) .bytes; kept = inr tt } }
+survives-kept : (m q : ℕ) (b : List ℕ) → Keeps m (Survives q b)
+survives-kept m q b = record { puts = puts; cuts = cuts; clears = λ t x old k. record { typed = fine-zeros (length x) .bytes; kept = inr tt } }
   where
     fine : (x : List ℕ) → Bytes x → length x ≡ m → Fine m x
     fine x y w = record { long = w; bytes = y }
 
-    puts : (t x : List ℕ) (old : List Act) → Spared q b t x old → (c : ℕ) → Library m t x c → (p : ℕ) (d : List ℕ) → p < c → length d ≡ 512
-        → stored x p ≡ false → Spared q b (lay (512 * p) d t) (setBit x p) (put p ∷ old)
+    puts : (t x : List ℕ) (old : List Act) → Survives q b t x old → (c : ℕ) → Library m t x c → (p : ℕ) (d : List ℕ) → p < c → length d ≡ 512
+        → stored x p ≡ false → Survives q b (lay (512 * p) d t) (setBit x p) (put p ∷ old)
     puts t x old k c a p d l e v = record { typed = fine-with x p (fine x (k .typed) (a .wide)) .bytes; kept = go (k .kept) }
       where
         go : Holds q b t x ⊎ Cut q old → Holds q b (lay (512 * p) d t) (setBit x p) ⊎ Cut q old
@@ -218,8 +226,8 @@ spared-kept m q b = record { puts = puts; cuts = cuts; clears = λ t x old k. re
               bytes = away t d p 1 (omega arith) (omega (arith, a .long)) q (λ g f. o (omega arith)) ∙ h .bytes;
             }
 
-    cuts : (t x : List ℕ) (old : List Act) → Spared q b t x old → (c : ℕ) → Library m t x c → (p n : ℕ) → p + n ≤ c
-        → Spared q b (lay (512 * p) (zeros (512 * n)) t) (clearBits x p n) (cut p n ∷ old)
+    cuts : (t x : List ℕ) (old : List Act) → Survives q b t x old → (c : ℕ) → Library m t x c → (p n : ℕ) → p + n ≤ c
+        → Survives q b (lay (512 * p) (zeros (512 * n)) t) (clearBits x p n) (cut p n ∷ old)
     cuts t x old k c a p n l = record { typed = fine-span x p n y .bytes; kept = go (k .kept) (decLe p q) (decLt q (p + n)) }
       where
         y : Fine m x
@@ -252,17 +260,17 @@ module _ (σ : Shape) (ok : σ .most ≤ 8 * σ .indexed) (r : Reader) (y : Byte
   unfolding stored bit
   only-by-deletion = go (k .kept)
     where
-      k : Spared q (page r q) (finally σ r es .guarded .templates) (finally σ r es .guarded .index) (history (exchanges σ r es) [])
-      k = events-keep σ ok (Spared q (page r q)) (spared-kept (σ .indexed) q (page r q)) es r [] record { typed = y; kept = inl record { bit-set = s; bytes = refl } }
+      k : Survives q (page r q) (finally σ r es .guarded .templates) (finally σ r es .guarded .index) (history (exchanges σ r es) [])
+      k = events-keep σ ok (Survives q (page r q)) (survives-kept (σ .indexed) q (page r q)) es r [] record { typed = y; kept = inl record { bit-set = s; bytes = refl } }
 
-      seen-cut : SawDeleted q (exchanges σ r es) ⊎ ⊥ → SawDeleted q (exchanges σ r es)
-      seen-cut (inl d) = d
-      seen-cut (inr z) = absurd z
+      none-before : SawDeleted q (exchanges σ r es) ⊎ ⊥ → SawDeleted q (exchanges σ r es)
+      none-before (inl d) = d
+      none-before (inr z) = absurd z
 
       go : Holds q (page r q) (finally σ r es .guarded .templates) (finally σ r es .guarded .index) ⊎ Cut q (history (exchanges σ r es) [])
           → Untouched q r (finally σ r es) ⊎ SawDeleted q (exchanges σ r es)
       go (inl h) = inl record { bit-set = h .bit-set; bytes = h .bytes }
-      go (inr z) = inr (seen-cut (told q (exchanges σ r es) [] z))
+      go (inr z) = inr (none-before (cut-seen q (exchanges σ r es) [] z))
 
   -- so a page that the host did not see deleted is still stored, with the same bytes
   pub untouched : (SawDeleted q (exchanges σ r es) → ⊥) → Untouched q r (finally σ r es)

@@ -12,9 +12,10 @@ use Rattle.protocol.specs.Numbers.{pageBytes, leastPages, mostPages, ind
 use Rattle.protocol.specs.Bytes.{Bytes, two, four, same, lay, joined}
 use Rattle.protocol.specs.Tests.{countBelow}
 use Rattle.protocol.specs.Index.{bit, stored, setBits}
-use Rattle.protocol.specs.Reader.{closed, opened, unfit, Plain, Guarded, capacity, sizeOf, keyed, locked, bufferOf, emptied, filledWith, fresh, zeroed}
+use Rattle.protocol.specs.Reader.{closed, opened, unfit, Plain, Guarded, Reader, capacity, sizeOf, keyed, locked, bufferOf, emptied, filledWith, fresh, zeroed}
 use Rattle.protocol.specs.Table.{isBuffer, second, statusOf}
-use Rattle.protocol.specs.Call.{core, Told, replyOf}
+use Rattle.protocol.specs.Call.{Shape, core, Lent, Told, replyOf, callOf, switchOf}
+use Rattle.protocol.specs.Dialogue.{Event, received, switch, on, finally, exchanges}
 use Rattle.protocol.specs.Records.{transferOf, freshOf}
 use Rattle.protocol.proofs.Laws.Logic.{T→true, T→false, and-l, and-r, and-i}
 use Rattle.protocol.proofs.Laws.Lists.{same-refl, same-eq, length-lay, at-before, at-inside, at-behind}
@@ -228,4 +229,29 @@ lists =
       true-counted = λ f n e. rw e (omega arith);
       false-counted = λ f n e. rw e (omega arith);
       reply-is = λ t. refl;
+    }
+
+-- ---- sequences of calls and line switches
+
+pub record Sequences (σ : Shape) : Type 0 where
+  -- each event finds the reader that the one before it left
+  pub finally-none : (r : Reader) → finally σ r [] ≡ r
+  pub finally-run : (r : Reader) (s : List ℕ) (lent : Lent) (es : List Event) → finally σ r (received s lent ∷ es) ≡ finally σ (callOf σ r s lent .after) es
+  pub finally-switch : (r : Reader) (es : List Event) → finally σ r (switch ∷ es) ≡ finally σ (switchOf r .after) es
+  -- what the host saw: the run of each call and the reply to it, the front of the reply room; of a line switch nothing
+  pub seen-none : (r : Reader) → exchanges σ r [] ≡ []
+  pub seen-run : (r : Reader) (s : List ℕ) (lent : Lent) (es : List Event) → exchanges σ r (received s lent ∷ es)
+      ≡ record { run = s; reply = take (callOf σ r s lent .told .length) (callOf σ r s lent .told .room) } ∷ exchanges σ (callOf σ r s lent .after) es
+  pub seen-switch : (r : Reader) (es : List Event) → exchanges σ r (switch ∷ es) ≡ exchanges σ (switchOf r .after) es
+
+pub sequences : (σ : Shape) → Sequences σ
+unfolding finally on exchanges replyOf
+sequences σ =
+    record {
+      finally-none = λ r. refl;
+      finally-run = λ r s lent es. refl;
+      finally-switch = λ r es. refl;
+      seen-none = λ r. refl;
+      seen-run = λ r s lent es. refl;
+      seen-switch = λ r es. refl;
     }
