@@ -110,7 +110,7 @@ def dialogue(reader):
     reader.ask("How many templates are stored?", "TempleteNum", listed=two_bytes(1))
     reader.ask("Another template goes into buffer 1.", "DownChar", 1)
     reader.download(other)
-    reader.ask("Buffer 1 is stored on page 7 again, but a page that is stored is not written over.", "Store", 1, 7, code=0x22)
+    reader.ask("Page 7 is stored already, and is not written over.", "Store", 1, 7, code=0x22)
     reader.ask("Page 7 is loaded into buffer 2.", "LoadChar", 2, 7)
     reader.ask("What buffer 2 holds is the template that was stored.", "UpChar", 2)
     reader.upload(template)
