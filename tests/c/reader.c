@@ -36,7 +36,6 @@ static enum { STEP, OFFERED, HELD, DOORS } door;
 
 static const uint8_t handshake[] = {0xEF, 0x01, 0xFF, 0xFF, 0xFF, 0xFF, 0x01, 0x00, 0x03, 0x40, 0x00, 0x44};
 static const uint8_t count[] = {0xEF, 0x01, 0xFF, 0xFF, 0xFF, 0xFF, 0x01, 0x00, 0x03, 0x1D, 0x00, 0x21};
-static const uint8_t done[] = {0xEF, 0x01, 0xFF, 0xFF, 0xFF, 0xFF, 0x07, 0x00, 0x03, 0x00, 0x00, 0x0A};
 
 static void fill_bytes(void) {
     for (size_t i = 0; i < sizeof bytes; i++) ((uint8_t *)&bytes)[i] = (uint8_t)(0xA5 + 7 * i);
@@ -131,7 +130,13 @@ static void is_answered(const char *name, size_t which, const uint8_t *reply, si
     check_of(name, which, "memory, settings and guards", unchanged(), extent());
 }
 
-static void is_done(const char *name, size_t which) { is_answered(name, which, done, sizeof done); }
+/* The same with a code alone. */
+static void is_said(const char *name, size_t which, uint8_t code) {
+    const uint8_t reply[] = {0xEF, 0x01, 0xFF, 0xFF, 0xFF, 0xFF, 0x07, 0x00, 0x03, code, 0x00, (uint8_t)(0x0A + code)};
+    is_answered(name, which, reply, sizeof reply);
+}
+
+static void is_done(const char *name, size_t which) { is_said(name, which, BYSTRODOL_CODE_DONE); }
 
 static void answers(const char *name, size_t which) {
     call();
@@ -311,6 +316,8 @@ static void changes(void) {
 
 static uint8_t *page_of(uint8_t *templates, uint8_t page) { return templates + BYSTRODOL_PAGE_BYTES * page; }
 
+static uint8_t bit_of(uint8_t page) { return (uint8_t)(1u << page % 8); }
+
 /* A reader with both buffers filled and all ten pages stored; where it says same, the page has the buffer's bytes. */
 static void set_up_stored(int buffer, uint8_t page, int same) {
     set_up();
@@ -319,52 +326,48 @@ static void set_up_stored(int buffer, uint8_t page, int same) {
     if (same) memcpy(page_of(parts[TEMPLATES], page), parts[buffer], BYSTRODOL_PAGE_BYTES);
 }
 
-/* A command without listed bytes is answered by the code alone; nothing else of the area changes but what is changed of it as it was. */
-static void is_said(const char *name, uint8_t page, uint8_t code) {
-    const uint8_t reply[] = {0xEF, 0x01, 0xFF, 0xFF, 0xFF, 0xFF, 0x07, 0x00, 0x03, code, 0x00, (uint8_t)(0x0A + code)};
-    is_answered(name, page, reply, sizeof reply);
+static void send_store(int buffer, uint8_t page) {
+    const uint8_t store[] = {BYSTRODOL_COMMAND_STORE, buffer == BUFFER1 ? 1 : 2, 0, page};
+    send(BYSTRODOL_PACKET_COMMAND, store, sizeof store);
 }
 
-/* Store to the page: 22h, and nothing changes. Once the page is deleted, Store puts the buffer there. */
+/* Store to a vacant page puts the buffer there, and sets the bit. */
+static void is_stored(const char *name, int buffer, uint8_t page) {
+    send_store(buffer, page);
+    memcpy(page_of(part_was(TEMPLATES), page), part_was(buffer), BYSTRODOL_PAGE_BYTES);
+    part_was(INDEX)[page / 8] |= bit_of(page);
+    is_done(name, page);
+}
+
+/* Store to a stored page: 22h, and nothing changes. Once the page is deleted it is stored on. */
 static void is_kept(int buffer, uint8_t page, int same) {
-    const uint8_t store[] = {BYSTRODOL_COMMAND_STORE, buffer == BUFFER1 ? 1 : 2, 0, page};
     const uint8_t delete[] = {BYSTRODOL_COMMAND_DELET_CHAR, 0, page, 0, 1};
-    const uint8_t bit = (uint8_t)(1u << page % 8);
     set_up_stored(buffer, page, same);
-    send(BYSTRODOL_PACKET_COMMAND, store, sizeof store);
+    send_store(buffer, page);
     is_said("Store to a stored page", page, BYSTRODOL_CODE_PAGE_TAKEN);
     send(BYSTRODOL_PACKET_COMMAND, delete, sizeof delete);
     memset(page_of(part_was(TEMPLATES), page), 0, BYSTRODOL_PAGE_BYTES);
-    part_was(INDEX)[page / 8] &= (uint8_t)~bit;
-    is_said("DeletChar of a stored page", page, BYSTRODOL_CODE_DONE);
-    send(BYSTRODOL_PACKET_COMMAND, store, sizeof store);
-    memcpy(page_of(part_was(TEMPLATES), page), part_was(buffer), BYSTRODOL_PAGE_BYTES);
-    part_was(INDEX)[page / 8] |= bit;
-    is_said("Store to a deleted page", page, BYSTRODOL_CODE_DONE);
+    part_was(INDEX)[page / 8] &= (uint8_t)~bit_of(page);
+    is_done("DeletChar of a stored page", page);
+    is_stored("Store to a deleted page", buffer, page);
 }
 
-/* A page whose bit is clear takes a template, whatever bytes it has. */
-static void is_taken_up(uint8_t page) {
-    const uint8_t store[] = {BYSTRODOL_COMMAND_STORE, 1, 0, page};
-    const uint8_t bit = (uint8_t)(1u << page % 8);
+/* A page whose bit is clear is stored on, whatever bytes it has. */
+static void is_vacant(uint8_t page) {
     set_up_stored(BUFFER1, page, 0);
-    parts[INDEX][page / 8] &= (uint8_t)~bit;
-    send(BYSTRODOL_PACKET_COMMAND, store, sizeof store);
-    memcpy(page_of(part_was(TEMPLATES), page), part_was(BUFFER1), BYSTRODOL_PAGE_BYTES);
-    part_was(INDEX)[page / 8] |= bit;
-    is_said("Store to a vacant page that has bytes", page, BYSTRODOL_CODE_DONE);
+    parts[INDEX][page / 8] &= (uint8_t)~bit_of(page);
+    is_stored("Store to a vacant page that has bytes", BUFFER1, page);
 }
 
 /* The command ends a transfer into the other buffer first; and a buffer that is not filled is told before a page that is stored. */
 static void ends_transfer(void) {
-    static const uint8_t store[] = {BYSTRODOL_COMMAND_STORE, 1, 0, 4}, other[] = {BYSTRODOL_COMMAND_STORE, 2, 0, 4};
     set_up_stored(BUFFER1, 4, 0);
     area.line.settings.filled2 = 0, area.line.settings.transfer = 2, area.line.settings.got = 128;
-    send(BYSTRODOL_PACKET_COMMAND, store, sizeof store);
+    send_store(BUFFER1, 4);
     was.line.settings.transfer = 0, was.line.settings.got = 0;
     memset(part_was(BUFFER2), 0, BYSTRODOL_PAGE_BYTES);
     is_said("Store to a stored page, in a transfer", 4, BYSTRODOL_CODE_PAGE_TAKEN);
-    send(BYSTRODOL_PACKET_COMMAND, other, sizeof other);
+    send_store(BUFFER2, 4);
     is_said("Store to a stored page, not filled", 4, BYSTRODOL_CODE_NOTHING_THERE);
 }
 
@@ -374,7 +377,7 @@ static void kept_pages(void) {
             is_kept(BUFFER1, page, same);
             is_kept(BUFFER2, page, same);
         }
-        is_taken_up(page);
+        is_vacant(page);
     }
     ends_transfer();
 }
@@ -431,7 +434,6 @@ static void counted(void) {
 /* A reader with a password: the mark decides whether a command is barred, and no byte but 1 opens it. */
 static void opened_by(uint8_t byte) {
     static const uint8_t none[] = {0xEF, 0x01, 0xFF, 0xFF, 0xFF, 0xFF, 0x07, 0x00, 0x05, 0x00, 0x00, 0x00, 0x00, 0x0C};
-    static const uint8_t barred[] = {0xEF, 0x01, 0xFF, 0xFF, 0xFF, 0xFF, 0x07, 0x00, 0x03, 0x21, 0x00, 0x2B};
     set_up();
     area.line.settings.password[0] = 0x80;
     area.line.settings.verified = byte;
@@ -441,7 +443,8 @@ static void opened_by(uint8_t byte) {
         return;
     }
     call();
-    is_answered("a password and the verified mark", byte, byte ? none : barred, byte ? sizeof none : sizeof barred);
+    if (byte) is_answered("a password and the verified mark", byte, none, sizeof none);
+    else is_said("a password and the verified mark", byte, BYSTRODOL_CODE_PASSWORD_FIRST);
 }
 
 static void any_marks(void) {
@@ -489,7 +492,7 @@ static int is_legal(const struct bystrodol_settings *s) {
 /* A handshake to the reader's address is answered with it, and ends a transfer; or the call is refused. */
 static void any_settings_called(size_t which) {
     static const uint8_t hand_shake = BYSTRODOL_COMMAND_HAND_SHAKE, code = BYSTRODOL_CODE_DONE;
-    uint8_t reply[sizeof done];
+    uint8_t reply[BYSTRODOL_FRAME_BYTES + 1];
     const uint8_t *a = area.line.settings.address;
     uint32_t address = (uint32_t)a[0] << 24 | (uint32_t)a[1] << 16 | (uint32_t)a[2] << 8 | a[3];
     if (!is_legal(&area.line.settings)) {
