@@ -15,3 +15,4 @@ pub mod Drain
 pub mod Holding
 pub mod History
 pub mod Sizes
+pub mod Longer

@@ -25,6 +25,8 @@ pub mod ReplyFits
 pub mod ValidCount
 pub mod Untouched
 pub mod Ones
+pub mod Thousand
+pub mod BroughtOver
 pub mod SizeCode
 pub mod FirstDownload
 pub mod Lock

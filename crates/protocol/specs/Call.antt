@@ -21,7 +21,7 @@ pub record Shape : Type 0 where
   pub indexed : ℕ
   pub noted : ℕ
 
--- document 01's reader
+-- document 01's reader, its pages and its index by request [6]
 unfoldable pub core : Shape
 core = record { least = leastPages; most = mostPages; indexed = indexBytes; noted = notepadBytes }
 

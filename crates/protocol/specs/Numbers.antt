@@ -7,19 +7,26 @@ use Prim.Native.Nat.{ℕ, _+_}
 abbrev pub pageBytes : ℕ
 pageBytes = 512
 
--- the least and the most pages of a library
+-- the least and the most pages of a library (request [6])
 abbrev pub leastPages : ℕ
 leastPages = 1
 
 abbrev pub mostPages : ℕ
-mostPages = 256
+mostPages = 1000
 
 -- an index, and the part of it that one ReadIndexTable gives
 abbrev pub indexBytes : ℕ
-indexBytes = 32
+indexBytes = 128
 
 abbrev pub indexPageBytes : ℕ
 indexPageBytes = 32
+
+-- an index stored before request [6], and the zero bytes that bring it over
+abbrev pub oldIndexBytes : ℕ
+oldIndexBytes = 32
+
+abbrev pub addedBytes : ℕ
+addedBytes = 96
 
 -- the notepad, and one of its pages
 abbrev pub notepadBytes : ℕ

@@ -9,6 +9,7 @@ use Rattle.protocol.specs.declared.Built.{Built}
 use Rattle.protocol.specs.declared.Received.{Received}
 use Rattle.protocol.specs.declared.Emptied.{Emptied}
 use Rattle.protocol.specs.Packet.{Made}
+use Rattle.protocol.specs.BringOver.{Brought}
 use Rattle.protocol.specs.Reader.{Transfer, closed, opened, unfit, Plain, Buffer, Reader, settings, fresh, contents, reader}
 use Rattle.protocol.specs.Call.{Lent, Ended}
 use Rattle.protocol.specs.Receiver.{line, Handed}
@@ -71,3 +72,7 @@ freshOf t i n b d = reader fresh (contents t i n (buffer b false) (buffer d fals
 
 abbrev pub madeOf : Built → List ℕ → Made
 madeOf b room = record { refusal = b .refusal; length = b .length; room = room }
+
+-- bringing over: the refusal or 0 that it returned, and the lent index after it
+abbrev pub broughtOf : ℕ → List ℕ → Brought
+broughtOf refusal index = record { refusal = refusal; index = index }

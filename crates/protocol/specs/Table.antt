@@ -1,4 +1,5 @@
--- The sixteen commands: document 01's table, right half. Each row's tests, left to right, and its effect. Store's last test is request [5]'s.
+-- The sixteen commands: document 01's table, right half. Each row's tests, left to right, and its effect. Store's last test is request [5]'s; how many pages
+-- ReadIndexTable has goes by the index's length, which is request [6]'s.
 use mathlib.Core.Bool.{Bool, _&&_, _||_, not, cond}
 use mathlib.Core.List.{List, [], _∷_}
 use Prim.Native.Nat.{ℕ, _+_, _*_, _/_}

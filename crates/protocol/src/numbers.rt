@@ -6,13 +6,15 @@
 // A page of templates, and a character buffer.
 pub const PAGE: usize = 512;
 
-// The most pages that a library has.
-pub const MOST_PAGES: usize = 256;
+// The most pages that a library has (request [6]).
+pub const MOST_PAGES: usize = 1000;
 
-// The bytes of an index.
-pub const INDEX: usize = 32;
+// The bytes of an index, and of one stored before request [6].
+pub const INDEX: usize = 128;
 
-// The bytes of a notepad, and of one of its pages; ReadIndexTable too gives as many.
+pub const OLD_INDEX: usize = 32;
+
+// The bytes of a notepad, and of one of its pages; a page of ReadIndexTable has as many.
 pub const NOTEPAD: usize = 512;
 
 pub const NOTE: usize = 32;

@@ -1,7 +1,7 @@
 -- Counting: how many numbers below n have a property, and so how many bits of an index are set.
 use mathlib.Core.Bool.{Bool, false, cond}
 use mathlib.Core.Path.{_≡_, refl, sym, ap, ap₂, _∙_}
-use mathlib.Core.List.{List, [], _∷_, foldr}
+use mathlib.Core.List.{List, [], _∷_, _++_, foldr}
 use Prim.Native.Nat.{ℕ, zero, suc, _+_, _-_, _*_, _/_, _%_, _^_, _≤_, _<_}
 use native.Mathlib.Nat.{add-zero, add-suc, div-one}
 use native.Mathlib.Omega.{arith}
@@ -9,11 +9,11 @@ use lib.Dec.{T, eqb}
 use lib.Arith.{lt-one}
 use lib.Pow.{shr-lt, shr-shr}
 use lib.Count.{ones, ones-step}
-use lib.ListN.{length}
-use Rattle.protocol.specs.Bytes.{Bytes, byteAt}
+use lib.ListN.{length, length-append, length-replicate}
+use Rattle.protocol.specs.Bytes.{Bytes, byteAt, zeros}
 use Rattle.protocol.specs.Tests.{countBelow}
 use Rattle.protocol.specs.Index.{bit, stored, bits, setBits, clearFrom}
-use Rattle.protocol.proofs.Laws.Index.{clear-from}
+use Rattle.protocol.proofs.Laws.Index.{clear-from, stored-over, stored-past}
 
 pub count-ext : (f g : ℕ → Bool) (n : ℕ) → ((q : ℕ) → q < n → f q ≡ g q) → countBelow f n ≡ countBelow g n
 unfolding countBelow
@@ -39,6 +39,19 @@ below-capacity x c h t =
     count-none (λ q. stored x (c + q)) (bits x - c) (λ q l. clear-from x c t (c + q) (omega arith) (omega arith))
     in
     ap (countBelow (stored x)) (sym e) ∙ count-add (stored x) c (bits x - c) ∙ omega arith
+
+-- zero bytes added to an index add nothing to the count
+pub count-over : (x : List ℕ) (n : ℕ) → setBits (x ++ zeros n) ≡ setBits x
+unfolding setBits
+count-over x n =
+    let long : bits (x ++ zeros n) ≡ bits x + 8 * n = simp (length-append, length-replicate) (omega arith) in
+    let none : countBelow (λ q. stored x (bits x + q)) (8 * n) ≡ 0 =
+    count-none (λ q. stored x (bits x + q)) (8 * n) (λ q l. stored-past x (bits x + q) (omega arith))
+    in
+    ap (countBelow (stored (x ++ zeros n))) long
+    ∙ count-ext (stored (x ++ zeros n)) (stored x) (bits x + 8 * n) (λ q l. stored-over x n q)
+    ∙ count-add (stored x) (bits x) (8 * n)
+    ∙ omega arith
 
 -- ---- a number's ones
 

@@ -2,7 +2,7 @@
 use mathlib.Core.Bool.{Bool, true, false, _&&_, _||_, not, cond}
 use mathlib.Core.Path.{_≡_, refl, sym, ap, _∙_}
 use mathlib.Core.Logic.{_≢_}
-use mathlib.Core.List.{List}
+use mathlib.Core.List.{List, [], _∷_, _++_}
 use Prim.Native.Nat.{ℕ, zero, suc, _+_, _-_, _*_, _/_, _%_, _^_, _≤_, _<_}
 use native.Mathlib.Nat.{zero-div}
 use native.Mathlib.Omega.{arith}
@@ -10,7 +10,7 @@ use native.Mathlib.Decide.{ℕ-discrete, decLe, decLt}
 use lib.Dec.{T, eqb, lit<}
 use borrow.Author.Tests.{le-leb, lt-leb, lt-ltb, le-ltb, ne-eqb}
 use lib.Bits.{bitAnd, bitOr}
-use lib.ListN.{length, set, length-set, length-replicate}
+use lib.ListN.{length, set, length-set, length-replicate, length-append, List·getD-eq-default}
 use lib.Seq.{getD-set-same, getD-set-other, set-out, set-getD}
 use Rattle.protocol.specs.Bytes.{Bytes, byteAt, zeros}
 use Rattle.protocol.specs.Tests.{among}
@@ -199,6 +199,29 @@ pub fine-zeros : (n : ℕ) → Fine n (zeros n)
 unfolding Bytes
 fine-zeros n = record { long = length-replicate n 0; bytes = λ i. rw (byte-zeros n i) (lit< tt) }
 
+-- ---- an index with zero bytes added
+
+pub byte-over : (x : List ℕ) (n i : ℕ) → byteAt (x ++ zeros n) i ≡ byteAt x i
+byte-over [] n i = byte-zeros n i
+byte-over (b ∷ x) n zero = refl
+byte-over (b ∷ x) n (suc i) = byte-over x n i
+
+-- every bit keeps its place
+pub stored-over : (x : List ℕ) (n q : ℕ) → stored (x ++ zeros n) q ≡ stored x q
+unfolding stored
+stored-over x n q = ap (λ (b : ℕ). eqb (bit b (q % 8)) 1) (byte-over x n (q / 8))
+
+pub fine-over : {m : ℕ} (x : List ℕ) (n : ℕ) → Fine m x → Fine (m + n) (x ++ zeros n)
+unfolding Bytes
+fine-over x n f = record { long = simp (length-append, length-replicate) (omega (arith, f .long)); bytes = λ i. rw (byte-over x n i) (f .bytes i) }
+
+-- no bit is set past the last byte
+pub stored-past : (x : List ℕ) (q : ℕ) → bits x ≤ q → stored x q ≡ false
+unfolding stored
+stored-past x q h =
+    let z : byteAt x (q / 8) ≡ 0 = List·getD-eq-default x 0 {n = q / 8} (omega arith) in
+    ap (λ (b : ℕ). eqb (bit b (q % 8)) 1) z ∙ ap (λ (b : ℕ). eqb b 1) (bit-zero (q % 8))
+
 -- ---- no bit at or above c
 
 pub clear-from : (x : List ℕ) (c : ℕ) → T (clearFrom x c) → (q : ℕ) → c ≤ q → q < bits x → stored x q ≡ false
@@ -206,6 +229,14 @@ unfolding clearFrom
 clear-from x c t q l h =
     let e : c + (q - c) ≡ q = omega arith in
     ap (stored x) (sym e) ∙ T→false (stored x (c + (q - c))) (every-at (λ k. not (stored x (c + k))) (bits x - c) t (q - c) (omega arith))
+
+-- nor past the last byte
+pub clear-above : (x : List ℕ) (c : ℕ) → T (clearFrom x c) → (q : ℕ) → c ≤ q → stored x q ≡ false
+clear-above x c t q l = go (decLt q (bits x))
+  where
+    go : Dec (q < bits x) → stored x q ≡ false
+    go (yes h) = clear-from x c t q l h
+    go (no h) = stored-past x q (omega arith)
 
 pub clear-to : (x : List ℕ) (c : ℕ) → ((q : ℕ) → c ≤ q → q < bits x → stored x q ≡ false) → T (clearFrom x c)
 unfolding clearFrom

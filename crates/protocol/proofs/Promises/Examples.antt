@@ -54,10 +54,10 @@ keyed10 = reader (withPassword (four 5) fresh) (fresh10 .guarded)
 
 -- pages 0 and 9 stored, and page 0 alone
 pub stored09 : Reader
-stored09 = reader fresh (withLibrary (fresh10 .guarded .templates) (0x01 ∷ 0x02 ∷ zeros 30) (fresh10 .guarded))
+stored09 = reader fresh (withLibrary (fresh10 .guarded .templates) (0x01 ∷ 0x02 ∷ zeros 126) (fresh10 .guarded))
 
 pub stored0 : Reader
-stored0 = reader fresh (withLibrary (fresh10 .guarded .templates) (0x01 ∷ zeros 31) (fresh10 .guarded))
+stored0 = reader fresh (withLibrary (fresh10 .guarded .templates) (0x01 ∷ zeros 127) (fresh10 .guarded))
 
 pub index-begins : stored09 .guarded .index ≡ setBit (setBit (fresh10 .guarded .index) 0) 9
 unfolding highestSize longest verdict within every countBelow two four wordAt total same lay follow joined sumOf packet isIdentifier limit accepts marksAt later startOf allBut findFrom findOf usedOf bit stored setBit clearBit clearBits setBits clearFrom capacity sizeOf keyed locked bufferOf emptied filledWith withMark withTransfer withPassword withAddress withTuning withLibrary withNotepad withBuffer fresh zeroed commands rowOf orderAs orderOf acknowledge packets dataPackets apply isBuffer inRange withParameter statusOf rule publicOf freeRule hearAs hearAt hear silence says carryAs carry carryFree obey heed ended rested fits takeAs takeIn answer stepOf wiped switched core fitLibrary fitBuffers fitLengths fitPlain fitTransfer sound legal fresh10 stored09

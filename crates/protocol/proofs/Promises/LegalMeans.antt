@@ -5,20 +5,19 @@ use mathlib.Core.Logic.{_⊎_, inl, inr, _↔_}
 use mathlib.Core.List.{List, [], _∷_}
 use Prim.Native.Nat.{ℕ, zero, suc, _*_, _/_, _%_, _^_, _≤_, _<_}
 use native.Mathlib.Omega.{arith}
-use native.Mathlib.Decide.{decLt}
 use lib.Dec.{T, leb→le, le→leb, ltb→lt, lt→ltb, lit≤}
 use borrow.Author.Tests.{eqb-false}
-use lib.ListN.{length, getD, List·getD-eq-default}
+use lib.ListN.{length, getD}
 use Rattle.protocol.specs.Numbers.{highestSize}
 use Rattle.protocol.specs.Bytes.{four, same}
 use Rattle.protocol.specs.Tests.{within}
-use Rattle.protocol.specs.Index.{bit, stored, clearFrom}
+use Rattle.protocol.specs.Index.{bit, stored}
 use Rattle.protocol.specs.Reader.{Transfer, closed, opened, unfit, Plain, Guarded, Reader, capacity, sizeOf, keyed, locked, bufferOf}
 use Rattle.protocol.specs.Records.{transferOf}
 use Rattle.protocol.specs.Call.{core, fitBuffers, fitPlain, fitTransfer, sound, fitLengths, legal}
 use Rattle.protocol.proofs.Laws.Logic.{and-l, and-r, and-i, and-false, eq→eqb}
 use Rattle.protocol.proofs.Laws.Lists.{same-refl, same-eq}
-use Rattle.protocol.proofs.Laws.Index.{bit-zero, clear-from, clear-to}
+use Rattle.protocol.proofs.Laws.Index.{clear-above, clear-to}
 use Rattle.protocol.proofs.Laws.Legal.{buffer-long, moving, Moving, fit-opened, Shelf, shelf, unshelf}
 
 -- document 01's own reader has a bit for every page
@@ -26,13 +25,14 @@ pub core-holds : core .most ≤ 8 * core .indexed
 unfolding core
 core-holds = lit≤ tt
 
--- "Templates: 512 × C bytes, C from 1 to 256." "Index: 32 bytes." "Notepad: 512 bytes." "Character buffers 1 and 2: 512 bytes each."
+-- "Templates: 512 × C bytes", by request [6] C from 1 to 1000 and "the index becomes 128 bytes for every reader"; "Notepad: 512 bytes." "Character buffers 1
+-- and 2: 512 bytes each."
 pub record Lengths (g : Guarded) : Type 0 where
   pub pages : ℕ
   pub templates : length (g .templates) ≡ 512 * pages
   pub least : 1 ≤ pages
-  pub most : pages ≤ 256
-  pub index : length (g .index) ≡ 32
+  pub most : pages ≤ 1000
+  pub index : length (g .index) ≡ 128
   pub notepad : length (g .notepad) ≡ 512
   pub buffer1 : length (g .buffer1 .bytes) ≡ 512
   pub buffer2 : length (g .buffer2 .bytes) ≡ 512
@@ -170,17 +170,6 @@ bit-clear x q =
     let n : ℕ = getD x (q / 8) 0 / 2 ^ (q % 8) in
     (λ e. let d : n % 2 ≡ 1 → ⊥ = eqb-false (n % 2) 1 e in omega (arith, d), λ e. rw e refl)
 
--- a byte behind the index counts as 0
-none-set : (x : List ℕ) (c : ℕ) → T (clearFrom x c) → (q : ℕ) → c ≤ q → stored x q ≡ false
-unfolding bit
-none-set x c t q l = go (decLt q (8 * length x))
-  where
-    go : Dec (q < 8 * length x) → stored x q ≡ false
-    go (yes h) = clear-from x c t q l h
-    go (no h) =
-        let h : length x ≤ q / 8 = omega arith in
-        bit-clear x q .1 (rw (List·getD-eq-default x 0 h) (bit-zero (q % 8)))
-
 -- what refusal 3 tests is this
 pub settings-mean : (r : Reader) → Lengths (r .guarded) → T (sound r) ↔ Settled r
 unfolding core sound fitPlain within highestSize capacity
@@ -198,7 +187,7 @@ settings-mean r m = (to, from)
           baud = (leb→le 1 (r .plain .baud) (search (and-l, and-r) depth 9), leb→le (r .plain .baud) 12 (search (and-l, and-r) depth 9));
           sensor = ltb→lt (r .plain .sensor) 65536 (search (and-l, and-r) depth 9);
           transfer = transfer-means (r .plain) (r .guarded) z (r .plain .transfer) .0 (search (and-l, and-r));
-          clear = λ c q e l. bit-clear x q .0 (none-set x (capacity (r .guarded)) (search (and-r)) q (omega arith));
+          clear = λ c q e l. bit-clear x q .0 (clear-above x (capacity (r .guarded)) (search (and-r)) q (omega arith));
         }
 
     from : Settled r → T (sound r)

@@ -1,14 +1,14 @@
 -- The premises of the promises can be met: of demand 3's by two legal locked readers of ten pages, one empty and one full, with the same settings but for the
--- filled marks; of request [5]'s by the full one without a password; of others by every new vault.
+-- filled marks; of request [5]'s by the full one without a password; of request [6]'s by an old one; of others by every new vault.
 use mathlib.Core.Bool.{true, false}
 use mathlib.Core.Path.{_≡_, refl, ap, _∙_}
 use mathlib.Core.List.{[], _∷_}
-use Prim.Native.Nat.{ℕ, _*_, _/_, _%_, _^_, _≤_}
+use Prim.Native.Nat.{ℕ, zero, suc, _*_, _/_, _%_, _^_, _≤_}
 use native.Mathlib.Omega.{arith}
 use lib.Dec.{T, lit≤, lit<}
 use lib.ListN.{replicate, length-replicate}
 use Rattle.protocol.specs.Numbers.{pageBytes, highestSize, longest, holds}
-use Rattle.protocol.specs.Bytes.{zeros, four, same, lay}
+use Rattle.protocol.specs.Bytes.{Bytes, zeros, four, same, lay}
 use Rattle.protocol.specs.Tests.{within, every}
 use Rattle.protocol.specs.Index.{bit, stored, clearFrom}
 use Rattle.protocol.specs.Reader.{closed, Reader, capacity, keyed, locked, bufferOf, emptied, filledWith, withPassword, fresh, zeroed, contents, reader}
@@ -21,13 +21,14 @@ use Rattle.protocol.proofs.Promises.Told.{pages, has}
 use Rattle.protocol.proofs.Promises.Examples.{keyed10, fresh10}
 use Rattle.protocol.proofs.Promises.LegalMeans.{core-holds, means-legal}
 use Rattle.protocol.proofs.Promises.StaysLegal.{Legal}
+use Rattle.protocol.proofs.Promises.BroughtOver.{before, before-holds}
 use Rattle.protocol.proofs.Promises.ComesToRest.{Ready}
 
 -- P9's reader with every page stored and both buffers filled
 pub full10 : Reader
 full10 =
     reader (keyed10 .plain)
-    (contents (replicate 5120 0x11) (0xff ∷ 0x03 ∷ zeros 30) (replicate 512 0x22) (filledWith (replicate pageBytes 0x33)) (filledWith (replicate pageBytes 0x44)))
+    (contents (replicate 5120 0x11) (0xff ∷ 0x03 ∷ zeros 126) (replicate 512 0x22) (filledWith (replicate pageBytes 0x33)) (filledWith (replicate pageBytes 0x44)))
 
 pub record Met (r t : Reader) : Type 0 where
   pub one : T (legal core r)
@@ -58,12 +59,12 @@ pub stored-met : AllStored open10
 unfolding fresh10 full10 open10 fresh zeroed emptied filledWith four same within every bit stored clearFrom capacity keyed locked bufferOf core fitLibrary fitBuffers fitLengths fitPlain fitTransfer sound legal highestSize rested ended
 stored-met = record { one = tt; unlocked = refl; ten = refl; all = tt; filled1 = refl; filled2 = refl }
 
--- fresh settings and zeroed memory are legal: every new vault, of 1 to 256 pages
-pub new-vault : (c : ℕ) → 1 ≤ c → c ≤ 256 → Legal core core-holds (freshOf (replicate (512 * c) 0) (replicate 32 0) (replicate 512 0) (replicate 512 0) (replicate 512 0))
+-- fresh settings and zeroed memory are legal: every new vault, of 1 to 1000 pages
+pub new-vault : (c : ℕ) → 1 ≤ c → c ≤ 1000 → Legal core core-holds (freshOf (replicate (512 * c) 0) (replicate 128 0) (replicate 512 0) (replicate 512 0) (replicate 512 0))
 unfolding fresh four bit
 new-vault c low high =
     record {
-      typed = record { password = refl; address = refl; index = fine-zeros 32 .bytes };
+      typed = record { password = refl; address = refl; index = fine-zeros 128 .bytes };
       legal =
           means-legal _
           record {
@@ -73,7 +74,7 @@ new-vault c low high =
                   templates = length-replicate {A = ℕ} (512 * c) 0;
                   least = low;
                   most = high;
-                  index = length-replicate {A = ℕ} 32 0;
+                  index = length-replicate {A = ℕ} 128 0;
                   notepad = length-replicate {A = ℕ} 512 0;
                   buffer1 = length-replicate {A = ℕ} 512 0;
                   buffer2 = length-replicate {A = ℕ} 512 0;
@@ -85,7 +86,7 @@ new-vault c low high =
                   baud = (lit≤ tt, lit≤ tt);
                   sensor = lit< tt;
                   transfer = tt;
-                  clear = λ k q e l. ap (λ (b : ℕ). b / 2 ^ (q % 8) % 2) (byte-zeros 32 (q / 8)) ∙ bit-zero (q % 8);
+                  clear = λ k q e l. ap (λ (b : ℕ). b / 2 ^ (q % 8) % 2) (byte-zeros 128 (q / 8)) ∙ bit-zero (q % 8);
                 };
           };
     }
@@ -99,3 +100,17 @@ fresh-legal = new-vault 10 (lit≤ tt) (lit≤ tt)
 pub fresh-ready : Ready core core-holds (line fresh10 (holding []))
 unfolding holding lay holds longest
 fresh-ready = record { legal = fresh-legal; cells = refl; few = omega arith }
+
+-- of request [6]'s by the full reader without a password as it was before: it is legal then, so that it can be brought over
+pub old10 : Reader
+old10 = let g = full10 .guarded in reader (fresh10 .plain) (contents (g .templates) (0xff ∷ 0x03 ∷ zeros 30) (g .notepad) (g .buffer1) (g .buffer2))
+
+old-bytes : Bytes (0xff ∷ 0x03 ∷ zeros 30)
+unfolding Bytes
+old-bytes zero = lit< tt
+old-bytes (suc zero) = lit< tt
+old-bytes (suc (suc i)) = fine-zeros 30 .bytes i
+
+pub old-met : Legal before before-holds old10
+unfolding old10 full10 fresh10 fresh filledWith four same within every bit stored clearFrom capacity keyed locked fitLibrary fitBuffers fitLengths fitPlain fitTransfer sound legal highestSize
+old-met = record { typed = record { password = refl; address = refl; index = old-bytes }; legal = tt }

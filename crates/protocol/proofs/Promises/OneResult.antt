@@ -11,10 +11,11 @@ use Rattle.protocol.specs.declared.Built.{Built}
 use Rattle.protocol.specs.declared.Received.{Received}
 use Rattle.protocol.specs.declared.Emptied.{Emptied}
 use Rattle.protocol.specs.Packet.{Made}
+use Rattle.protocol.specs.BringOver.{Brought}
 use Rattle.protocol.specs.Reader.{Transfer, closed, opened, unfit, Reader}
 use Rattle.protocol.specs.Call.{Ended}
 use Rattle.protocol.specs.Receiver.{Handed}
-use Rattle.protocol.specs.Records.{transferOf, readerOf, endedOf, switchedOf, receivedOf, emptiedOf, madeOf}
+use Rattle.protocol.specs.Records.{transferOf, readerOf, endedOf, switchedOf, receivedOf, emptiedOf, madeOf, broughtOf}
 
 -- a transfer's two numbers
 numbers : Transfer → ℕ × ℕ
@@ -110,3 +111,7 @@ one-emptied x y t i n b c t′ i′ n′ b′ c′ e =
 -- the builder's record and its room
 pub one-build : (x y : Built) (o o′ : List ℕ) → madeOf x o ≡ madeOf y o′ → (x ≡ y) × (o ≡ o′)
 one-build x y o o′ e = (λ j. record { refusal = e j .refusal; length = e j .length }, ap (λ (m : Made). m .room) e)
+
+-- the refusal of bringing over, and the lent index
+pub one-brought : (k k′ : ℕ) (x x′ : List ℕ) → broughtOf k x ≡ broughtOf k′ x′ → (k ≡ k′) × (x ≡ x′)
+one-brought k k′ x x′ e = (ap (λ (b : Brought). b .refusal) e, ap (λ (b : Brought). b .index) e)

@@ -57,7 +57,7 @@ module _ (σ : Shape) (ok : σ .most ≤ 8 * σ .indexed) (r : Reader) (f : Lega
       let same = ap₂ (λ (a : List ℕ) (n : ℕ). acknowledge a 0x00 (word n)) (spared r .address) (ap setBits (spared r .index) ∙ set-ones (r .guarded .index) (f .typed .index)) in
       subst (λ (x : List ℕ). Gives x (rested r) s lent (callOf σ r s lent)) same (tells-number σ r s lent (f .legal) u l h)
 
--- and the service for C gives it for 32 bytes
-pub ones-served : (x : List ℕ) → length x ≡ 32 → Bytes x → countService x ≡ onesOf x
+-- and the service for C gives it for 128 bytes
+pub ones-served : (x : List ℕ) → length x ≡ 128 → Bytes x → countService x ≡ onesOf x
 unfolding countService core
 ones-served x e h = rw e (set-ones x h)

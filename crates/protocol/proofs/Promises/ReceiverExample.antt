@@ -37,9 +37,9 @@ answers =
 piece : ℕ → Try
 piece n = record { size = n; lent = record { room = zeros 700 } }
 
--- piece by piece: five bytes, none, and then all that is left
+-- piece by piece: five bytes, all that is left, and none
 pub tries : List Try
-tries = piece 5 ∷ piece 0 ∷ piece 60 ∷ piece 60 ∷ piece 60 ∷ []
+tries = piece 5 ∷ piece 60 ∷ piece 0 ∷ []
 
 -- both answers and one byte held, whole and piece by piece; the array after the pieces too
 pub at-work : ((drained fresh10 run .replies ≡ answers) × (bytesIn (drained fresh10 run .after .receiver) ≡ 0xef ∷ []))

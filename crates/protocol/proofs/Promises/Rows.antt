@@ -28,7 +28,7 @@ use Rattle.protocol.proofs.Promises.Told.{Replies, Says, answered, page
 abbrev pub InRange : ℕ → ℕ → Type 0
 InRange k v = (k ≡ 4 → (1 ≤ v) × (v ≤ 12)) × ((k ≡ 5 → (1 ≤ v) × (v ≤ 5)) × (k ≡ 6 → v ≤ 3))
 
--- the table: of the reader t, unless this holds, that code; 22h is request [5]'s
+-- the table: of the reader t, unless this holds, that code; 22h is request [5]'s, and page 3 of the index request [6]'s
 abbrev pub lines : Reader → Barred → List Line
 lines t (store b p) = unless (Numbered b) 0x01 ∷ unless (p < pages t) 0x0b ∷ unless (buffer b (t .guarded) .filled ≡ true) 0x0c ∷ unless (has t p ≡ false) 0x22 ∷ []
 lines t (loadChar b p) = unless (Numbered b) 0x01 ∷ unless (p < pages t) 0x0b ∷ unless (has t p ≡ true) 0x0c ∷ []
@@ -43,7 +43,7 @@ lines t (setAddress a) = []
 lines t (writeNotepad p b) = unless (p ≤ 15) 0x1c ∷ []
 lines t (readNotepad p) = unless (p ≤ 15) 0x1c ∷ []
 lines t templeteNum = []
-lines t (readIndexTable p) = unless (p ≡ 0) 0x0b ∷ []
+lines t (readIndexTable p) = unless (p ≤ 3) 0x0b ∷ []
 
 -- ---- each test says its line's condition
 
@@ -99,14 +99,14 @@ module _ (r : Reader) (s : List ℕ) (lent : Lent) (f : T (legal core r)) (u : T
   abbrev called : Ended
   called = callOf core r s lent
 
-  -- 16 pages of the notepad, and one of the index
+  -- 16 pages of the notepad, and four of the index
   noted : (p : ℕ) → T (ltb p (length (t .guarded .notepad) / 32)) ↔ (p ≤ 15)
   unfolding core
   noted p = rw (spared r .notepad, legal-means r f .lengths .notepad) (λ x. (let h = ltb→lt p 16 x in omega arith), λ h. lt→ltb p 16 (omega arith))
 
-  indexed : (p : ℕ) → T (ltb p (length (t .guarded .index) / 32)) ↔ (p ≡ 0)
+  indexed : (p : ℕ) → T (ltb p (length (t .guarded .index) / 32)) ↔ (p ≤ 3)
   unfolding core
-  indexed p = rw (spared r .index, legal-means r f .lengths .index) (λ x. (let h = ltb→lt p 1 x in omega arith), λ h. lt→ltb p 1 (omega arith))
+  indexed p = rw (spared r .index, legal-means r f .lengths .index) (λ x. (let h = ltb→lt p 4 x in omega arith), λ h. lt→ltb p 4 (omega arith))
 
   matches : (c : Barred) → Matches (rule t c .tests) (lines t c)
   unfolding rule capacity stored bit

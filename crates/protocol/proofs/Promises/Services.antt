@@ -1,5 +1,6 @@
 -- Document 01: "The board's C firmware calls four plain services: the sum of all bytes of a run modulo 65536, the bytes used of a run by steps
--- 1 to 4 below, building a packet (its length, or 0 if refused), and the number of set bits in an index (FFFFh if it is not 32 bytes long)."
+-- 1 to 4 below, building a packet (its length, or 0 if refused), and the number of set bits in an index (FFFFh if it is not 32 bytes long)", by request [6]
+-- 128.
 use mathlib.Core.Path.{_≡_, refl, ap}
 use mathlib.Core.Logic.{_≢_}
 use mathlib.Core.List.{List, [], _∷_, foldr}
@@ -31,12 +32,12 @@ pub build-service : (a b c d i : ℕ) (content room : List ℕ) → a < 256 → 
 unfolding buildService
 build-service a b c d i content room w x y z = rw (lists .four-bytes a b c d w x y z) refl
 
--- the set bits of 32 bytes
-pub count-service : (x : List ℕ) → length x ≡ 32
+-- the set bits of 128 bytes: request [6], "the C firmware's index count now wants 128 bytes"
+pub count-service : (x : List ℕ) → length x ≡ 128
     → countService x ≡ foldr (λ b n. b % 2 + b / 2 % 2 + b / 4 % 2 + b / 8 % 2 + b / 16 % 2 + b / 32 % 2 + b / 64 % 2 + b / 128 % 2 + n) 0 x
 unfolding countService core
 count-service x e = rw e (set-weights x)
 
-pub count-service-none : (x : List ℕ) → length x ≢ 32 → countService x ≡ 0xffff
+pub count-service-none : (x : List ℕ) → length x ≢ 128 → countService x ≡ 0xffff
 unfolding countService core
-count-service-none x d = rw (ne-eqb (length x) 32 d) refl
+count-service-none x d = rw (ne-eqb (length x) 128 d) refl

@@ -51,20 +51,29 @@ tells-kept m =
           record { fine = subst (λ (n : ℕ). Fine n (zeros (length x))) (k .fine .long) (fine-zeros (length x)); pages = λ q. stored-zeros (length x) q };
     }
 
+-- an empty one tells of no act
+pub tells-none : (m : ℕ) → Tells m (zeros m) []
+unfolding live
+tells-none m = record { fine = fine-zeros m; pages = λ q. stored-zeros m q }
+
+-- its set bits are those pages
+pub tells-count : (m : ℕ) (x : List ℕ) (acts : List Act) → Tells m x acts → setBits x ≡ countBelow (live acts) (8 * m)
+unfolding setBits
+tells-count m x acts k = ap (λ (n : ℕ). countBelow (stored x) (8 * n)) (k .fine .long) ∙ count-ext (stored x) (live acts) (8 * m) (λ q l. k .pages q)
+
 module _ (σ : Shape) (ok : σ .most ≤ 8 * σ .indexed) where
+  -- whatever reader, runs, reply rooms and line switches
+  pub tells-ever : (r : Reader) (acts : List Act) → Tells (σ .indexed) (r .guarded .index) acts → (es : List Event)
+      → Tells (σ .indexed) (finally σ r es .guarded .index) (history (exchanges σ r es) acts)
+  tells-ever r acts k es = events-keep σ ok (λ t y acts. Tells (σ .indexed) y acts) (tells-kept (σ .indexed)) es r acts k
+
   -- the pages that the host saw stored and not deleted since
   abbrev pub livePages : Reader → List Event → ℕ
   livePages r es = countBelow (live (history (exchanges σ r es) [])) (8 * σ .indexed)
 
-  -- whatever reader, runs, reply rooms and line switches: from an empty library, the set bits are those pages
+  -- from an empty library, the set bits are those pages
   pub valid-count : (r : Reader) → r .guarded .index ≡ zeros (σ .indexed) → (es : List Event) → setBits (finally σ r es .guarded .index) ≡ livePages r es
-  unfolding live setBits
-  valid-count r z es =
-      let x : List ℕ = finally σ r es .guarded .index in
-      let k : Tells (σ .indexed) x (history (exchanges σ r es) []) =
-      events-keep σ ok (λ t y acts. Tells (σ .indexed) y acts) (tells-kept (σ .indexed)) es r [] (rw z record { fine = fine-zeros (σ .indexed); pages = λ q. stored-zeros (σ .indexed) q })
-      in
-      ap (λ (n : ℕ). countBelow (stored x) (8 * n)) (k .fine .long) ∙ count-ext (stored x) (live (history (exchanges σ r es) [])) (8 * σ .indexed) (λ q l. k .pages q)
+  valid-count r z es = tells-count (σ .indexed) (finally σ r es .guarded .index) (history (exchanges σ r es) []) (tells-ever r [] (rw z (tells-none (σ .indexed))) es)
 
   -- and TempleteNum answers them, at any time that the reader is not locked
   pub count-told : (r : Reader) → Legal σ ok r → r .guarded .index ≡ zeros (σ .indexed) → (es : List Event) (s : List ℕ) (lent : Lent) → T (fitLent lent)

@@ -8,7 +8,7 @@ use native.Mathlib.Omega.{arith}
 use lib.Dec.{T, eqb, T-not, not-T}
 use borrow.Author.Tests.{eqb-true, eq-eqb}
 use lib.ListN.{length, getD, take, replicate}
-use Rattle.protocol.specs.Numbers.{pageBytes, leastPages, mostPages, indexBytes, indexPageBytes, notepadBytes, noteBytes, replyRoom, fourBytes, lowestLevel, highestLevel, lowestBaud, highestBaud, highestSize, baudParameter, levelParameter, sizeParameter, verifiedStatus, firstMark, secondMark, headBytes, frameBytes, commandPacket, dataPacket, acknowledgePacket, lastPacket, shortest, longest, longestOther, holds, done, badPacket, badPage, nothingThere, nothingToSend, transferFailed, badRange, wrongPassword, unknownCommand, badParameter, badValue, badNotePage, passwordFirst, pageTaken, badLength, badRoom, badSetting, badContent, noCount}
+use Rattle.protocol.specs.Numbers.{pageBytes, leastPages, mostPages, indexBytes, indexPageBytes, oldIndexBytes, addedBytes, notepadBytes, noteBytes, replyRoom, fourBytes, lowestLevel, highestLevel, lowestBaud, highestBaud, highestSize, baudParameter, levelParameter, sizeParameter, verifiedStatus, firstMark, secondMark, headBytes, frameBytes, commandPacket, dataPacket, acknowledgePacket, lastPacket, shortest, longest, longestOther, holds, done, badPacket, badPage, nothingThere, nothingToSend, transferFailed, badRange, wrongPassword, unknownCommand, badParameter, badValue, badNotePage, passwordFirst, pageTaken, badLength, badRoom, badSetting, badContent, noCount}
 use Rattle.protocol.specs.Bytes.{Bytes, two, four, same, lay, joined}
 use Rattle.protocol.specs.Tests.{countBelow}
 use Rattle.protocol.specs.Index.{bit, stored, setBits}
@@ -24,10 +24,12 @@ use Rattle.protocol.proofs.Laws.Count.{set-weights}
 -- ---- the numbers, by name
 
 pub record Numbers : Type 0 where
-  -- a page, C from 1 to 256, the index and the part of it that ReadIndexTable gives, the notepad and its page, the reply room, an address
+  -- a page, C from 1 to 1000, the index and the part of it that ReadIndexTable gives, the notepad and its page, the reply room, an address
   pub memory :
       (pageBytes ∷ leastPages ∷ mostPages ∷ indexBytes ∷ indexPageBytes ∷ notepadBytes ∷ noteBytes ∷ replyRoom ∷ fourBytes ∷ [])
-      ≡ (512 ∷ 1 ∷ 256 ∷ 32 ∷ 32 ∷ 512 ∷ 32 ∷ 700 ∷ 4 ∷ [])
+      ≡ (512 ∷ 1 ∷ 1000 ∷ 128 ∷ 32 ∷ 512 ∷ 32 ∷ 700 ∷ 4 ∷ [])
+  -- request [6]: an index stored before it, and the zero bytes that bring it over
+  pub added : (oldIndexBytes ∷ addedBytes ∷ []) ≡ (32 ∷ 96 ∷ [])
   -- level 1 to 5, baud factor 1 to 12, size code up to 3
   pub ranges : (lowestLevel ∷ highestLevel ∷ lowestBaud ∷ highestBaud ∷ highestSize ∷ []) ≡ (1 ∷ 5 ∷ 1 ∷ 12 ∷ 3 ∷ [])
   pub parameters : (baudParameter ∷ levelParameter ∷ sizeParameter ∷ verifiedStatus ∷ []) ≡ (4 ∷ 5 ∷ 6 ∷ 4 ∷ [])
@@ -41,7 +43,7 @@ pub record Numbers : Type 0 where
 
 pub numbers : Numbers
 unfolding highestSize longest holds
-numbers = record { memory = refl; ranges = refl; parameters = refl; refusals = refl; packets = refl; identifiers = refl; codes = refl }
+numbers = record { memory = refl; added = refl; ranges = refl; parameters = refl; refusals = refl; packets = refl; identifiers = refl; codes = refl }
 
 -- ---- lent memory
 
@@ -55,8 +57,8 @@ pub record Memory : Type 0 where
   -- a buffer zeroed, its filled mark clear; and one with these bytes and its mark
   pub emptied-is : emptied ≡ record { bytes = replicate 512 0; filled = false }
   pub filled-is : (b : List ℕ) → filledWith b ≡ record { bytes = b; filled = true }
-  -- C from 1 to 256, index 32 bytes, notepad 512
-  pub core-is : core ≡ record { least = 1; most = 256; indexed = 32; noted = 512 }
+  -- C from 1 to 1000, index 128 bytes, notepad 512
+  pub core-is : core ≡ record { least = 1; most = 1000; indexed = 128; noted = 512 }
   -- zeroed memory of c pages
   pub zeroed-is : (c i n : ℕ) → zeroed c i n
       ≡ record {

@@ -1,0 +1,190 @@
+-- Request [6], for the vaults in use: a whole reader whose index is brought over. What was legal is legal, it goes on as it was, the valid count goes on, and
+-- the library may grow.
+use mathlib.Core.Bool.{Bool, true, false}
+use mathlib.Core.Path.{_≡_, refl, ap, _∙_}
+use mathlib.Core.List.{List, [], _∷_, _++_}
+use Prim.Native.Nat.{ℕ, zero, suc, _+_, _*_, _/_, _≤_, _<_}
+use native.Mathlib.Omega.{arith}
+use lib.Dec.{T, lit≤}
+use lib.ListN.{length, take, drop, replicate, length-append, length-replicate, length-drop}
+use lib.Seq.{drop-append-le, take-append-le}
+use Rattle.protocol.specs.Bytes.{zeros}
+use Rattle.protocol.specs.Tests.{countBelow}
+use Rattle.protocol.specs.Index.{bit, stored, setBits}
+use Rattle.protocol.specs.BringOver.{bringOver}
+use Rattle.protocol.specs.Reader.{Transfer, closed, opened, unfit, Plain, Guarded, Reader, capacity, bufferOf}
+use Rattle.protocol.specs.Commands.{readIndexTable, barred, command}
+use Rattle.protocol.specs.Step.{order, hear, stepOf, wiped, switched}
+use Rattle.protocol.specs.Call.{Shape, core, fitLent, fitBuffers, fitTransfer, legal, Typed, Ended, refused, carried, replyOf, callOf, switchRefusal, switchAs, switchOf}
+use Rattle.protocol.specs.Dialogue.{Event, received, switch, on, finally, Exchange, exchanges, Act, history, live}
+use Rattle.protocol.proofs.Laws.Index.{Fine, stored-over, fine-over, clear-above, clear-to}
+use Rattle.protocol.proofs.Laws.Answers.{call-legal, call-short}
+use Rattle.protocol.proofs.Laws.Legal.{Good, good-of, legal-of, fine-of}
+use Rattle.protocol.proofs.Laws.Longer.{answer-longer}
+use Rattle.protocol.proofs.Promises.Told.{pages, page, has}
+use Rattle.protocol.proofs.Promises.LegalMeans.{core-holds}
+use Rattle.protocol.proofs.Promises.ValidCount.{Tells, tells-none, tells-count, tells-ever}
+use Rattle.protocol.proofs.Promises.Thousand.{bring-refusals}
+use Rattle.protocol.proofs.Promises.StaysLegal.{Legal, stays-legal}
+
+-- a reader before request [6]: C from 1 to 256, index 32 bytes, notepad 512
+abbrev pub before : Shape
+before = record { least = 1; most = 256; indexed = 32; noted = 512 }
+
+pub before-holds : before .most ≤ 8 * before .indexed
+before-holds = lit≤ tt
+
+-- r with its index brought over; all else as it is
+abbrev pub brought : Reader → Reader
+brought r =
+    let g = r .guarded in
+    record {
+      plain = r .plain;
+      guarded = record { templates = g .templates; index = g .index ++ replicate 96 0; notepad = g .notepad; buffer1 = g .buffer1; buffer2 = g .buffer2 };
+    }
+
+-- by the call
+pub brings : (r : Reader) (index : List ℕ) → length (r .guarded .index) ≡ 32 → length index ≡ 128 → bringOver (r .guarded .index) index .index ≡ brought r .guarded .index
+brings r index e d = bring-refusals (r .guarded .index) index .0 e .0 d .1
+
+-- a transfer asks for nothing of the library
+transfer-fits : (p : Plain) (g : Guarded) (t x : List ℕ) (m : Transfer) → T (fitTransfer p g m)
+    → T (fitTransfer p record { templates = t; index = x; notepad = g .notepad; buffer1 = g .buffer1; buffer2 = g .buffer2 } m)
+unfolding fitTransfer bufferOf
+transfer-fits p g t x closed h = h
+transfer-fits p g t x (opened w got) h = h
+transfer-fits p g t x (unfit b k) h = h
+
+-- it was legal, and it is legal
+pub brings-legal : (r : Reader) → Legal before before-holds r → Legal core core-holds (brought r)
+unfolding core capacity fitBuffers
+brings-legal r l =
+    let x : List ℕ = r .guarded .index in
+    let k : Good before before-holds r = good-of before before-holds r (l .typed) (l .legal) in
+    let f : Fine 128 (x ++ zeros 96) = fine-over x 96 (fine-of before before-holds r k) in
+    let y : Typed (brought r) = record { password = k .typed .password; address = k .typed .address; index = f .bytes } in
+    record {
+      typed = y;
+      legal =
+          legal-of core core-holds (brought r)
+          record {
+            settings = k .settings;
+            shelf = record { long = k .shelf .long; low = k .shelf .low; high = omega (arith, k .shelf .high); wide = f .long; notes = k .shelf .notes };
+            buffers = k .buffers;
+            transfer = transfer-fits (r .plain) (r .guarded) (r .guarded .templates) (x ++ zeros 96) (r .plain .transfer) (k .transfer);
+            clear = clear-to (x ++ zeros 96) (capacity (r .guarded)) (λ q m h. stored-over x 96 q ∙ clear-above x (capacity (r .guarded)) (k .clear) q m);
+            typed = y;
+          };
+    }
+
+-- ---- it goes on
+
+-- a run and a line switch get what they would have got before, and leave what they would have left; but for ReadIndexTable from index page 1 on, which was 0Bh
+abbrev pub AsBefore : Event → Type 0
+AsBefore (received s lent) = (a : List ℕ) (p : ℕ) → hear a s ≡ order (command (barred (readIndexTable p))) → p ≡ 0
+AsBefore switch = Unit {0}
+
+pub record SameEnd (old new : Ended) : Type 0 where
+  pub told : new .told ≡ old .told
+  pub after : new .after ≡ brought (old .after)
+
+pub goes-on : (r : Reader) → Legal before before-holds r → (e : Event) → AsBefore e → SameEnd (on before r e) (on core (brought r) e)
+unfolding on carried refused stepOf switchOf switchAs switchRefusal fitBuffers switched wiped
+goes-on r l (received s lent) d = go (fitLent lent) refl
+  where
+    k : Good before before-holds r
+    k = good-of before before-holds r (l .typed) (l .legal)
+
+    go : (b : Bool) → fitLent lent ≡ b → SameEnd (callOf before r s lent) (callOf core (brought r) s lent)
+    go true u =
+        let a = answer-longer 96 r (omega (arith, k .shelf .high, k .shelf .wide)) (hear (r .plain .address) s) (λ p e. omega (arith, d (r .plain .address) p e, k .shelf .wide)) in
+        rw (call-legal before r s lent (l .legal) (rw u tt), call-legal core (brought r) s lent (brings-legal r l .legal) (rw u tt), a) record { told = refl; after = refl }
+    go false u =
+        rw (call-short before r s lent (l .legal) u, call-short core (brought r) s lent (brings-legal r l .legal) u) record { told = refl; after = refl }
+goes-on r l switch d = go (switchRefusal (r .guarded))
+  where
+    go : (n : ℕ) → SameEnd (switchAs r n) (switchAs (brought r) n)
+    go zero = record { told = refl; after = refl }
+    go (suc n) = record { told = refl; after = refl }
+
+-- so does every sequence of them: the host gets the same replies
+abbrev pub AllAsBefore : List Event → Type 0
+AllAsBefore [] = Unit {0}
+AllAsBefore (e ∷ es) = AsBefore e × AllAsBefore es
+
+pub goes-on-ever : (r : Reader) → Legal before before-holds r → (es : List Event) → AllAsBefore es
+    → (exchanges core (brought r) es ≡ exchanges before r es) × (finally core (brought r) es ≡ brought (finally before r es))
+unfolding exchanges finally on
+goes-on-ever r l [] d = (refl, refl)
+goes-on-ever r l (received s lent ∷ es) d =
+    let m : SameEnd (callOf before r s lent) (callOf core (brought r) s lent) = goes-on r l (received s lent) (d .0) in
+    let n = goes-on-ever (callOf before r s lent .after) (stays-legal before before-holds r l (received s lent)) es (d .1) in
+    rw (m .told, m .after) (ap (λ (x : List Exchange). record { run = s; reply = replyOf (callOf before r s lent .told) } ∷ x) (n .0), n .1)
+goes-on-ever r l (switch ∷ es) d =
+    let m : SameEnd (switchOf r) (switchOf (brought r)) = goes-on r l switch tt in
+    rw (m .after) (goes-on-ever (switchOf r .after) (stays-legal before before-holds r l switch) es (d .1))
+
+-- ---- the valid count goes on: from an empty library, over all that its host saw before and since
+
+pub count-goes-on : (r : Reader) → r .guarded .index ≡ replicate 32 0 → (es fs : List Event)
+    → setBits (finally core (brought (finally before r es)) fs .guarded .index)
+    ≡ countBelow (live (history (exchanges core (brought (finally before r es)) fs) (history (exchanges before r es) []))) 1024
+unfolding core
+count-goes-on r z es fs =
+    let t : Reader = finally before r es in
+    let acts : List Act = history (exchanges before r es) [] in
+    let k : Tells 32 (t .guarded .index) acts = tells-ever before before-holds r [] (rw z (tells-none 32)) es in
+    let j : Tells 128 (brought t .guarded .index) acts =
+    record { fine = fine-over (t .guarded .index) 96 (k .fine); pages = λ q. stored-over (t .guarded .index) 96 q ∙ k .pages q }
+    in
+    tells-count 128 (finally core (brought t) fs .guarded .index) (history (exchanges core (brought t) fs) acts) (tells-ever core core-holds (brought t) acts j fs)
+
+-- ---- the library grows: "C goes up to 1000"
+
+-- r with k zeroed pages behind its own
+abbrev pub grown : ℕ → Reader → Reader
+grown k r =
+    let g = r .guarded in
+    record {
+      plain = r .plain;
+      guarded = record { templates = g .templates ++ replicate (512 * k) 0; index = g .index; notepad = g .notepad; buffer1 = g .buffer1; buffer2 = g .buffer2 };
+    }
+
+-- it is legal, if it was; its pages have their bytes, and those behind them are not stored
+pub record Grown (k : ℕ) (r : Reader) : Type 0 where
+  pub legal : Legal core core-holds (grown k r)
+  pub more : pages (grown k r) ≡ pages r + k
+  pub same : (q : ℕ) → q < pages r → page (grown k r) q ≡ page r q
+  pub vacant : (q : ℕ) → pages r ≤ q → has (grown k r) q ≡ false
+
+pub grows : (k : ℕ) (r : Reader) → Legal core core-holds r → pages r + k ≤ 1000 → Grown k r
+unfolding core capacity fitBuffers stored bit
+grows k r l few =
+    let t : List ℕ = r .guarded .templates in
+    let x : List ℕ = r .guarded .index in
+    let g : Good core core-holds r = good-of core core-holds r (l .typed) (l .legal) in
+    let long : length t ≡ 512 * (length t / 512) = g .shelf .long in
+    let n : length (t ++ replicate (512 * k) 0) ≡ length t + 512 * k = simp (length-append, length-replicate) (omega arith) in
+    let c : length (t ++ replicate (512 * k) 0) / 512 ≡ length t / 512 + k = omega (arith, n, long) in
+    let y : Typed (grown k r) = record { password = g .typed .password; address = g .typed .address; index = g .typed .index } in
+    record {
+      legal =
+          record {
+            typed = y;
+            legal =
+                legal-of core core-holds (grown k r)
+                record {
+                  settings = g .settings;
+                  shelf = record { long = omega (arith, n, long, c); low = omega (arith, c, g .shelf .low); high = omega (arith, c, few); wide = g .shelf .wide; notes = g .shelf .notes };
+                  buffers = g .buffers;
+                  transfer = transfer-fits (r .plain) (r .guarded) (t ++ replicate (512 * k) 0) x (r .plain .transfer) (g .transfer);
+                  clear = clear-to x (capacity (grown k r .guarded)) (λ q m h. clear-above x (capacity (r .guarded)) (g .clear) q (omega (arith, c, m)));
+                  typed = y;
+                };
+          };
+      more = c;
+      same = λ q h.
+          ap (λ (s : List ℕ). take 512 s) (drop-append-le (512 * q) t (replicate (512 * k) 0) (omega arith))
+          ∙ take-append-le 512 (drop (512 * q) t) (replicate (512 * k) 0) (omega (arith, length-drop (512 * q) t));
+      vacant = λ q m. clear-above x (capacity (r .guarded)) (g .clear) q m;
+    }
