@@ -1,4 +1,5 @@
-// What the board's C firmware calls: four plain services, fresh settings, and the whole reader with its settings and its receiver lent.
+// What the board's C firmware calls: four plain services, bringing over an index, fresh settings, and the whole reader with its settings and its receiver
+// lent.
 // include/bystrodol.h is the C face; the reader on whole runs is in the crate `step`.
 pub mod lines;
 pub mod stored;
@@ -6,8 +7,9 @@ pub mod stored;
 ghost use mathlib.Core.Path.{_≡_};
 ghost use mathlib.Core.List.{List};
 ghost use Prim.Native.Nat.{ℕ};
+ghost use Rattle.protocol.specs.BringOver.{bringOver};
 ghost use Rattle.protocol.specs.Services.{sumService, usedService, buildService, countService};
-ghost use Rattle.protocol.specs.Records.{lentOf};
+ghost use Rattle.protocol.specs.Records.{lentOf, broughtOf};
 ghost use Rattle.board.specs.Stored.{storedReaderOf, storedFreshOf};
 ghost use Rattle.board.specs.Lines.{storedLineOf, storedReceiveOf, storedLineSwitchOf, storedReceivedOf, storedEmptiedOf, storedReceivedAt, storedEmptiedAt};
 use crate::lines::StoredLine;
@@ -62,12 +64,20 @@ pub extern "C" fn bystrodol_build(
     made.length
 }
 
-// The number of set bits in an index, FFFFh if it is not 32 bytes long.
+// The number of set bits in an index, FFFFh if it is not 128 bytes long.
 #[no_mangle]
 pub extern "C" fn bystrodol_count(index: &[u8]) -> u16
     ensures { λ r. ⌜ r ≡ countService (now (index .entry)) ⌝ }
 {
     index::count(index, numbers::INDEX as u8)
+}
+
+// Brings an index that was stored before request [6] over to a lent one: the refusal or 0.
+#[no_mangle]
+pub extern "C" fn bystrodol_bring_over(old: &[u8], index: &mut [u8]) -> u8
+    ensures { λ r. ⌜ broughtOf r (now (index .exit)) ≡ bringOver (now (old .entry)) (now (index .entry)) ⌝ }
+{
+    index::bring_over(old, index)
 }
 
 // A call of the receiver on a lent line.

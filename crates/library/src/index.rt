@@ -4,8 +4,11 @@ ghost use Prim.Native.Nat.{_*_, _/_, _%_, _≤_, _<_};
 ghost use lib.ListN.{length};
 ghost use Rattle.protocol.specs.Bytes.{byteAt};
 ghost use Rattle.protocol.specs.Index.{bit, stored, setBit, clearBit, clearBits, setBits, clearFrom};
+ghost use Rattle.protocol.specs.BringOver.{bringOver};
+ghost use Rattle.protocol.specs.Records.{broughtOf};
 ghost use Rattle.library.specs.Lent.{countOf};
 use protocol::numbers;
+use protocol::refusals;
 use wire::bytes;
 
 // A page's bit: shifted down and masked.
@@ -102,4 +105,19 @@ pub fn count(index: &[u8], length: u8) -> u16
         return count_bits(index) as u16;
     }
     numbers::NO_COUNT
+}
+
+// Brings an index that was stored before request [6] over to a lent one: its bytes, and zero bytes behind them. It returns the refusal or 0.
+pub fn bring_over(old: &[u8], index: &mut [u8]) -> u8
+    ensures { λ r. ⌜ broughtOf r (now (index .exit)) ≡ bringOver (now (old .entry)) (now (index .entry)) ⌝ }
+{
+    if old.len() != numbers::OLD_INDEX {
+        return refusals::BAD_LENGTH;
+    }
+    if index.len() != numbers::INDEX {
+        return refusals::BAD_LENGTH;
+    }
+    bytes::put(&mut index[0..numbers::OLD_INDEX], old);
+    bytes::zero(&mut index[numbers::OLD_INDEX..numbers::INDEX]);
+    refusals::ACCEPTED
 }
