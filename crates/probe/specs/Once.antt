@@ -1,11 +1,12 @@
--- One call or one line switch, of the reader or of its receiver, or fresh settings, as C has them. What the reader alone ends at has a receiver beside it that
--- it leaves alone; a line switch and fresh settings have a reply room that they leave alone.
+-- One call or one line switch, of the reader or of its receiver, fresh settings, or an index brought over, as C has them. What the reader alone ends at has a receiver beside it that
+-- it leaves alone; a line switch, fresh settings and bringing over have a reply room that they leave alone.
 use mathlib.Core.Bool.{cond}
 use mathlib.Core.List.{List, []}
 use Prim.Native.Nat.{ℕ}
 use lib.Dec.{eqb}
 use Rattle.protocol.specs.declared.Receiver.{Receiver}
-use Rattle.protocol.specs.Reader.{Reader}
+use Rattle.protocol.specs.BringOver.{Brought, bringOver}
+use Rattle.protocol.specs.Reader.{Reader, withLibrary, reader}
 use Rattle.protocol.specs.Records.{lentOf}
 use Rattle.board.specs.Stored.{StoredReader, StoredEnd, storedFreshOf, storedCallOf, storedSwitchOf}
 use Rattle.board.specs.Lines.{MarkedLine, MarkedEnd, storedReceiveOf, storedLineSwitchOf}
@@ -26,10 +27,24 @@ freshened r =
     let g = r .guarded in
     storedFreshOf (g .templates) (g .index) (g .notepad) (g .buffer1 .bytes) (g .buffer2 .bytes)
 
+-- the index as it was brought over; all else stays
+abbrev pub broughtIn : MarkedLine → Brought → MarkedEnd
+broughtIn k b =
+    let r = k .reader .reader in
+    record {
+      told = record { refusal = b .refusal; used = 0; length = 0; room = [] };
+      after =
+          record {
+            reader = record { reader = reader (r .plain) (withLibrary (r .guarded .templates) (b .index) (r .guarded)); marks = k .reader .marks };
+            receiver = k .receiver;
+          };
+    }
+
 unfoldable pub onceOf : ℕ → MarkedLine → List ℕ → List ℕ → MarkedEnd
 onceOf op k run room =
     cond (eqb op 0) (withReceiver (k .receiver) (storedCallOf (k .reader) run (lentOf room)))
     (cond (eqb op 1) (withRoom room (withReceiver (k .receiver) (storedSwitchOf (k .reader))))
     (cond (eqb op 2) (storedReceiveOf k run (lentOf room))
     (cond (eqb op 3) (withRoom room (storedLineSwitchOf k))
-    (withRoom room (withReceiver (k .receiver) (unmoved (freshened (k .reader .reader))))))))
+    (cond (eqb op 4) (withRoom room (withReceiver (k .receiver) (unmoved (freshened (k .reader .reader)))))
+    (withRoom room (broughtIn k (bringOver run (k .reader .reader .guarded .index))))))))

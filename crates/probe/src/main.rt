@@ -1,4 +1,4 @@
-// Single calls of the reader, with a receiver or without, and fresh settings, on memory that is handed over whole: a frame in by standard input, a frame out by
+// Single calls of the reader, with a receiver or without, fresh settings, and an index brought over, on memory that is handed over whole: a frame in by standard input, a frame out by
 // standard output, again and again. Nothing is kept between frames. docs/EVIDENCE.md has the frames; tests hold the reader to other readers by them.
 mod frame;
 mod once;
@@ -15,7 +15,7 @@ use protocol::numbers;
 // The bytes of a frame in before its receiver and its memory.
 const HEAD: usize = 48;
 
-// The most bytes of each memory, so that wrong lengths can be tried: a page more than the most pages, and room past the other lengths.
+// The most bytes of each memory, so that wrong lengths can be tried: a page more than the most pages, and room past the other lengths. What is refused says them.
 const MOST_TEMPLATES: usize = (numbers::MOST_PAGES + 1) * numbers::PAGE;
 
 const MOST_INDEX: usize = 2 * numbers::INDEX;
@@ -189,8 +189,8 @@ fn answer(
         return complain(b"probe: the input ends inside a frame\n");
     }
     let op = head[0];
-    if 4 < op {
-        return complain(b"probe: a frame starts with 0, 1, 2, 3 or 4\n");
+    if 5 < op {
+        return complain(b"probe: a frame starts with 0, 1, 2, 3, 4 or 5\n");
     }
     let t = frame::length_at(head, 20);
     let i = frame::length_at(head, 24);
@@ -200,25 +200,25 @@ fn answer(
     let s = frame::length_at(head, 40);
     let r = frame::length_at(head, 44);
     if templates.len() < t {
-        return complain(b"probe: too many bytes of templates\n");
+        return complain(b"probe: more than 512512 bytes of templates, 1001 pages\n");
     }
     if index.len() < i {
-        return complain(b"probe: too many bytes of index\n");
+        return complain(b"probe: more than 256 bytes of index\n");
     }
     if notepad.len() < n {
-        return complain(b"probe: too many bytes of notepad\n");
+        return complain(b"probe: more than 1024 bytes of notepad\n");
     }
     if buffer1.len() < b {
-        return complain(b"probe: too many bytes of buffer 1\n");
+        return complain(b"probe: more than 1024 bytes of buffer 1\n");
     }
     if buffer2.len() < c {
-        return complain(b"probe: too many bytes of buffer 2\n");
+        return complain(b"probe: more than 1024 bytes of buffer 2\n");
     }
     if run.len() < s {
-        return complain(b"probe: too many bytes of run\n");
+        return complain(b"probe: more than 4096 bytes of run\n");
     }
     if reply.len() < r {
-        return complain(b"probe: too many bytes of reply room\n");
+        return complain(b"probe: more than 4096 bytes of reply room\n");
     }
     exchange(
         op,

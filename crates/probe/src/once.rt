@@ -1,4 +1,4 @@
-// One call or one line switch, of the reader or of its receiver, or fresh settings, as the doors for C have them.
+// One call or one line switch, of the reader or of its receiver, fresh settings, or an index brought over, with the results that C gets.
 ghost use mathlib.Core.Path.{_≡_};
 ghost use Rattle.board.specs.Lines.{storedLineOf, storedReceivedOf};
 ghost use Rattle.probe.specs.Once.{onceOf};
@@ -6,8 +6,10 @@ use board::lines;
 use board::lines::StoredLine;
 use board::lines::StoredReceived;
 use board::stored;
+use library::index;
 
-// 0 is a call and 1 a line switch, 2 a call of the receiver and 3 its line switch; anything else is fresh settings. 0, 1 and the last leave the receiver alone.
+// 0 is a call and 1 a line switch, 2 a call of the receiver and 3 its line switch, 4 fresh settings; anything else brings the run over to the index. Only 2 and 3
+// touch the receiver.
 pub(crate) fn once(
     op: u8,
     line: StoredLine,
@@ -80,13 +82,21 @@ pub(crate) fn once(
             length: 0,
         };
     }
-    let fresh = stored::fresh();
+    if op == 4 {
+        let fresh = stored::fresh();
+        return StoredReceived {
+            line: StoredLine {
+                settings: fresh,
+                receiver,
+            },
+            refusal: 0,
+            taken: 0,
+            length: 0,
+        };
+    }
     StoredReceived {
-        line: StoredLine {
-            settings: fresh,
-            receiver,
-        },
-        refusal: 0,
+        line,
+        refusal: index::bring_over(run, index),
         taken: 0,
         length: 0,
     }

@@ -1,8 +1,10 @@
--- The five are told apart by the tests; what the reader alone ends at has the receiver beside it, and a line switch and fresh settings the reply room.
+-- The six are told apart by the tests; what the reader alone ends at has the receiver beside it, and what has no reply the reply room.
 use mathlib.Core.Path.{ap}
 use borrow.Author.Tests.{eq-eqb, ne-eqb}
 use denote.Ref.{now}
-use Rattle.probe.specs.Once.{withReceiver, withRoom, unmoved, onceOf}
+use Rattle.protocol.specs.Reader.{withLibrary}
+use Rattle.board.specs.Lines.{storedLineOf}
+use Rattle.probe.specs.Once.{withReceiver, withRoom, unmoved, broughtIn, onceOf}
 use borrow.Author.Needs.{needs}
 use Rattle.probe.proofs.once.once.Statement.{statement}
 use Rattle.probe.proofs.once.once.Tie as tie
@@ -114,8 +116,27 @@ returns-5 c =
     let d2 = (let p : tie.Else2 = search in p .if2 .left) in
     let d3 = (let p : tie.Else3 = search in p .if3 .left) in
     let d4 = (let p : tie.Else4 = search in p .if4 .left) in
+    let z = (let p : tie.Then5 = search in p .if5 .taken) in
     let e = (let p : tie.After-fresh = search in p .fresh .ensures (now (a .templates)) (now (a .index)) (now (a .notepad)) (now (a .buffer1)) (now (a .buffer2))) in
-    rw (ne-eqb _ _ d, ne-eqb _ _ d2, ne-eqb _ _ d3, ne-eqb _ _ d4) (ap (λ x. withRoom (now (a .reply)) (withReceiver (a .line .receiver) (unmoved x))) e)
+    rw (ne-eqb _ _ d, ne-eqb _ _ d2, ne-eqb _ _ d3, ne-eqb _ _ d4, eq-eqb _ _ z) (ap (λ x. withRoom (now (a .reply)) (withReceiver (a .line .receiver) (unmoved x))) e)
+
+bring-over-requires : tie.Need-bring-over-requires
+bring-over-requires c κs = search needs
+
+same-length-17 : tie.Need-same-length-17
+same-length-17 c = search needs
+
+returns-6 : tie.Need-returns-6
+unfolding onceOf withLibrary
+returns-6 c =
+    let a = (let p : tie.Start = search in p .args) in
+    let d = (let p : tie.Else1 = search in p .if1 .left) in
+    let d2 = (let p : tie.Else2 = search in p .if2 .left) in
+    let d3 = (let p : tie.Else3 = search in p .if3 .left) in
+    let d4 = (let p : tie.Else4 = search in p .if4 .left) in
+    let d5 = (let p : tie.Else5 = search in p .if5 .left) in
+    let e = (let p : tie.After-bring-over = search in p .bring-over .ensures) in
+    rw (ne-eqb _ _ d, ne-eqb _ _ d2, ne-eqb _ _ d3, ne-eqb _ _ d4, ne-eqb _ _ d5) (ap (λ x. withRoom (now (a .reply)) (broughtIn (storedLineOf (a .line) (now (a .templates)) (now (a .index)) (now (a .notepad)) (now (a .buffer1)) (now (a .buffer2))) x)) e)
 
 pub once-spec : {M : Type 1} → statement M
 once-spec =
@@ -146,4 +167,7 @@ once-spec =
     same-length-16
     returns-4
     fresh-requires
-    returns-5)
+    returns-5
+    bring-over-requires
+    same-length-17
+    returns-6)

@@ -1,0 +1,109 @@
+#!/usr/bin/env python3
+"""Gives a probe frames at its limits and past them: 1000 pages are taken, and what is more than it holds is refused by a line.
+
+    check.py PROBE ARGS...
+
+PROBE ARGS... starts the probe. Ends 0 if all is as docs/EVIDENCE.md has it, 1 if not, 2 if the probe does not start.
+"""
+
+import struct
+import subprocess
+import sys
+
+SECONDS = 60
+PARTS = ("templates", "index", "notepad", "buffer 1", "buffer 2", "run", "reply room")
+RIGHT = {"templates": 512, "index": 128, "notepad": 512, "buffer 1": 512, "buffer 2": 512, "run": 0, "reply room": 700}
+MOST = {"templates": 512512, "index": 256, "notepad": 1024, "buffer 1": 1024, "buffer 2": 1024, "run": 4096, "reply room": 4096}
+FRESH = bytes.fromhex("00000000 ffffffff 03 02 06 00 0000 0000 00 00 00")
+RECEIVER = bytes(269)
+HANDSHAKE = bytes.fromhex("ef01ffffffff010003400044")
+DONE = bytes.fromhex("ef01ffffffff07000300 000a")
+
+
+def head(op, lengths):
+    return bytes([op]) + FRESH + struct.pack(">7I", *(lengths[name] for name in PARTS))
+
+
+def frame(op, name="run"):
+    """A frame with as many bytes of one part as the probe has room for, those of a right reader of the others, and all of them zero."""
+    lengths = {**RIGHT, name: MOST[name]}
+    return head(op, lengths) + receiver(op) + bytes(sum(lengths.values()))
+
+
+def receiver(op):
+    return RECEIVER if op in (2, 3) else b""
+
+
+def length_out(op, name="run"):
+    """The bytes of the frame that comes back of it: all parts but the run."""
+    lengths = {**RIGHT, name: MOST[name]}
+    return 9 + len(FRESH) + len(receiver(op)) + sum(lengths.values()) - lengths["run"]
+
+
+def handshake(pages):
+    """A call of a reader of so many pages with a handshake."""
+    lengths = {**RIGHT, "templates": 512 * pages, "run": len(HANDSHAKE)}
+    return head(0, lengths) + bytes(sum(lengths[name] for name in PARTS[:5])) + HANDSHAKE + bytes(700)
+
+
+def answer_to(pages, refusal, used, reply):
+    """What comes back of it: nothing but the reply room has changed."""
+    memory = 512 * pages + sum(RIGHT[name] for name in PARTS[1:5])
+    return struct.pack(">BII", refusal, used, len(reply)) + FRESH + bytes(memory) + reply.ljust(700, b"\0")
+
+
+def past(name):
+    """A head that asks for a byte more than the probe has for this part, and not a byte behind it."""
+    return head(0, {**RIGHT, name: MOST[name] + 1})
+
+
+def more_than(name):
+    return f"probe: more than {MOST[name]} bytes of {name}{', 1001 pages' if name == 'templates' else ''}\n"
+
+
+INSIDE = "probe: the input ends inside a frame\n"
+NO_SUCH = "probe: a frame starts with 0, 1, 2, 3, 4 or 5\n"
+
+# What it is given, what it writes, or how many bytes of it, and what it says.
+ROWS = [
+    ("nothing", b"", b"", ""),
+    ("1000 pages", handshake(1000), answer_to(1000, 0, 12, DONE), ""),
+    ("1001 pages, which the reader refuses", handshake(1001), answer_to(1001, 1, 0, b""), ""),
+    ("1000 pages twice", 2 * handshake(1000), 2 * answer_to(1000, 0, 12, DONE), ""),
+    ("a frame, and one of 1002 pages", handshake(1) + head(0, {**RIGHT, "templates": 512 * 1002}), answer_to(1, 0, 12, DONE), more_than("templates")),
+    ("a head cut short", head(0, RIGHT)[:47], b"", INSIDE),
+    ("the front of a head of no such call", head(6, RIGHT)[:47], b"", INSIDE),
+    ("a frame cut short", handshake(1000)[:-1], b"", INSIDE),
+    ("a receiver's frame cut short", frame(2)[:-1], b"", INSIDE),
+]
+ROWS += [(f"the most bytes of {name}", frame(5, name), length_out(5, name), "") for name in PARTS]
+ROWS += [(f"a byte more of {name}", past(name), b"", more_than(name)) for name in PARTS]
+ROWS += [(f"call {op}", frame(op), length_out(op), "") for op in range(6)]
+ROWS += [(f"call {op}, which there is none of", head(op, RIGHT), b"", NO_SUCH) for op in range(6, 256)]
+
+
+def failures_of(command):
+    for name, given, written, said in ROWS:
+        done = subprocess.run(command, input=given, capture_output=True, timeout=SECONDS)
+        if done.returncode != 0:
+            yield f"{name}: it ends with {done.returncode}"
+        if done.stderr.decode() != said:
+            yield f"{name}: it says {done.stderr!r}, and not {said!r}"
+        if written not in (done.stdout, len(done.stdout)):
+            yield f"{name}: it writes {len(done.stdout)} bytes, and not what it must"
+
+
+def main(command):
+    try:
+        failures = list(failures_of(command))
+    except (IndexError, OSError, subprocess.TimeoutExpired) as error:
+        print(f"frames: the probe does not start or end: {error}", file=sys.stderr)
+        return 2
+    for failure in failures:
+        print(failure)
+    print(f"frames: {len(failures)} failures in {len(ROWS)}" if failures else f"frames: {len(ROWS)} are taken or refused as they must be")
+    return 1 if failures else 0
+
+
+if __name__ == "__main__":
+    sys.exit(main(sys.argv[1:]))
