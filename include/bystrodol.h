@@ -1,5 +1,5 @@
 /*
- * bystrodol.h: the EF01 reader core for C99 and C++: the whole reader, and four plain services.
+ * bystrodol.h: the EF01 reader core for C99 and C++: the whole reader, four plain services, and bringing over an older index.
  *
  * There are two archives, for x86-64 Linux. bystrodol_step and bystrodol_line_switch are in target/staticlib/libstep.a, which
  * `rt staticlib step` writes; all else is in target/staticlib/libboard.a, which `rt staticlib board` writes. Link those whose
@@ -48,6 +48,8 @@
  *     over yet, which are the last host's bytes, and let no reply to it go on to the next. Do not call bystrodol_line_switch,
  *     which knows of no receiver: bytes of the last host would stay held, before those of the next.
  *   Saving. The table of commands below says what each one changes.
+ *   Upgrade. Versions 0.1 to 0.5 had an index of 32 bytes. Where such a one is stored, and not yet brought over, do that before all
+ *     else of power-on; bystrodol_bring_over says how. Templates, notepad and settings stay as they are.
  */
 #ifndef BYSTRODOL_H
 #define BYSTRODOL_H
@@ -58,18 +60,19 @@
 /* The version of this header and of the archives. Another major number, or, while that is 0, another minor one, may need a
  * change of the caller. */
 #define BYSTRODOL_VERSION_MAJOR 0
-#define BYSTRODOL_VERSION_MINOR 5
+#define BYSTRODOL_VERSION_MINOR 6
 #define BYSTRODOL_VERSION_PATCH 0
-#define BYSTRODOL_VERSION "0.5.0"
+#define BYSTRODOL_VERSION "0.6.0"
 
 /* ---- lengths, in bytes */
 
 /* A template page, a character buffer, and the notepad; and the most pages. */
 #define BYSTRODOL_PAGE_BYTES 512u
-#define BYSTRODOL_PAGES_MOST 256u
+#define BYSTRODOL_PAGES_MOST 1000u
 
-/* The index. */
-#define BYSTRODOL_INDEX_BYTES 32u
+/* The index, of every reader; and one that version 0.5 or an older one stored. */
+#define BYSTRODOL_INDEX_BYTES 128u
+#define BYSTRODOL_OLD_INDEX_BYTES 32u
 
 /* The least reply room. No reply is longer. */
 #define BYSTRODOL_REPLY_BYTES 700u
@@ -108,9 +111,12 @@
  *
  * Over power-off nothing of a buffer, a mark or a transfer is worth keeping, since the line switch clears them. So save templates
  * and index after Store, DeletChar and Empty, settings after SetSysPara, SetPwd and SetAdder, and the notepad after
- * WriteNotepad; or compare them with what was saved. In a call that replied, the packet begins at the first EF 01 of the
- * run, and its code stands 9 bytes further; the reply's code is byte 9 of the reply room. A receiver's run is what it held
- * before the call, and behind that what the call took; the call drops it, so look before, or compare what is stored.
+ * WriteNotepad; or compare them with what was saved. After Store save the template before the index, and after DeletChar and Empty
+ * the index before the templates: so power that fails in between leaves no stored page without its template.
+ *
+ * In a call that replied, the packet begins at the first EF 01 of the run, and its code stands 9 bytes further; the reply's code is
+ * byte 9 of the reply room. A receiver's run is what it held before the call, and behind that what the call took; the call drops
+ * it, so look before, or compare what is stored.
  */
 #define BYSTRODOL_COMMAND_STORE 0x06u            /* buffer, page that is not stored: templates and index */
 #define BYSTRODOL_COMMAND_LOAD_CHAR 0x07u        /* buffer, page: that buffer; settings (its filled mark) */
@@ -126,7 +132,7 @@
 #define BYSTRODOL_COMMAND_WRITE_NOTEPAD 0x18u    /* notepad page, 32 bytes: notepad */
 #define BYSTRODOL_COMMAND_READ_NOTEPAD 0x19u     /* notepad page: nothing */
 #define BYSTRODOL_COMMAND_TEMPLETE_NUM 0x1Du     /* nothing */
-#define BYSTRODOL_COMMAND_READ_INDEX_TABLE 0x1Fu /* page, one byte, 0: nothing */
+#define BYSTRODOL_COMMAND_READ_INDEX_TABLE 0x1Fu /* index page n, one byte, 0 to 3, pages 256 n to 256 n + 255: nothing */
 #define BYSTRODOL_COMMAND_HAND_SHAKE 0x40u       /* nothing */
 
 /* The parameters of SetSysPara. */
@@ -138,7 +144,7 @@
 
 #define BYSTRODOL_CODE_DONE 0x00u
 #define BYSTRODOL_CODE_BAD_PACKET 0x01u      /* a wrong sum, a length that is not the command's, or a buffer that is not 1 or 2 */
-#define BYSTRODOL_CODE_BAD_PAGE 0x0Bu        /* no such page */
+#define BYSTRODOL_CODE_BAD_PAGE 0x0Bu        /* no such page, or no such index page */
 #define BYSTRODOL_CODE_NOTHING_THERE 0x0Cu   /* a buffer that is not filled, or a page that is not stored */
 #define BYSTRODOL_CODE_NOTHING_TO_SEND 0x0Du /* UpChar of a buffer that is not filled */
 #define BYSTRODOL_CODE_TRANSFER_FAILED 0x0Eu /* a data packet did not fit; the transfer is closed and its buffer zeroed */
@@ -247,8 +253,8 @@ uint8_t bystrodol_receiver_switch(struct bystrodol_line *line, uint8_t *buffer1,
  * one call is not enough for a piece: the loop above calls until there is nothing left to do.
  *
  *   line                          the reader's settings and its receiver; changed where they lie
- *   templates, templates_length   512 bytes for each page, 1 to 256 pages; the length says how many
- *   index, index_length           32 bytes; page p is the bit of weight 2^(p mod 8) in byte p / 8
+ *   templates, templates_length   512 bytes for each page, 1 to 1000 pages; the length says how many
+ *   index, index_length           128 bytes; page p is the bit of weight 2^(p mod 8) in byte p / 8
  *   notepad, notepad_length       512 bytes
  *   buffer1, buffer1_length       512 bytes
  *   buffer2, buffer2_length       512 bytes
@@ -323,14 +329,42 @@ size_t bystrodol_build(uint32_t address, uint8_t identifier, const uint8_t *cont
                        uint8_t *room, size_t room_length);
 
 /*
- * The number of set bits in an index, 0 to 256: the number of pages stored.
- * Returns BYSTRODOL_NO_COUNT if index_length is not 32.
+ * The number of set bits in an index, 0 to 1024: in the index of a legal reader the number of pages stored.
+ * Returns BYSTRODOL_NO_COUNT if index_length is not 128.
  *
  *   index, index_length   the index; page p is the bit of weight 2^(p mod 8) in byte p / 8
  */
 uint16_t bystrodol_count(const uint8_t *index, size_t index_length);
 
 #define BYSTRODOL_NO_COUNT 0xFFFFu
+
+/* ---- an index that version 0.5 or an older one stored */
+
+/*
+ * Brings an index of 32 bytes over to one of 128: its bytes, and 96 zero bytes behind them. Each page keeps its bit, and
+ * bystrodol_count gives the number of pages that it gave before. Returns 0, or BYSTRODOL_BAD_LENGTH if a length is another; then
+ * nothing is written. What lay in the new index does not matter.
+ *
+ * The bytes cannot tell whether this was done. Done again later, with the 32 bytes that were stored before, it would take every page
+ * stored since out of the index, and put every page deleted since back into it, with zeros for a template. So the board keeps a mark
+ * of its own, and goes in this order, each step ended before the next, and no other call made before the mark is there:
+ *   0. Load the old index, BYSTRODOL_OLD_INDEX_BYTES, from where it was stored. BYSTRODOL_INDEX_BYTES was 32 then: a struct that was
+ *      stored with it has another layout now. If the 32 bytes lie where the 128 are to be, copy them away first.
+ *   1. Bring over, and try the vault as at power-on, with as many pages as before: the line switch, and a piece of 0 bytes. If that
+ *      is refused, the vault was damaged before, and stays as it is. With more pages a stray bit above the old ones would pass for
+ *      a stored page.
+ *   2. If there are to be more pages, up to 1000: zero them where they are kept, behind the old ones, which keep their places.
+ *   3. Save the new index at a place of its own, with your sum over it.
+ *   4. Save the mark, so that it is there wholly or not at all.
+ * From the mark on load the new index, and do none of this again, nor zero any page. Power that fails before the mark leaves the
+ * old vault as it was: begin with 0. A board that starts fresh with this version saves the mark before its settings.
+ * To go back to an older version, take the mark away, and give it the first 32 bytes of the index and at most 256 pages: those
+ * above are lost to it.
+ *
+ *   old, old_length       the index as it was stored, 32 bytes
+ *   index, index_length   where the new one goes, 128 bytes; the two share no byte
+ */
+uint8_t bystrodol_bring_over(const uint8_t *old, size_t old_length, uint8_t *index, size_t index_length);
 
 #ifdef __cplusplus
 }

@@ -1,6 +1,6 @@
 /*
- * Calls the whole reader from C: fresh settings, every code that the header names, and every refusal. Marks of all bytes, and
- * settings of random bytes. All of it through three doors: a call without a receiver, a receiver's call that is offered the
+ * Calls the whole reader from C: fresh settings, every code that the header names, and every refusal. Readers of 1 to 1000 pages.
+ * Marks of all bytes, and settings of random bytes. All of it through three doors: a call without a receiver, a receiver's call that is offered the
  * whole run, and one that already holds part of it. All memory, the settings too, lies in one area with guard bytes around each
  * part; after a refusal no byte of the area has changed.
  * tests/c/run builds and runs it. It writes one line, 'reader: N checks passed', and ends with 0; or names each failed check
@@ -14,17 +14,17 @@
 /* ---- the area */
 
 enum { INDEX, NOTEPAD, BUFFER1, BUFFER2, RUN, REPLY, TEMPLATES, PARTS };
-enum { GUARD = 64, TEN_PAGES = 10 * BYSTRODOL_PAGE_BYTES, MOST = 257 * BYSTRODOL_PAGE_BYTES };
+enum { GUARD = 64, TEN_PAGES = 10 * BYSTRODOL_PAGE_BYTES, MOST = 1025 * BYSTRODOL_PAGE_BYTES };
 
 static const char *const names[PARTS] = {"index", "notepad", "buffer 1", "buffer 2", "run", "reply room", "templates"};
 
-/* Room for each part, one byte more than is right, or a page more. */
-static const size_t rooms[PARTS] = {33, 513, 513, 513, 64, 701, MOST};
+/* Room for each part, more than is right. */
+static const size_t rooms[PARTS] = {385, 513, 513, 513, 64, 701, MOST};
 
 static struct {
     uint8_t before_line[GUARD];
     struct bystrodol_line line;
-    uint8_t parts[PARTS * GUARD + 33 + 3 * 513 + 64 + 701 + MOST + GUARD];
+    uint8_t parts[PARTS * GUARD + 385 + 3 * 513 + 64 + 701 + MOST + GUARD];
 } area, was, bytes;
 
 static uint8_t *parts[PARTS];
@@ -37,8 +37,9 @@ static enum { STEP, OFFERED, HELD, DOORS } door;
 static const uint8_t handshake[] = {0xEF, 0x01, 0xFF, 0xFF, 0xFF, 0xFF, 0x01, 0x00, 0x03, 0x40, 0x00, 0x44};
 static const uint8_t count[] = {0xEF, 0x01, 0xFF, 0xFF, 0xFF, 0xFF, 0x01, 0x00, 0x03, 0x1D, 0x00, 0x21};
 
+/* No two pages have the same bytes. */
 static void fill_bytes(void) {
-    for (size_t i = 0; i < sizeof bytes; i++) ((uint8_t *)&bytes)[i] = (uint8_t)(0xA5 + 7 * i);
+    for (size_t i = 0; i < sizeof bytes; i++) ((uint8_t *)&bytes)[i] = (uint8_t)(0xA5 + 7 * i + i / 509);
     area = bytes;
 }
 
@@ -47,9 +48,10 @@ static size_t extent(void) { return (size_t)(parts[TEMPLATES] - (uint8_t *)&area
 
 static void save(void) { memcpy(&was, &area, extent()); }
 
-/* A legal reader of ten pages with fresh settings and bytes in all its memory, a handshake as its run, and a reply room. */
-static void set_up(void) {
-    static const size_t right[PARTS] = {32, 512, 512, 512, sizeof handshake, 700, TEN_PAGES};
+/* A legal reader of so many bytes of templates, with fresh settings and bytes in all its memory, a handshake as its run, and a reply
+ * room. */
+static void set_up_templates(size_t length) {
+    const size_t right[PARTS] = {128, 512, 512, 512, sizeof handshake, 700, length};
     size_t at = GUARD;
     for (int i = 0; i < PARTS; i++) {
         parts[i] = area.parts + at;
@@ -61,6 +63,10 @@ static void set_up(void) {
     memset(parts[INDEX], 0, rooms[INDEX]);
     memcpy(parts[RUN], handshake, sizeof handshake);
 }
+
+static void set_up_pages(size_t pages) { set_up_templates(pages * BYSTRODOL_PAGE_BYTES); }
+
+static void set_up(void) { set_up_templates(TEN_PAGES); }
 
 /* A part of no bytes is NULL. */
 static uint8_t *part(int i) { return lengths[i] ? parts[i] : NULL; }
@@ -154,10 +160,9 @@ static void answers_and_ends(const char *name, size_t which, int buffer) {
 /* ---- lent lengths and the reply room */
 
 static void bad_lengths(void) {
-    static const size_t pages[] = {0, 1, 511, 513, TEN_PAGES - 1, TEN_PAGES + 1, MOST - 1, MOST};
+    static const size_t pages[] = {0, 1, 511, 513, TEN_PAGES - 1, TEN_PAGES + 1, 1000 * 512 - 1, 1000 * 512 + 1, 1001 * 512, 1024 * 512, MOST - 1, MOST};
     for (size_t i = 0; i < sizeof pages / sizeof *pages; i++) {
-        set_up();
-        lengths[TEMPLATES] = pages[i];
+        set_up_templates(pages[i]);
         refuses(names[TEMPLATES], pages[i], BYSTRODOL_BAD_LENGTH);
     }
     for (int i = INDEX; i <= BUFFER2; i++)
@@ -166,9 +171,14 @@ static void bad_lengths(void) {
             lengths[i] = wrong == 0 ? 0 : wrong == 1 ? lengths[i] - 1 : lengths[i] + 1;
             refuses(names[i], lengths[i], BYSTRODOL_BAD_LENGTH);
         }
-    for (size_t n = 1; n <= BYSTRODOL_PAGES_MOST; n++) {
+    /* The length that the index had before request [6], and every other that is not 128. */
+    for (size_t n = 0; n <= rooms[INDEX]; n++) {
         set_up();
-        lengths[TEMPLATES] = n * BYSTRODOL_PAGE_BYTES;
+        lengths[INDEX] = n;
+        if (n != BYSTRODOL_INDEX_BYTES) refuses(names[INDEX], n, BYSTRODOL_BAD_LENGTH);
+    }
+    for (size_t n = 1; n <= BYSTRODOL_PAGES_MOST; n++) {
+        set_up_pages(n);
         answers("pages", n);
     }
 }
@@ -240,12 +250,12 @@ static void bad_settings(void) {
     answers("sensor type", 0xFFFF);
 }
 
+/* Every bit of the index. */
 static void bad_bits(void) {
-    static const size_t capacities[] = {1, 8, 9, 64, 255};
+    static const size_t capacities[] = {1, 8, 9, 64, 255, 256, 257, 300, 605, 999, 1000};
     for (size_t i = 0; i < sizeof capacities / sizeof *capacities; i++)
-        for (size_t p = 0; p < 256; p++) {
-            set_up();
-            lengths[TEMPLATES] = capacities[i] * BYSTRODOL_PAGE_BYTES;
+        for (size_t p = 0; p < 8 * BYSTRODOL_INDEX_BYTES; p++) {
+            set_up_pages(capacities[i]);
             parts[INDEX][p / 8] = (uint8_t)(1u << p % 8);
             if (p < capacities[i]) answers("an index bit below the capacity", p);
             else refuses("an index bit at or above the capacity", p, BYSTRODOL_BAD_SETTING);
@@ -312,56 +322,90 @@ static void changes(void) {
     is_done("VfyPwd", 0);
 }
 
-/* ---- a page that is stored is not written over */
+/* ---- the library's commands, in readers of many sizes: the page is two bytes, and the index 128 */
 
-static uint8_t *page_of(uint8_t *templates, uint8_t page) { return templates + BYSTRODOL_PAGE_BYTES * page; }
+static uint8_t *page_of(uint8_t *templates, size_t page) { return templates + BYSTRODOL_PAGE_BYTES * page; }
 
-static uint8_t bit_of(uint8_t page) { return (uint8_t)(1u << page % 8); }
+static uint8_t bit_of(size_t page) { return (uint8_t)(1u << page % 8); }
 
-/* A reader with both buffers filled and all ten pages stored; where it says same, the page has the buffer's bytes. */
-static void set_up_stored(int buffer, uint8_t page, int same) {
-    set_up();
+#define TWO(number) (uint8_t)((number) >> 8), (uint8_t)(number)
+
+/* A reader with both buffers filled and every page stored. */
+static void set_up_stored(size_t pages) {
+    set_up_pages(pages);
     area.line.settings.filled1 = area.line.settings.filled2 = 1;
-    parts[INDEX][0] = 0xFF, parts[INDEX][1] = 0x03;
-    if (same) memcpy(page_of(parts[TEMPLATES], page), parts[buffer], BYSTRODOL_PAGE_BYTES);
+    for (size_t page = 0; page < pages; page++) parts[INDEX][page / 8] |= bit_of(page);
 }
 
-static void send_store(int buffer, uint8_t page) {
-    const uint8_t store[] = {BYSTRODOL_COMMAND_STORE, buffer == BUFFER1 ? 1 : 2, 0, page};
+static void take_bit(size_t page) { parts[INDEX][page / 8] &= (uint8_t)~bit_of(page); }
+
+static uint8_t number_of(int buffer) { return buffer == BUFFER1 ? 1 : 2; }
+
+static void send_store(int buffer, size_t page) {
+    const uint8_t store[] = {BYSTRODOL_COMMAND_STORE, number_of(buffer), TWO(page)};
     send(BYSTRODOL_PACKET_COMMAND, store, sizeof store);
 }
 
+static void send_load(int buffer, size_t page) {
+    const uint8_t load[] = {BYSTRODOL_COMMAND_LOAD_CHAR, number_of(buffer), TWO(page)};
+    send(BYSTRODOL_PACKET_COMMAND, load, sizeof load);
+}
+
+static void send_delete(size_t page, size_t n) {
+    const uint8_t delete[] = {BYSTRODOL_COMMAND_DELET_CHAR, TWO(page), TWO(n)};
+    send(BYSTRODOL_PACKET_COMMAND, delete, sizeof delete);
+}
+
 /* Store to a vacant page puts the buffer there, and sets the bit. */
-static void is_stored(const char *name, int buffer, uint8_t page) {
+static void is_stored(const char *name, int buffer, size_t page) {
     send_store(buffer, page);
     memcpy(page_of(part_was(TEMPLATES), page), part_was(buffer), BYSTRODOL_PAGE_BYTES);
     part_was(INDEX)[page / 8] |= bit_of(page);
     is_done(name, page);
 }
 
-/* Store to a stored page: 22h, and nothing changes. Once the page is deleted it is stored on. */
-static void is_kept(int buffer, uint8_t page, int same) {
-    const uint8_t delete[] = {BYSTRODOL_COMMAND_DELET_CHAR, 0, page, 0, 1};
-    set_up_stored(buffer, page, same);
+/* DeletChar zeroes the pages, and clears their bits. */
+static void is_deleted(const char *name, size_t page, size_t n) {
+    send_delete(page, n);
+    memset(page_of(part_was(TEMPLATES), page), 0, n * BYSTRODOL_PAGE_BYTES);
+    for (size_t q = page; q < page + n; q++) part_was(INDEX)[q / 8] &= (uint8_t)~bit_of(q);
+    is_done(name, page);
+}
+
+/* Store to a stored page: 22h, and nothing changes. Once the page is deleted it is stored on. Where it says same, the page has the
+ * buffer's bytes. */
+static void is_kept(size_t pages, int buffer, size_t page, int same) {
+    set_up_stored(pages);
+    if (same) memcpy(page_of(parts[TEMPLATES], page), parts[buffer], BYSTRODOL_PAGE_BYTES);
     send_store(buffer, page);
     is_said("Store to a stored page", page, BYSTRODOL_CODE_PAGE_TAKEN);
-    send(BYSTRODOL_PACKET_COMMAND, delete, sizeof delete);
-    memset(page_of(part_was(TEMPLATES), page), 0, BYSTRODOL_PAGE_BYTES);
-    part_was(INDEX)[page / 8] &= (uint8_t)~bit_of(page);
-    is_done("DeletChar of a stored page", page);
+    is_deleted("DeletChar of a stored page", page, 1);
     is_stored("Store to a deleted page", buffer, page);
 }
 
 /* A page whose bit is clear is stored on, whatever bytes it has. */
-static void is_vacant(uint8_t page) {
-    set_up_stored(BUFFER1, page, 0);
-    parts[INDEX][page / 8] &= (uint8_t)~bit_of(page);
+static void is_vacant(size_t pages, size_t page) {
+    set_up_stored(pages);
+    take_bit(page);
     is_stored("Store to a vacant page that has bytes", BUFFER1, page);
+}
+
+/* LoadChar gives the page's own bytes; of a vacant page it is 0Ch. */
+static void is_loaded(size_t pages, size_t page) {
+    set_up_stored(pages);
+    area.line.settings.filled2 = 0;
+    send_load(BUFFER2, page);
+    memcpy(part_was(BUFFER2), page_of(part_was(TEMPLATES), page), BYSTRODOL_PAGE_BYTES);
+    was.line.settings.filled2 = 1;
+    is_done("LoadChar of a stored page", page);
+    take_bit(page);
+    send_load(BUFFER1, page);
+    is_said("LoadChar of a vacant page", page, BYSTRODOL_CODE_NOTHING_THERE);
 }
 
 /* The command ends a transfer into the other buffer first; and a buffer that is not filled is told before a page that is stored. */
 static void ends_transfer(void) {
-    set_up_stored(BUFFER1, 4, 0);
+    set_up_stored(10);
     area.line.settings.filled2 = 0, area.line.settings.transfer = 2, area.line.settings.got = 128;
     send_store(BUFFER1, 4);
     was.line.settings.transfer = 0, was.line.settings.got = 0;
@@ -371,13 +415,104 @@ static void ends_transfer(void) {
     is_said("Store to a stored page, not filled", 4, BYSTRODOL_CODE_NOTHING_THERE);
 }
 
-static void kept_pages(void) {
-    for (uint8_t page = 0; page < 10; page++) {
+/* Each of so many pages from one on. */
+static void library(size_t pages, size_t from, size_t n) {
+    for (size_t page = from; page < from + n; page++) {
         for (int same = 0; same < 2; same++) {
-            is_kept(BUFFER1, page, same);
-            is_kept(BUFFER2, page, same);
+            is_kept(pages, BUFFER1, page, same);
+            is_kept(pages, BUFFER2, page, same);
         }
-        is_vacant(page);
+        is_vacant(pages, page);
+        is_loaded(pages, page);
+    }
+}
+
+/* No page at or above the capacity is there, whatever its lower byte; nor are pages to delete of which one is not. */
+static void no_pages(size_t pages) {
+    const size_t past[] = {pages, pages + 1, pages + 256, 1000, 1023, 1024, 0x7FFF, 0x8000, 0xFF00, 0xFFFF};
+    for (size_t i = 0; i < sizeof past / sizeof *past; i++) {
+        set_up_stored(pages);
+        send_store(BUFFER1, past[i]);
+        is_said("Store past the last page", past[i], BYSTRODOL_CODE_BAD_PAGE);
+        send_load(BUFFER1, past[i]);
+        is_said("LoadChar past the last page", past[i], BYSTRODOL_CODE_BAD_PAGE);
+        send_delete(past[i], 0);
+        is_said("DeletChar past the last page", past[i], BYSTRODOL_CODE_BAD_RANGE);
+        send_delete(pages - 1, past[i]);
+        is_said("DeletChar of too many pages", past[i], BYSTRODOL_CODE_BAD_RANGE);
+    }
+}
+
+/* DeletChar of many pages, across page 256 too, and Empty. */
+static void deleted_pages(size_t pages) {
+    static const uint8_t empty = BYSTRODOL_COMMAND_EMPTY;
+    set_up_stored(pages);
+    is_deleted("DeletChar of no page", pages - 1, 0);
+    is_deleted("DeletChar of pages about the middle", pages / 4, pages / 2);
+    is_deleted("DeletChar of the last pages", pages - 1 - pages / 8, 1 + pages / 8);
+    is_deleted("DeletChar of all pages", 0, pages);
+    set_up_stored(pages);
+    send(BYSTRODOL_PACKET_COMMAND, &empty, 1);
+    memset(part_was(TEMPLATES), 0, lengths[TEMPLATES]);
+    memset(part_was(INDEX), 0, BYSTRODOL_INDEX_BYTES);
+    is_done("Empty", pages);
+}
+
+/* ReadIndexTable gives 32 bytes of the index at each page from 0 to 3, and from page 4 on it is 0Bh. */
+static void index_pages(size_t pages) {
+    for (unsigned n = 0; n < 256; n++) {
+        const uint8_t read[] = {BYSTRODOL_COMMAND_READ_INDEX_TABLE, (uint8_t)n};
+        uint8_t content[33] = {BYSTRODOL_CODE_DONE}, reply[sizeof content + BYSTRODOL_FRAME_BYTES];
+        set_up_pages(pages);
+        for (size_t page = 0; page < pages; page++)
+            if (page * page % 7 < 3) parts[INDEX][page / 8] |= bit_of(page);
+        send(BYSTRODOL_PACKET_COMMAND, read, sizeof read);
+        if (n > 3) {
+            is_said("ReadIndexTable past page 3", n, BYSTRODOL_CODE_BAD_PAGE);
+            continue;
+        }
+        memcpy(content + 1, parts[INDEX] + 32 * n, 32);
+        bystrodol_build(0xFFFFFFFF, BYSTRODOL_PACKET_ACKNOWLEDGE, content, sizeof content, reply, sizeof reply);
+        is_answered("ReadIndexTable", n, reply, sizeof reply);
+    }
+}
+
+/* Locked, it tells nothing and changes nothing, whatever its size and whatever page is asked for: 21h. */
+static void locked_library(size_t pages) {
+    const size_t last = pages - 1;
+    /* Each with its length before it. */
+    const uint8_t commands[][6] = {
+        {1, BYSTRODOL_COMMAND_TEMPLETE_NUM},
+        {1, BYSTRODOL_COMMAND_READ_SYS_PARA},
+        {1, BYSTRODOL_COMMAND_EMPTY},
+        {2, BYSTRODOL_COMMAND_READ_INDEX_TABLE, 0},
+        {2, BYSTRODOL_COMMAND_READ_INDEX_TABLE, 1},
+        {2, BYSTRODOL_COMMAND_READ_INDEX_TABLE, 3},
+        {2, BYSTRODOL_COMMAND_READ_INDEX_TABLE, 4},
+        {4, BYSTRODOL_COMMAND_STORE, 1, TWO(last)},
+        {4, BYSTRODOL_COMMAND_STORE, 1, TWO(pages)},
+        {4, BYSTRODOL_COMMAND_LOAD_CHAR, 1, TWO(last)},
+        {5, BYSTRODOL_COMMAND_DELET_CHAR, TWO(last), 0, 1},
+    };
+    for (size_t i = 0; i < sizeof commands / sizeof *commands; i++) {
+        set_up_stored(pages);
+        area.line.settings.password[3] = 5;
+        send(BYSTRODOL_PACKET_COMMAND, commands[i] + 1, commands[i][0]);
+        is_said("a locked reader", i, BYSTRODOL_CODE_PASSWORD_FIRST);
+    }
+}
+
+/* Pages about each 256, and the last two. */
+static void libraries(void) {
+    static const size_t sizes[] = {10, 257, 300, 605, 999, 1000};
+    library(10, 0, 10);
+    for (size_t i = 0; i < sizeof sizes / sizeof *sizes; i++) {
+        for (size_t from = 254; from + 3 < sizes[i]; from += 256) library(sizes[i], from, 4);
+        library(sizes[i], sizes[i] - 2, 2);
+        no_pages(sizes[i]);
+        deleted_pages(sizes[i]);
+        index_pages(sizes[i]);
+        locked_library(sizes[i]);
     }
     ends_transfer();
 }
@@ -399,9 +534,9 @@ static void any_mark(int mark, uint8_t byte) {
     /* The lengths come first, and then the reply room. */
     set_up();
     *marks[mark] = byte;
-    lengths[INDEX] = 31, lengths[REPLY] = 699;
+    lengths[INDEX] = 127, lengths[REPLY] = 699;
     refuses(name, byte, BYSTRODOL_BAD_LENGTH);
-    lengths[INDEX] = 32;
+    lengths[INDEX] = 128;
     refuses(name, byte, BYSTRODOL_BAD_ROOM);
     /* The line switch takes it, and leaves 0. */
     set_up();
@@ -415,19 +550,26 @@ static void any_mark(int mark, uint8_t byte) {
     check_of(name, byte, "what it leaves", unchanged(), extent());
 }
 
-/* Every number of pages, all of them stored: TempleteNum tells how many, and the service counts as many. */
+/* A command of a code alone, and its answer: 00h and these bytes. */
+static void tells(const char *name, size_t which, uint8_t code, const uint8_t *listed, size_t n) {
+    uint8_t content[17] = {BYSTRODOL_CODE_DONE}, reply[sizeof content + BYSTRODOL_FRAME_BYTES];
+    memcpy(content + 1, listed, n);
+    send(BYSTRODOL_PACKET_COMMAND, &code, 1);
+    is_answered(name, which, reply, bystrodol_build(0xFFFFFFFF, BYSTRODOL_PACKET_ACKNOWLEDGE, content, 1 + n, reply, sizeof reply));
+}
+
+/* Every number of pages, all of them stored and some: TempleteNum tells how many, the service counts as many, and ReadSysPara tells the
+ * capacity. */
 static void counted(void) {
     for (size_t n = 1; n <= BYSTRODOL_PAGES_MOST; n++) {
-        uint8_t high = (uint8_t)(n >> 8), low = (uint8_t)n;
-        uint16_t sum = (uint16_t)(0x0C + high + low);
-        uint8_t told[] = {0xEF, 0x01, 0xFF, 0xFF, 0xFF, 0xFF, 0x07, 0x00, 0x05, 0x00, high, low, (uint8_t)(sum >> 8), (uint8_t)sum};
-        set_up();
-        lengths[TEMPLATES] = n * BYSTRODOL_PAGE_BYTES;
-        for (size_t page = 0; page < n; page++) parts[INDEX][page / 8] |= (uint8_t)(1u << page % 8);
-        memcpy(parts[RUN], count, lengths[RUN] = sizeof count);
-        call();
-        is_answered("all pages stored", n, told, sizeof told);
+        size_t some = n;
+        set_up_stored(n);
+        tells("all pages stored", n, BYSTRODOL_COMMAND_TEMPLETE_NUM, (const uint8_t[]){TWO(n)}, 2);
+        tells("the capacity", n, BYSTRODOL_COMMAND_READ_SYS_PARA, (const uint8_t[]){0, 0, 0, 0, TWO(n), 0, 3, 0xFF, 0xFF, 0xFF, 0xFF, 0, 2, 0, 6}, 16);
         check_of("all pages stored", n, "count", bystrodol_count(parts[INDEX], lengths[INDEX]), n);
+        for (size_t page = n % 5; page < n; page += 1 + page % 7) take_bit(page), some--;
+        tells("some pages stored", n, BYSTRODOL_COMMAND_TEMPLETE_NUM, (const uint8_t[]){TWO(some)}, 2);
+        check_of("some pages stored", n, "count", bystrodol_count(parts[INDEX], lengths[INDEX]), some);
     }
 }
 
@@ -611,7 +753,7 @@ int main(void) {
         order();
         switches();
         changes();
-        kept_pages();
+        libraries();
         counted();
         any_marks();
         any_settings();

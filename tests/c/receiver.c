@@ -276,12 +276,12 @@ static void is_refused(size_t count, size_t index_length, size_t room, uint8_t l
 static void counts(void) {
     make_dialogue();
     for (size_t count = 0; count <= 0xFFFF; count += count < 600 ? 1 : 61) {
-        is_refused(count, 31, 699, 0, BYSTRODOL_BAD_LENGTH);
-        is_refused(count, 32, 699, 0, BYSTRODOL_BAD_ROOM);
-        is_refused(count, 32, 700, 0, BYSTRODOL_BAD_SETTING);
-        if (count > MOST) is_refused(count, 32, 700, 3, BYSTRODOL_BAD_SETTING);
+        is_refused(count, BYSTRODOL_OLD_INDEX_BYTES, 699, 0, BYSTRODOL_BAD_LENGTH);
+        is_refused(count, 128, 699, 0, BYSTRODOL_BAD_ROOM);
+        is_refused(count, 128, 700, 0, BYSTRODOL_BAD_SETTING);
+        if (count > MOST) is_refused(count, 128, 700, 3, BYSTRODOL_BAD_SETTING);
     }
-    is_refused(0xFFFF, 32, 700, 3, BYSTRODOL_BAD_SETTING);
+    is_refused(0xFFFF, 128, 700, 3, BYSTRODOL_BAD_SETTING);
 }
 
 /* ---- the line switch */

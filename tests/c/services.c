@@ -1,11 +1,11 @@
 /*
- * Calls the four services from C, and holds each answer to one that is written here. tests/c/run builds and runs it.
+ * Calls the four services from C, and brings indexes over, and holds each answer to one that is written here. tests/c/run builds and runs it.
  * It writes one line, 'services: N checks passed', and ends with 0; or names each failed check and ends with 1.
  */
 #include "bystrodol.h"
 #include "check.h"
 
-enum { LONGEST = BYSTRODOL_CONTENT_MOST_DATA + BYSTRODOL_FRAME_BYTES, ROOM = LONGEST + 64, GUARD = 64, MANY = 65537 };
+enum { LONGEST = BYSTRODOL_CONTENT_MOST_DATA + BYSTRODOL_FRAME_BYTES, ROOM = 512, GUARD = 64, MANY = 65537 };
 
 /* ---- the sum */
 
@@ -154,24 +154,26 @@ static void read_back(uint8_t identifier, size_t most) {
 
 /* ---- the set bits of an index */
 
+static size_t count(const uint8_t *index) { return bystrodol_count(index, BYSTRODOL_INDEX_BYTES); }
+
 static void counts(void) {
-    static uint8_t index[BYSTRODOL_INDEX_BYTES + 1];
-    check("the count of an empty index", bystrodol_count(index, 32), 0);
+    static uint8_t index[3 * BYSTRODOL_INDEX_BYTES + 1];
+    check("the count of an empty index", count(index), 0);
     index[0] = 0x01, index[1] = 0x02;
-    check("P11: pages 0 and 9", bystrodol_count(index, 32), 2);
-    check("an index of 31 bytes", bystrodol_count(index, 31), BYSTRODOL_NO_COUNT);
-    check("an index of 33 bytes", bystrodol_count(index, 33), BYSTRODOL_NO_COUNT);
+    check("P11: pages 0 and 9", count(index), 2);
+    for (size_t n = 0; n <= sizeof index; n++)
+        if (n != 128) check_of("an index of another length", n, "count", bystrodol_count(index, n), BYSTRODOL_NO_COUNT);
     check("an index of no bytes, at NULL", bystrodol_count(NULL, 0), BYSTRODOL_NO_COUNT);
-    index[0] = index[1] = 0, index[32] = 0xFF;
-    check("a byte past the index", bystrodol_count(index, 32), 0);
-    for (size_t p = 0; p < 256; p++) {
+    index[0] = index[1] = 0, index[BYSTRODOL_INDEX_BYTES] = 0xFF;
+    check("a byte past the index", count(index), 0);
+    for (size_t p = 0; p < 1024; p++) {
         index[p / 8] = (uint8_t)(1u << p % 8);
-        check_of("one page", p, "count", bystrodol_count(index, 32), 1);
+        check_of("one page", p, "count", count(index), 1);
         index[p / 8] = 0;
     }
-    for (size_t p = 0; p < 256; p++) {
+    for (size_t p = 0; p < 1024; p++) {
         index[p / 8] = (uint8_t)(index[p / 8] | 1u << p % 8);
-        check_of("all pages up to one", p, "count", bystrodol_count(index, 32), p + 1);
+        check_of("all pages up to one", p, "count", count(index), p + 1);
     }
 }
 
@@ -184,17 +186,82 @@ static size_t bits_of(unsigned byte) {
 
 /* Every byte at every place, the others FF and then 0, in an index that begins at one of eight addresses, by the byte. */
 static void counts_of_bytes(void) {
-    static uint8_t area[BYSTRODOL_INDEX_BYTES + 8];
+    static uint8_t around[BYSTRODOL_INDEX_BYTES + 8];
     for (size_t at = 0; at < BYSTRODOL_INDEX_BYTES; at++)
         for (unsigned byte = 0; byte < 256; byte++) {
-            uint8_t *index = area + byte % 8;
-            memset(area, 0xFF, sizeof area);
+            uint8_t *index = around + byte % 8;
+            memset(around, 0xFF, sizeof around);
             index[at] = (uint8_t)byte;
-            check_of("a byte among pages stored", at << 8 | byte, "count", bystrodol_count(index, 32), 31 * 8 + bits_of(byte));
+            check_of("a byte among pages stored", at << 8 | byte, "count", count(index), 127 * 8 + bits_of(byte));
             memset(index, 0, BYSTRODOL_INDEX_BYTES);
             index[at] = (uint8_t)byte;
-            check_of("a byte among pages not stored", at << 8 | byte, "count", bystrodol_count(index, 32), bits_of(byte));
+            check_of("a byte among pages not stored", at << 8 | byte, "count", count(index), bits_of(byte));
         }
+}
+
+/* ---- an index brought over: the new one lies between guards */
+
+static uint8_t old[BYSTRODOL_OLD_INDEX_BYTES + 256 + 1], old_was[sizeof old];
+
+/* What lay in the new index: other bytes; zero; zero but for the last byte; FF; what is brought over, with FF behind it. */
+enum { OTHER_BYTES, ZEROS, LAST_BYTE, ONES, THE_SAME, KINDS };
+
+/* Brings the old index over. An index of no bytes is NULL. */
+static uint8_t bring_over(size_t old_length, size_t length, int kind) {
+    for (size_t i = 0; i < sizeof area; i++) area[i] = (uint8_t)(0xA5 + 7 * i);
+    if (kind != OTHER_BYTES) memset(room, kind <= LAST_BYTE ? 0 : 0xFF, ROOM);
+    if (kind == LAST_BYTE) room[127] = 0xFF;
+    if (kind == THE_SAME) memcpy(room, old, 32);
+    memcpy(before, area, sizeof area);
+    memcpy(old_was, old, sizeof old);
+    uint8_t refusal = bystrodol_bring_over(old_length ? old : NULL, old_length, length ? room : NULL, length);
+    check_of("bringing over", old_length << 16 | length, "the old index", differ(old, old_was, sizeof old), sizeof old);
+    return refusal;
+}
+
+/* The old bytes, zero to the index's end, and the guards; and how many pages are stored. */
+static void is_brought(const char *name, size_t which, size_t pages) {
+    static const uint8_t zeros[96];
+    for (int kind = 0; kind < KINDS; kind++) {
+        check_of(name, which, "refusal", bring_over(32, 128, kind), BYSTRODOL_ACCEPTED);
+        check_of(name, which, "the first 32 bytes", differ(room, old, 32), 32);
+        check_of(name, which, "the 96 behind them", differ(room + 32, zeros, sizeof zeros), sizeof zeros);
+        check_of(name, which, "guard before the index", differ(area, before, GUARD), GUARD);
+        check_of(name, which, "guard behind it", differ(room + 128, before + GUARD + 128, sizeof area - GUARD - 128), sizeof area - GUARD - 128);
+        check_of(name, which, "count", count(room), pages);
+    }
+}
+
+static void is_not_brought(size_t old_length, size_t length) {
+    for (int kind = 0; kind < KINDS; kind++) {
+        check_of("bringing over, another length", old_length << 16 | length, "refusal", bring_over(old_length, length, kind), BYSTRODOL_BAD_LENGTH);
+        check_of("bringing over, another length", old_length << 16 | length, "index and guards", differ(area, before, sizeof area), sizeof area);
+    }
+}
+
+static void brought_over(void) {
+    size_t pages = 0;
+    is_brought("an empty index", 0, 0);
+    for (size_t p = 0; p < 256; p++) {
+        old[p / 8] = (uint8_t)(1u << p % 8);
+        is_brought("one page", p, 1);
+        old[p / 8] = 0;
+    }
+    for (size_t p = 0; p < 256; p++) {
+        old[p / 8] = (uint8_t)(old[p / 8] | 1u << p % 8);
+        is_brought("all pages up to one", p, p + 1);
+    }
+    for (size_t i = 0; i < sizeof old; i++) old[i] = (uint8_t)(37 * i + 11);
+    for (size_t i = 0; i < 32; i++) pages += bits_of(old[i]);
+    is_brought("pages of all kinds", 0, pages);
+    for (size_t n = 0; n <= sizeof old; n += n < 130 ? 1 : 53)
+        for (size_t m = 0; m <= 384; m += m < 130 ? 1 : 127)
+            if (n != 32 || m != 128) is_not_brought(n, m);
+    for (size_t m = 0; m <= 512; m += 64) is_not_brought(32, m == 128 ? 127 : m), is_not_brought(288, m);
+    /* The two lengths the other way round. */
+    memcpy(old_was, old, sizeof old);
+    check("bringing over from 128 bytes to 32", bystrodol_bring_over(room, 128, old, 32), BYSTRODOL_BAD_LENGTH);
+    check("and the 32 bytes", differ(old, old_was, sizeof old), sizeof old);
 }
 
 int main(void) {
@@ -207,5 +274,6 @@ int main(void) {
     read_back(BYSTRODOL_PACKET_COMMAND, BYSTRODOL_CONTENT_MOST_OTHER);
     counts();
     counts_of_bytes();
+    brought_over();
     return report("services");
 }
