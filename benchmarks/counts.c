@@ -4,17 +4,20 @@
 #include "stepper.h"
 #include "system.h"
 
-enum { ROWS_MOST = 48, CAPACITIES = 3, PIECES = 4, COLUMNS_MOST = PIECES };
+enum { ROWS_MOST = 48, CAPACITIES = 6, PIECES = 4, COLUMNS_MOST = CAPACITIES };
 
 /* A call is measured at these capacities, a run in pieces of these lengths, a service once. */
-static const size_t capacities[CAPACITIES] = {1, 64, 256}, piece_lengths[PIECES] = {1, 16, 60, BYSTRODOL_HELD_MOST};
+static const size_t capacities[CAPACITIES] = {1, 64, 256, 257, 999, 1000};
+static const size_t piece_lengths[PIECES] = {1, 16, 60, BYSTRODOL_HELD_MOST};
 
 /* ---- rows: a row is measured once in each column */
 
 struct row {
     const char *name, *trouble;
     size_t bytes; /* of the run, where the counts are told by the byte; else 0 */
-    int is_bound; /* by request [4]: at most 1.1 times plain C */
+    int is_bound[COLUMNS_MOST]; /* by request [4] or [6]: at most 1.1 times plain C */
+    int may_grow;               /* with the pages; by request [6] no other row may */
+    size_t carried;             /* calls that were not refused, in each column */
     size_t ours[COLUMNS_MOST], plain[COLUMNS_MOST];
 };
 
@@ -32,8 +35,10 @@ static void begin(struct table *table, const char *name, size_t capacity) {
     if (table->length == ROWS_MOST) fail("a table has too many rows");
     row = &table->rows[table->length++];
     row->name = name;
-    restart_random();
+    row->carried = 0;
     make_reader(capacity);
+    /* What is drawn next is the same at every capacity. */
+    restart_random();
     set_stored(&reader.memory, capacity - 1);
     reader.line.settings.password[3] = 5;
     reader.line.settings.verified = reader.line.settings.filled1 = reader.line.settings.filled2 = 1;
@@ -86,6 +91,7 @@ static void measure_call(int expected) {
     turn(step_count);
     struct bystrodol_answer plain = call_stepped(plain_step);
     finish(step_count, ours.refusal == plain.refusal && ours.used == plain.used && ours.length == plain.length);
+    row->carried += plain.refusal == BYSTRODOL_ACCEPTED;
     int outcome = plain.refusal ? REFUSED + plain.refusal : plain.length ? reader.reply[9] : SILENT;
     expect(outcome == expected);
 }
@@ -103,18 +109,20 @@ static void command_rows(size_t capacity) {
     for (size_t i = 0; i < COMMANDS; i++) {
         const struct command command = command_of(i, capacity);
         begin(&calls, command.name, capacity);
-        row->is_bound = command.content[0] == 0x1D;
+        row->is_bound[column] = command.content[0] == 0x1D || (command.content[0] == 0x40 && capacity == 1);
+        row->may_grow = command.content[0] == 0x0C || command.content[0] == 0x0D;
         /* Store wants a vacant page. */
         if (command.content[0] == 0x06) clear_stored(&reader.memory, capacity - 1);
         measure_command(0x00, command.content, command.length);
     }
     begin(&calls, "0Ch DeletChar, all pages", capacity);
+    row->may_grow = 1;
     measure_command(0x00, delete_all, sizeof delete_all);
 }
 
 static void refused_command_rows(size_t capacity) {
     static const uint8_t count[] = {0x1D}, unknown[] = {0x05}, password[] = {0x13, 0, 0, 0, 6};
-    const uint8_t store[] = {0x06, 1, 0, (uint8_t)(capacity - 1)};
+    const uint8_t store[] = {0x06, 1, (uint8_t)((capacity - 1) >> 8), (uint8_t)(capacity - 1)};
     begin(&calls, "wrong sum: 01h", capacity);
     append_packet(COMMAND, count, sizeof count);
     run[run_length - 1]++;
@@ -130,6 +138,9 @@ static void refused_command_rows(size_t capacity) {
     measure_command(0x21, count, sizeof count);
 }
 
+/* The call that does least: it makes the tests that come before every other, that of the index among them. */
+static const struct row *least;
+
 static void silent_rows(size_t capacity) {
     static const uint8_t hand_shake[] = {0x40};
     begin(&calls, "another address: silent", capacity);
@@ -140,6 +151,7 @@ static void silent_rows(size_t capacity) {
     append_packet(COMMAND, hand_shake, sizeof hand_shake);
     run_length--;
     measure_call(SILENT);
+    least = row;
     begin(&calls, "1024 bytes of noise: silent", capacity);
     append_noise(1024);
     measure_call(SILENT);
@@ -349,8 +361,13 @@ static void measure_services(void) {
     build_row("build, 256 bytes of content", BYSTRODOL_CONTENT_MOST_DATA);
     build_row("build, refused", BYSTRODOL_CONTENT_MOST_DATA + 1);
     begin(&services, "count", 1);
-    row->is_bound = 1;
+    row->is_bound[column] = 1;
     MEASURE(count, reader.memory.index, sizeof reader.memory.index);
+    begin(&services, "an index brought over", 1);
+    MEASURE(bring_over, reader.memory.notepad, BYSTRODOL_OLD_INDEX_BYTES, reader.memory.index, sizeof reader.memory.index);
+    expect(memcmp(reader.memory.index, reader.memory.notepad, BYSTRODOL_OLD_INDEX_BYTES) == 0);
+    begin(&services, "bringing over, refused", 1);
+    MEASURE(bring_over, reader.memory.notepad, BYSTRODOL_OLD_INDEX_BYTES - 1, reader.memory.index, sizeof reader.memory.index);
     measure_receiver();
 }
 
@@ -382,34 +399,48 @@ static void put_count(size_t count, size_t bytes) {
     put_text(" |");
 }
 
-static void put_row(const struct row *shown, size_t columns, struct summary *summary) {
+static void put_row(const struct row *shown, size_t from, size_t columns, struct summary *summary) {
     put_text("| "), put_text_in(28, shown->name), put_text(" |");
-    for (size_t i = 0; i < columns; i++) {
+    for (size_t i = from; i < from + columns; i++) {
         size_t ours = shown->ours[i], plain = shown->plain[i], ratio = (100 * ours + plain / 2) / plain;
         put_count(ours, shown->bytes), put_count(plain, shown->bytes);
         put_text(ratio < 1000 ? "  " : " "), put_ratio(ratio), put_text(" |");
         summary->ratios++;
         summary->at_most_one += ours <= plain;
         summary->above += 10 * ours > 11 * plain;
-        summary->bound += shown->is_bound != 0;
-        if (shown->is_bound && 10 * ours > 11 * plain) put_text(" ABOVE 1.1"), summary->broken++;
+        summary->bound += shown->is_bound[i] != 0;
+        if (shown->is_bound[i] && 10 * ours > 11 * plain) put_text(" ABOVE 1.1"), summary->broken++;
         if (ratio > summary->worst) summary->worst = ratio, summary->worst_name = shown->name;
     }
     if (shown->trouble) put_text(" "), put_text(shown->trouble), summary->troubles++;
     put_text("\n");
 }
 
-static void put_table(const char *heading, const struct table *table, size_t columns, struct summary *summary) {
+/* The rows in so many columns, from one on. */
+static void put_table(const char *heading, const struct table *table, size_t from, size_t columns,
+                      struct summary *summary) {
     put_text(heading);
-    for (size_t i = 0; i < table->length; i++) put_row(&table->rows[i], columns, summary);
+    for (size_t i = 0; i < table->length; i++) put_row(&table->rows[i], from, columns, summary);
     put_text("\n");
 }
 
-static void put_growing(void) {
+/* What a row takes beside the tests that every call makes: those of the index are fewer the more pages there are. */
+static size_t own_part(const struct row *shown, size_t i) { return shown->ours[i] - shown->carried * least->ours[i]; }
+
+/* Whether it takes more at some capacity than at the first, in all or beside those tests. */
+static int grows(const struct row *shown) {
+    for (size_t i = 1; i < CAPACITIES; i++)
+        if (shown->ours[i] > shown->ours[0] || own_part(shown, i) > own_part(shown, 0)) return 1;
+    return 0;
+}
+
+static void put_growing(struct summary *summary) {
     const char *between = "Ours grow with the pages: ";
     for (size_t i = 0; i < calls.length; i++)
-        if (calls.rows[i].ours[CAPACITIES - 1] > calls.rows[i].ours[0])
+        if (grows(&calls.rows[i])) {
             put_text(between), put_text(calls.rows[i].name), between = "; ";
+            if (!calls.rows[i].may_grow) put_text(" (MAY NOT)"), summary->broken++;
+        }
     put_text(".\n\n");
 }
 
@@ -432,7 +463,8 @@ static void put_summary(const struct summary *summary) {
     put_text(" at most 1, "), put_number(summary->above), put_text(" above 1.1, the largest ");
     put_ratio(summary->worst), put_text(" ("), put_text(summary->worst_name), put_text("); ");
     put_number(summary->troubles), put_text(" rows with other results; of ");
-    put_number(summary->bound), put_text(" that may not be above 1.1, "), put_number(summary->broken), put_text(" are\n");
+    put_number(summary->bound), put_text(" that may not be above 1.1 and all that may not grow, ");
+    put_number(summary->broken), put_text(" do\n");
 }
 
 int print_counts(void) {
@@ -443,14 +475,17 @@ int print_counts(void) {
     measure_services();
     put_table("| a call, at 1, 64, 256 pages  |  1: ours |     1: C | ratio | 64: ours |    64: C | ratio "
               "|256: ours |   256: C | ratio |\n|---|---:|---:|---:|---:|---:|---:|---:|---:|---:|\n",
-              &calls, CAPACITIES, &summary);
+              &calls, 0, 3, &summary);
+    put_table("| at 257, 999, 1000 pages      |257: ours |   257: C | ratio |999: ours |   999: C | ratio "
+              "|1000:ours |  1000: C | ratio |\n|---|---:|---:|---:|---:|---:|---:|---:|---:|---:|\n",
+              &calls, 3, 3, &summary);
     put_table("| a received byte, in pieces   |  1: ours |     1: C | ratio | 16: ours |    16: C | ratio "
               "| 60: ours |    60: C | ratio |267: ours |   267: C | ratio |\n"
               "|---|---:|---:|---:|---:|---:|---:|---:|---:|---:|---:|---:|---:|\n",
-              &received, PIECES, &summary);
-    put_table("| a service                    |     ours |        C | ratio |\n|---|---:|---:|---:|\n", &services, 1,
+              &received, 0, PIECES, &summary);
+    put_table("| a service                    |     ours |        C | ratio |\n|---|---:|---:|---:|\n", &services, 0, 1,
               &summary);
-    put_growing();
+    put_growing(&summary);
     put_share();
     put_summary(&summary);
     return summary.troubles != 0 || summary.broken != 0;

@@ -24,7 +24,7 @@ enum code {
 /* Where the parts of a packet are. */
 enum { ADDRESS = 2, IDENTIFIER = 6, LENGTH = 7, CONTENT = 9, SUM_BYTES = 2 };
 
-enum { NOTEPAD_PAGES = 16, NOTEPAD_PAGE_BYTES = 32, DATA_MOST = 32 };
+enum { NOTEPAD_PAGES = 16, NOTEPAD_PAGE_BYTES = 32, INDEX_PAGES = 4, INDEX_PAGE_BYTES = 32, DATA_MOST = 32 };
 
 struct reader {
     struct bystrodol_settings *settings;
@@ -115,6 +115,13 @@ static unsigned count_stored(const uint8_t *index) {
 
 uint16_t plain_count(const uint8_t *index, size_t index_length) {
     return (uint16_t)(index_length == BYSTRODOL_INDEX_BYTES ? count_stored(index) : BYSTRODOL_NO_COUNT);
+}
+
+uint8_t plain_bring_over(const uint8_t *old, size_t old_length, uint8_t *index, size_t index_length) {
+    if (old_length != BYSTRODOL_OLD_INDEX_BYTES || index_length != BYSTRODOL_INDEX_BYTES) return BYSTRODOL_BAD_LENGTH;
+    memcpy(index, old, BYSTRODOL_OLD_INDEX_BYTES);
+    memset(index + BYSTRODOL_OLD_INDEX_BYTES, 0, BYSTRODOL_INDEX_BYTES - BYSTRODOL_OLD_INDEX_BYTES);
+    return BYSTRODOL_ACCEPTED;
 }
 
 /* No bit at or above the capacity is set. */
@@ -353,8 +360,8 @@ static size_t carry_out(struct reader *reader, uint8_t command, const uint8_t *p
         put16(data, count_stored(reader->index));
         return reply_data(reader, data, 2);
     case READ_INDEX_TABLE:
-        if (parameters[0] != 0) return reply_code(reader, BAD_PAGE);
-        return reply_data(reader, reader->index, BYSTRODOL_INDEX_BYTES);
+        if (parameters[0] >= INDEX_PAGES) return reply_code(reader, BAD_PAGE);
+        return reply_data(reader, reader->index + INDEX_PAGE_BYTES * parameters[0], INDEX_PAGE_BYTES);
     default: /* HAND_SHAKE */
         return reply_code(reader, DONE);
     }

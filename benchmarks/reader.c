@@ -25,8 +25,15 @@ void set_stored(struct memory *memory, size_t page) { memory->index[page / 8] |=
 void clear_stored(struct memory *memory, size_t page) { memory->index[page / 8] &= (uint8_t)~(1 << page % 8); }
 
 void make_index_legal(struct memory *memory) {
-    for (size_t page = pages; page < BYSTRODOL_PAGES_MOST; page++) clear_stored(memory, page);
+    for (size_t page = pages; page < 8 * BYSTRODOL_INDEX_BYTES; page++) clear_stored(memory, page);
 }
+
+/* The bytes of the templates that are not in use: the last ones of a memory, and of a reader. */
+static size_t unused(void) { return BYSTRODOL_PAGE_BYTES * (BYSTRODOL_PAGES_MOST - pages); }
+
+void copy_reader(struct reader *to, const struct reader *from) { memcpy(to, from, sizeof *to - unused()); }
+
+void fill_memory(struct memory *memory) { fill_random(memory, sizeof *memory - unused()); }
 
 void make_reader(size_t capacity) {
     pages = capacity;
@@ -34,7 +41,7 @@ void make_reader(size_t capacity) {
     reader.line.settings = bystrodol_fresh();
     memset(reader.line.receiver.held, 0xEF, sizeof reader.line.receiver.held);
     reader.line.receiver.count = 0;
-    fill_random(&reader.memory, sizeof reader.memory);
+    fill_memory(&reader.memory);
     fill_random(reader.reply, sizeof reader.reply);
     make_index_legal(&reader.memory);
 }
@@ -60,13 +67,13 @@ void append_packet(enum identifier identifier, const uint8_t *content, size_t n)
 }
 
 struct command command_of(size_t number, size_t capacity) {
-    const uint8_t last = (uint8_t)(capacity - 1);
+    const uint8_t high = (uint8_t)((capacity - 1) >> 8), low = (uint8_t)(capacity - 1);
     const struct command commands[COMMANDS] = {
-        {"06h Store", 4, {0x06, 1, 0, last}},
-        {"07h LoadChar", 4, {0x07, 1, 0, last}},
+        {"06h Store", 4, {0x06, 1, high, low}},
+        {"07h LoadChar", 4, {0x07, 1, high, low}},
         {"08h UpChar", 2, {0x08, 1}},
         {"09h DownChar", 2, {0x09, 1}},
-        {"0Ch DeletChar, one page", 5, {0x0C, 0, last, 0, 1}},
+        {"0Ch DeletChar, one page", 5, {0x0C, high, low, 0, 1}},
         {"0Dh Empty", 1, {0x0D}},
         {"0Eh SetSysPara", 3, {0x0E, 4, 12}},
         {"0Fh ReadSysPara", 1, {0x0F}},
@@ -76,7 +83,7 @@ struct command command_of(size_t number, size_t capacity) {
         {"18h WriteNotepad", 34, {0x18, 15, 1, 2, 3, 4}},
         {"19h ReadNotepad", 2, {0x19, 15}},
         {"1Dh TempleteNum", 1, {0x1D}},
-        {"1Fh ReadIndexTable", 2, {0x1F, 0}},
+        {"1Fh ReadIndexTable", 2, {0x1F, 3}},
         {"40h HandShake", 1, {0x40}},
     };
     return commands[number];

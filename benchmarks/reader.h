@@ -17,16 +17,22 @@ struct memory {
 
 struct reader {
     struct bystrodol_line line;
-    struct memory memory;
     uint8_t reply[REPLY_ROOM];
+    struct memory memory;
 };
 
 extern struct reader reader;
 extern size_t pages, reply_length;
 
+/* Copies a reader, but for the templates behind the pages in use. */
+void copy_reader(struct reader *to, const struct reader *from);
+
 /* Makes a reader of so many pages with fresh settings, pseudo-random memory and a receiver that holds nothing, in whose
  * cells old bytes lie. */
 void make_reader(size_t capacity);
+
+/* Pseudo-random bytes in all memory but the templates behind the pages in use. */
+void fill_memory(struct memory *memory);
 
 void set_stored(struct memory *memory, size_t page);
 void clear_stored(struct memory *memory, size_t page);

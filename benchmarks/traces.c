@@ -8,7 +8,7 @@
 #include "stepper.h"
 #include "system.h"
 
-static const size_t capacities[] = {1, 8, 9, 64, 256};
+static const size_t capacities[] = {1, 8, 9, 64, 257, 999, 1000};
 enum { CAPACITIES = sizeof capacities / sizeof *capacities };
 
 /* ---- a pair: two readers with the same public settings */
@@ -35,10 +35,11 @@ static void make_locked_settings(struct bystrodol_settings *settings) {
 static void make_pair(size_t capacity, size_t number) {
     make_reader(capacity);
     make_locked_settings(&reader.line.settings);
-    pair[0] = pair[1] = reader;
+    copy_reader(&pair[0], &reader);
+    copy_reader(&pair[1], &reader);
     switch (number % KINDS) {
     case 0: /* everything differs */
-        fill_random(&pair[1].memory, sizeof pair[1].memory);
+        fill_memory(&pair[1].memory);
         set_marks(&pair[1].line.settings, random_byte());
         break;
     case 1: /* nothing, and all that there can be */
@@ -93,8 +94,8 @@ enum call {
     NO_CALL
 };
 
-/* The calls that one pair gets before the right password: six rounds are all calls. */
-enum { CALLS_EACH = (LOCKED_CALLS + 5) / 6 };
+/* The rounds that are all calls, and the calls that one pair gets before the right password. */
+enum { ROUNDS = 6, CALLS_EACH = (LOCKED_CALLS + ROUNDS - 1) / ROUNDS };
 
 static void append_command(struct command command, enum shape shape) {
     if (shape == NOISY) append_noise(16);
@@ -190,11 +191,11 @@ static struct bystrodol_received call_reader(enum call call, const uint8_t *piec
 
 /* Puts a reader of the pair in the place of the called one, calls it, and takes it back. The bytes taken. */
 static size_t make_call(struct reader *called, enum call call, const uint8_t *piece, size_t n) {
-    reader = *called;
+    copy_reader(&reader, called);
     struct bystrodol_received received = call_reader(call, piece, n);
     if (received.refusal != BYSTRODOL_ACCEPTED) fail("a legal reader was refused");
     if (step_count > TRACE_MOST) fail("a call has more instructions than a trace holds");
-    *called = reader;
+    copy_reader(called, &reader);
     return received.taken;
 }
 
@@ -304,8 +305,8 @@ int compare_traces(int of_plain) {
     line_switch = of_plain ? plain_line_switch : bystrodol_line_switch;
     receive = of_plain ? plain_receive : bystrodol_receive;
     receiver_switch = of_plain ? plain_receiver_switch : bystrodol_receiver_switch;
-    int is_well = compare_pairs("traces", 200, KINDS * CAPACITIES);
+    int is_well = compare_pairs("traces", ROUNDS * KINDS * CAPACITIES, KINDS * CAPACITIES);
     in_pieces = 1;
-    is_well &= compare_pairs("traces in pieces", 24, KINDS);
+    is_well &= compare_pairs("traces in pieces", ROUNDS * KINDS, KINDS);
     return !is_well;
 }
