@@ -22,6 +22,7 @@ SETTINGS = ("password", "address", "level", "size", "baud", "transfer", "type", 
 LAYOUT = ">4s4sBBBBHHBBB"
 MEMORY = ("templates", "index", "notepad", "buffer1", "buffer2")
 PAGE = 512
+INDEX = 128
 
 
 class Unusable(Exception):
@@ -43,11 +44,11 @@ class Reader:
     def __init__(self, capacity):
         self.settings = dict.fromkeys(SETTINGS, 0)
         self.settings.update(password=bytes(4), address=b"\xff" * 4, level=3, size=2, baud=6)
-        self.memory = {"templates": bytes(PAGE * capacity), "index": bytes(32), "notepad": bytes(512),
+        self.memory = {"templates": bytes(PAGE * capacity), "index": bytes(INDEX), "notepad": bytes(512),
                        "buffer1": bytes(512), "buffer2": bytes(512)}
 
     def store(self, pages):
-        index = bytearray(32)
+        index = bytearray(INDEX)
         for page in pages:
             index[page // 8] |= 1 << page % 8
         self.memory["index"] = bytes(index)
@@ -86,6 +87,7 @@ READERS = {
     "locked": changed(filled(), password=PASSWORD),
     "open": in_transfer(),
     "large": filled(256, range(256)),
+    "thousand": with_buffer1(filled(1000, set(range(1000)) - {3, 257, 600, 998}), 0xA5),
     "elsewhere": changed(filled(), address=bytes(4)),
     "wide": with_buffer1(changed(filled(), size=3), 0xA5),
     "awaiting": with_buffer1(changed(filled(), size=3, transfer=1, filled1=0), 0),

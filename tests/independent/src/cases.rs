@@ -1,5 +1,6 @@
 //! Cases by chance: dialogues with a legal reader, and single calls of readers legal and not.
 
+use crate::bringing_over;
 use crate::chance::Chance;
 use crate::frame::{Kind, Outcome, Request, MOST_RUN};
 use crate::reader::*;
@@ -67,13 +68,14 @@ impl Dialogue {
     }
 }
 
-/// One call or line switch of a reader that is legal or spoiled, or fresh settings for it.
+/// One call or line switch of a reader that is legal or spoiled, or fresh settings or an index brought over for it.
 pub fn single(mut chance: Chance) -> Request {
     let (reader, room) = spoiled_reader(&mut chance);
     let run = Author { chance: &mut chance, reader: &reader }.run();
     let kind = match chance.below(100) {
         0..=11 => Kind::LineSwitch,
         12..=21 => Kind::FreshSettings,
+        22..=33 => return bringing_over::by_chance(&mut chance, Request { kind: Kind::BringOver, reader, run, room }),
         _ => Kind::Call,
     };
     Request { kind, reader, run, room }
@@ -203,7 +205,7 @@ impl Author<'_> {
                 content.extend(self.data(NOTE));
             }
             READ_NOTEPAD => content.push(self.note()),
-            READ_INDEX_TABLE => content.push(self.chance.pick(&[0, 0, 0, 1, 255])),
+            READ_INDEX_TABLE => content.push(self.chance.pick(&[0, 1, 2, 3, 0, 1, 2, 3, 4, 5, 255])),
             _ => {}
         }
         content
@@ -215,10 +217,10 @@ impl Author<'_> {
 
     fn page(&mut self) -> u16 {
         let capacity = self.reader.capacity() as u16;
-        if self.chance.percent(75) {
-            self.chance.below(usize::from(capacity).max(1)) as u16
-        } else {
-            self.chance.pick(&[capacity.wrapping_sub(1), capacity, capacity + 1, 255, 256, 0x8000, 0xFFFF])
+        match self.chance.below(8) {
+            0..=5 => self.chance.below(usize::from(capacity).max(1)) as u16,
+            6 => self.chance.pick(&[capacity.wrapping_sub(1), capacity, capacity + 1]),
+            _ => self.chance.pick(&[255, 256, 257, 998, 999, 1000, 1001, 1023, 1024, 0x8000, 0xFFFF]),
         }
     }
 
@@ -239,7 +241,7 @@ impl Author<'_> {
         let past = page.wrapping_neg();
         let edges = [there, there.wrapping_sub(1), there.wrapping_add(1), past, past.wrapping_add(1)];
         if self.chance.percent(50) {
-            self.chance.pick(&[0, 1, 1, 2, 9, 256, 0xFFFF])
+            self.chance.pick(&[0, 1, 1, 2, 9, 255, 256, 257, 1000, 0xFFFF])
         } else {
             self.chance.pick(&edges)
         }

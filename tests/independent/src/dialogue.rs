@@ -1,10 +1,10 @@
 //! The stored dialogue with the bench program: what a host sends, and beside it what it must get, written by hand from
-//! document 01 and document 02's requests [2], [3] and [5].
+//! document 01 and document 02's requests [2], [3], [5] and [6].
 
 use crate::coverage::ROWS;
 use crate::examples::{bytes, count, COUNT, FINE, HAND_SHAKE};
 use crate::host::{packet, Exchange, Host, FRESH};
-use crate::reader::{ACKNOWLEDGE, COMMAND, DATA, LAST_DATA, NOTE};
+use crate::reader::{ACKNOWLEDGE, COMMAND, DATA, INDEX_PAGE, LAST_DATA, NOTE};
 use crate::templates::{first, second, third};
 
 const OTHER: [u8; 4] = [0; 4];
@@ -81,7 +81,8 @@ fn refused_rows(host: &mut Host) {
         ("DownChar buffer 3", "09 03", 0x01),
     ]);
     host.silent("and no transfer was opened", &host.packet(DATA, &[0]));
-    host.command("ReadIndexTable page 1", "1F 01", 0x0B);
+    host.command("ReadIndexTable page 4", "1F 04", 0x0B);
+    host.command("ReadIndexTable page 255", "1F FF", 0x0B);
     host.command("ReadNotepad page 16", "19 10", 0x1C);
     host.write_note("WriteNotepad page 16", 16, &[0; NOTE], 0x1C);
     host.write_note("WriteNotepad page 255", 255, &[7; NOTE], 0x1C);
@@ -101,6 +102,9 @@ fn first_download(host: &mut Host) {
     ]);
     host.count("three stored", 3);
     host.index("pages 0, 9 and 63", "01 02 00 00 00 00 00 80");
+    for page in ["1F 01", "1F 02", "1F 03"] {
+        host.reads(&format!("ReadIndexTable: {page}"), page, &[0; INDEX_PAGE]);
+    }
     host.command("LoadChar 2 from page 0", "07 02 0000", 0x00);
     host.upload("UpChar by 128", 2, &first(), 128);
 }

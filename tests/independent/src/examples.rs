@@ -1,4 +1,4 @@
-//! The table of examples P1 to P12, and examples of document 02's requests [1] to [3] and [5].
+//! The table of examples P1 to P12, and examples of document 02's requests [1] to [3], [5] and [6].
 
 use crate::reader::{Reader, SET};
 use crate::readers::fresh_reader;
@@ -44,9 +44,22 @@ const DOWN_CHAR_2: &str = "EF 01 A 01 00 04 09 02 00 10";
 const STORE_1_9: &str = "EF 01 A 01 00 06 06 01 00 09 00 17";
 const STORE_2_9: &str = "EF 01 A 01 00 06 06 02 00 09 00 18";
 const LOAD_CHAR_2_9: &str = "EF 01 A 01 00 06 07 02 00 09 00 19";
+/// LoadChar of a vacant page gets the code that Store from a buffer that is not filled gets.
+const VACANT: &str = NOT_FILLED;
+const BEYOND: &str = "EF 01 A 07 00 03 0B 00 15";
+const NOT_DELETED: &str = "EF 01 A 07 00 03 10 00 1A";
 
 pub fn all() -> Vec<Example> {
-    let all = [of_document_01(), of_receiver(), of_sizes(), of_lengths(), of_size_code_3(), of_stores()];
+    let all = [
+        of_document_01(),
+        of_receiver(),
+        of_sizes(),
+        of_lengths(),
+        of_size_code_3(),
+        of_stores(),
+        of_pages(),
+        of_index_pages(),
+    ];
     all.into_iter().flatten().collect()
 }
 
@@ -66,11 +79,7 @@ fn of_document_01() -> Vec<Example> {
         example("P9", &locked, &[(COUNT, 12, LOCKED)]),
         example("P10", &locked, &[("EF 01 A 01 00 07 13 00 00 00 05 00 20", 16, FINE), (COUNT, 12, &count(0))]),
         example("P11", &two_stored, &[(COUNT, 12, &count(2)), (DELETE_9_1, 16, FINE), (COUNT, 12, &count(1))]),
-        example(
-            "P12",
-            &two_stored,
-            &[(DELETE_9_2, 16, "EF 01 A 07 00 03 10 00 1A"), (DELETE_0_0, 16, FINE), (COUNT, 12, &count(2))],
-        ),
+        example("P12", &two_stored, &[(DELETE_9_2, 16, NOT_DELETED), (DELETE_0_0, 16, FINE), (COUNT, 12, &count(2))]),
     ]
 }
 
@@ -268,14 +277,128 @@ fn of_stores() -> Vec<Example> {
     ]
 }
 
-/// Frames in and the frames out, byte by byte.
-pub fn of_frames() -> Vec<(&'static str, Vec<u8>, Vec<u8>)> {
+/// Readers of 257 and of 1000 pages with buffer 1 filled.
+fn of_pages() -> Vec<Example> {
+    let [few, many] = [257, 1000].map(|capacity| {
+        let mut reader = fresh_reader(capacity);
+        reader.settings.filled[0] = SET;
+        reader.buffers[0].fill(0x11);
+        reader
+    });
+    let store_256 = "EF 01 A 01 00 06 06 01 01 00 00 0F";
+    let store_257 = "EF 01 A 01 00 06 06 01 01 01 00 10";
+    let store_999 = "EF 01 A 01 00 06 06 01 03 E7 00 F8";
+    let store_1000 = "EF 01 A 01 00 06 06 01 03 E8 00 F9";
+    let load_0 = "EF 01 A 01 00 06 07 02 00 00 00 10";
+    let load_256 = "EF 01 A 01 00 06 07 02 01 00 00 11";
+    let load_999 = "EF 01 A 01 00 06 07 02 03 E7 00 FA";
+    let delete_256_1 = "EF 01 A 01 00 07 0C 01 00 00 01 00 16";
+    let delete_0_999 = "EF 01 A 01 00 07 0C 00 00 03 E7 00 FE";
+    let upload = upload_128("11", "09 04", "09 0A");
+    vec![
+        example(
+            "page 256 of 257",
+            &few,
+            &[
+                (store_256, 15, FINE),
+                (store_257, 15, BEYOND),
+                (load_0, 15, VACANT),
+                (load_256, 15, FINE),
+                (UP_CHAR_2, 13, &upload),
+                (delete_256_1, 16, FINE),
+                (load_256, 15, VACANT),
+            ],
+        ),
+        example(
+            "page 999 of 1000",
+            &many,
+            &[
+                (store_999, 15, FINE),
+                (store_999, 15, STORED),
+                (store_1000, 15, BEYOND),
+                (delete_0_999, 16, FINE),
+                (COUNT, 12, &count(1)),
+                (load_999, 15, FINE),
+                (UP_CHAR_2, 13, &upload),
+            ],
+        ),
+    ]
+}
+
+/// Readers of 1000 pages: none, all and the last page stored; and the reader of P11.
+fn of_index_pages() -> Vec<Example> {
+    let none = fresh_reader(1000);
+    let mut all = none.clone();
+    all.index[..125].fill(0xFF);
+    let mut last = none.clone();
+    last.index[124] = 0x80;
+    let pages = ["00 00 24", "01 00 25", "02 00 26", "03 00 27", "04 00 28", "FF 01 23"];
+    let [page_0, page_1, page_2, page_3, page_4, page_255] = pages.map(|page| format!("EF 01 A 01 00 04 1F {page}"));
+    let listed = |bytes: &str, sum: &str| format!("EF 01 A 07 00 23 00 {bytes} {sum}");
+    let zero = listed(&zeroes(32), "00 2A");
+    let full = listed(&"FF".repeat(32), "20 0A");
+    let full_to_999 = listed(&format!("{} 00 00 00", "FF".repeat(29)), "1D 0D");
+    let only_999 = listed(&format!("{} 80 00 00 00", zeroes(28)), "00 AA");
+    let only_0_and_9 = listed(&format!("01 02 {}", zeroes(30)), "00 2D");
+    let parameters = "EF 01 A 07 00 13 00 0000 0000 03E8 0003 A 0002 0006 05 0C";
+    let delete_256_744 = "EF 01 A 01 00 07 0C 01 00 02 E8 00 FF";
+    let delete_256_745 = "EF 01 A 01 00 07 0C 01 00 02 E9 01 00";
+    let count_1000 = "EF 01 A 07 00 05 00 03 E8 00 F7";
+    let count_256 = "EF 01 A 07 00 05 00 01 00 00 0D";
+    let empty = "EF 01 A 01 00 03 0D 00 11";
+    vec![
+        example("none of 1000 stored", &none, &[(PARAMETERS, 12, parameters), (COUNT, 12, &count(0))]),
+        example("all of 1000 read", &all, &[(&page_0, 13, &full), (&page_3, 13, &full_to_999)]),
+        example(
+            "all of 1000 deleted",
+            &all,
+            &[
+                (COUNT, 12, count_1000),
+                (delete_256_745, 16, NOT_DELETED),
+                (delete_256_744, 16, FINE),
+                (COUNT, 12, count_256),
+                (&page_1, 13, &zero),
+                (empty, 12, FINE),
+                (COUNT, 12, &count(0)),
+            ],
+        ),
+        example(
+            "the last of 1000 emptied",
+            &last,
+            &[(&page_3, 13, &only_999), (empty, 12, FINE), (&page_3, 13, &zero)],
+        ),
+        example(
+            "index pages at C = 10",
+            &two_stored(),
+            &[
+                (&page_0, 13, &only_0_and_9),
+                (&page_1, 13, &zero),
+                (&page_2, 13, &zero),
+                (&page_3, 13, &zero),
+                (&page_4, 13, BEYOND),
+                (&page_255, 13, BEYOND),
+            ],
+        ),
+    ]
+}
+
+/// Fresh settings in a frame.
+const FRESH_SETTINGS: &str = "00000000 A 03 02 06 00 0000 0000 00 00 00";
+
+/// A name, a frame in and the frame out, byte by byte.
+type Frames = (&'static str, Vec<u8>, Vec<u8>);
+
+pub fn of_frames() -> Vec<Frames> {
+    [of_settings(), of_unfit_indexes(), of_brought_over()].concat()
+}
+
+/// Fresh settings, and settings and held counts that do not fit or just fit.
+fn of_settings() -> Vec<Frames> {
     let example = |name, frame_in: &str, frame_out: &str| (name, bytes(frame_in), bytes(frame_out));
     // C = 1, all memory zeroed, P1's run and a reply room of 700 bytes.
-    let lengths = "00000200 00000020 00000200 00000200 00000200 0000000C 000002BC";
-    let memory = zeroes(512 + 32 + 3 * 512);
-    let room = " 5A".repeat(700);
-    let fresh = "00000000 A 03 02 06 00 0000 0000 00 00 00";
+    let lengths = "00000200 00000080 00000200 00000200 00000200 0000000C 000002BC";
+    let memory = zeroes(512 + 128 + 3 * 512);
+    let room = room();
     let unfit = "00000000 A 03 04 06 00 0000 0000 00 00 00";
     let held_268 = format!("010C{}", " 41".repeat(267));
     let held_267 = format!("010B{}", " 41".repeat(267));
@@ -304,14 +427,62 @@ pub fn of_frames() -> Vec<(&'static str, Vec<u8>, Vec<u8>)> {
         ),
         example(
             "refusal 3 for a held count of 268",
-            &format!("02 {fresh} {lengths} {held_268} {memory} {HAND_SHAKE} {room}"),
-            &format!("03 00000000 00000000 {fresh} {held_268} {memory} {room}"),
+            &format!("02 {FRESH_SETTINGS} {lengths} {held_268} {memory} {HAND_SHAKE} {room}"),
+            &format!("03 00000000 00000000 {FRESH_SETTINGS} {held_268} {memory} {room}"),
         ),
         example(
             "a held count of 267, all noise",
-            &format!("02 {fresh} {lengths} {held_267} {memory} {HAND_SHAKE} {room}"),
-            &format!("00 00000000 00000000 {fresh} {held_none} {memory} {room}"),
+            &format!("02 {FRESH_SETTINGS} {lengths} {held_267} {memory} {HAND_SHAKE} {room}"),
+            &format!("00 00000000 00000000 {FRESH_SETTINGS} {held_none} {memory} {room}"),
         ),
+    ]
+}
+
+/// A reply room of 700 bytes.
+fn room() -> String {
+    " 5A".repeat(700)
+}
+
+/// A fresh reader with C = 1 and an index of a wrong length or with a bit at or above C.
+fn of_unfit_indexes() -> Vec<Frames> {
+    let room = room();
+    let example = |name, refusal: &str, index_length: &str, index: &str| {
+        let lengths = format!("00000200 {index_length} 00000200 00000200 00000200 0000000C 000002BC");
+        let memory = format!("{} {index} {}", zeroes(512), zeroes(3 * 512));
+        let frame_in = format!("00 {FRESH_SETTINGS} {lengths} {memory} {HAND_SHAKE} {room}");
+        let frame_out = format!("{refusal} 00000000 00000000 {FRESH_SETTINGS} {memory} {room}");
+        (name, bytes(&frame_in), bytes(&frame_out))
+    };
+    vec![
+        example("refusal 1 for an index of 32 bytes", "01", "00000020", &zeroes(32)),
+        example("refusal 1 for an index of 127 bytes", "01", "0000007F", &zeroes(127)),
+        example("refusal 1 for an index of 129 bytes", "01", "00000081", &zeroes(129)),
+        example("refusal 3 for page 256", "03", "00000080", &format!("{} 01 {}", zeroes(32), zeroes(95))),
+        example("refusal 3 for page 1023", "03", "00000080", &format!("{} 80", zeroes(127))),
+    ]
+}
+
+/// A stored index that is brought over or not, with settings, templates and buffers that no call takes.
+fn of_brought_over() -> Vec<Frames> {
+    let settings = "01234567 89ABCDEF 00 04 0D 07 1234 FFFF 02 80 FF";
+    let example = |name, refusal: &str, lent: (&str, &str), stored: (&str, &str), left: &str| {
+        let lengths = format!("00000003 {} 00000000 00000002 00000001 {} 00000004", lent.0, stored.0);
+        let frame_in = format!("05 {settings} {lengths} 010203 {} 0405 06 {} 0708090A", lent.1, stored.1);
+        let frame_out = format!("{refusal} 00000000 00000000 {settings} 010203 {left} 0405 06 0708090A");
+        (name, bytes(&frame_in), bytes(&frame_out))
+    };
+    let stored_31 = "01 02 04 08 10 20 40 80 FE FD FB F7 EF DF BF 7F 00 FF 0F F0 AA 55 12 34 56 78 9A BC DE F1 EF";
+    let stored_32 = format!("{stored_31} 01");
+    let stored_33 = format!("{stored_32} 00");
+    let [lent_127, lent_128, lent_129] = [127, 128, 129].map(|length| "A5".repeat(length));
+    let stored = ("00000020", &stored_32[..]);
+    let lent = ("00000080", &lent_128[..]);
+    vec![
+        example("an index brought over", "00", lent, stored, &format!("{stored_32} {}", zeroes(96))),
+        example("31 bytes not brought over", "01", lent, ("0000001F", stored_31), &lent_128),
+        example("33 bytes not brought over", "01", lent, ("00000021", &stored_33), &lent_128),
+        example("none brought over into 127 bytes", "01", ("0000007F", &lent_127), stored, &lent_127),
+        example("none brought over into 129 bytes", "01", ("00000081", &lent_129), stored, &lent_129),
     ]
 }
 

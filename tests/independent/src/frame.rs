@@ -1,6 +1,6 @@
 //! The frames that a probe takes and gives. All numbers are high byte first.
 
-use crate::reader::{self, Answer, Mark, Reader, Settings, COMMAND, STORE};
+use crate::reader::{self, Answer, Mark, Reader, Settings, COMMAND};
 use crate::receiver::{self, Receiver};
 use std::io::{Error, ErrorKind, Read, Result};
 
@@ -9,12 +9,12 @@ use std::io::{Error, ErrorKind, Read, Result};
 pub struct Request {
     pub kind: Kind,
     pub reader: Reader,
-    /// The run, or the piece that a receiver is offered.
+    /// The run, the piece that a receiver is offered, or the stored index that is brought over.
     pub run: Vec<u8>,
     pub room: Vec<u8>,
 }
 
-/// The five kinds of a request, with the receiver before the reader where there is one.
+/// The six kinds of a request, with the receiver before the reader where there is one.
 #[derive(Clone, PartialEq, Eq)]
 pub enum Kind {
     Call,
@@ -23,6 +23,8 @@ pub enum Kind {
     ReceiverLineSwitch(Receiver),
     /// Fresh settings in place of the reader's, legal or not; no memory is touched.
     FreshSettings,
+    /// A stored index, which is the run, brought over into the reader's; nothing else is looked at or touched.
+    BringOver,
 }
 
 /// What a frame out tells.
@@ -36,8 +38,8 @@ pub struct Outcome {
 
 /// The most bytes of each memory, in the order of a frame in.
 const MOST: [(&str, usize); 7] = [
-    ("templates", 131_584),
-    ("index", 64),
+    ("templates", 512_512),
+    ("index", 256),
     ("notepad", 1024),
     ("buffer 1", 1024),
     ("buffer 2", 1024),
@@ -82,6 +84,7 @@ impl Kind {
             Kind::ReceiverCall(_) => 2,
             Kind::ReceiverLineSwitch(_) => 3,
             Kind::FreshSettings => 4,
+            Kind::BringOver => 5,
         }
     }
 
@@ -93,6 +96,7 @@ impl Kind {
             2 => Ok(Kind::ReceiverCall(Receiver::empty())),
             3 => Ok(Kind::ReceiverLineSwitch(Receiver::empty())),
             4 => Ok(Kind::FreshSettings),
+            5 => Ok(Kind::BringOver),
             other => Err(broken(format!("a frame begins with {other}"))),
         }
     }
@@ -109,8 +113,9 @@ impl Request {
             Kind::ReceiverLineSwitch(receiver) => receiver::line_switch(receiver, &mut reader),
             Kind::FreshSettings => {
                 reader.settings = Settings::fresh();
-                Answer { refusal: 0, used: 0, length: 0 }
+                Answer::without_reply(0)
             }
+            Kind::BringOver => reader::bring_over(&run, &mut reader.index),
         };
         Outcome { answer, receiver: kind.receiver().cloned(), reader, room }
     }
@@ -123,12 +128,14 @@ impl Request {
         }
     }
 
-    /// The place of the buffer and the page that a Store names, if both are there.
-    pub fn store(&self) -> Option<(usize, usize)> {
+    /// The place of the buffer and the page that a command with this code, Store or LoadChar, names, if both are there.
+    pub fn buffer_and_page(&self, command: u8) -> Option<(usize, usize)> {
         let run = self.whole_run();
         let packet = reader::find(&run).1.filter(|packet| packet.identifier == COMMAND)?;
         match packet.content {
-            [STORE, parameters @ ..] if parameters.len() == 3 => self.reader.buffer_and_page(parameters).ok(),
+            [code, parameters @ ..] if *code == command && parameters.len() == 3 => {
+                self.reader.buffer_and_page(parameters).ok()
+            }
             _ => None,
         }
     }

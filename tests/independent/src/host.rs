@@ -3,7 +3,7 @@
 use crate::bench::PAGES;
 use crate::examples::bytes;
 use crate::reader::{
-    ACKNOWLEDGE, COMMAND, DATA, DOWN_CHAR, INDEX, LAST_DATA, READ_SYS_PARA, SET_ADDER, TEMPLETE_NUM, UP_CHAR,
+    ACKNOWLEDGE, COMMAND, DATA, DOWN_CHAR, INDEX_PAGE, LAST_DATA, READ_SYS_PARA, SET_ADDER, TEMPLETE_NUM, UP_CHAR,
     WRITE_NOTEPAD,
 };
 
@@ -87,10 +87,10 @@ impl Host {
         self.reads(what, &format!("{TEMPLETE_NUM:02X}"), &[0, stored]);
     }
 
-    /// ReadIndexTable: these bytes, and zeroes behind them.
+    /// ReadIndexTable, page 0: these bytes, and zeroes behind them.
     pub fn index(&mut self, what: &str, first: &str) {
         let mut index = bytes(first);
-        index.resize(INDEX, 0);
+        index.resize(INDEX_PAGE, 0);
         self.reads(what, "1F 00", &index);
     }
 

@@ -1,7 +1,8 @@
-//! Pits a reader and a receiver, written from document 01 and document 02's requests [1] to [3] and [5] alone, against
-//! another implementation of the papers, and writes the stored dialogue of the bench program with them.
+//! Pits a reader and a receiver, written from document 01 and document 02's requests [1] to [3], [5] and [6] alone,
+//! against another implementation of the papers, and writes the stored dialogue of the bench program with them.
 
 mod bench;
+mod bringing_over;
 mod cases;
 mod chance;
 mod counts;
@@ -20,9 +21,12 @@ mod report;
 mod shrink;
 mod tally;
 mod templates;
+mod thousand;
 mod wrong;
+mod wrong_bringing_over;
 mod wrong_limits;
 mod wrong_stores;
+mod wrong_thousand;
 
 use cases::Dialogue;
 use chance::Chance;
@@ -33,7 +37,7 @@ use std::fs;
 use std::io::{self, Write};
 use std::process::ExitCode;
 use std::time::{Duration, Instant};
-use tally::{Tally, CALLED, FRESHENED, ON_A_LINE, RECEIVED};
+use tally::{Tally, BROUGHT, CALLED, FRESHENED, ON_A_LINE, RECEIVED};
 
 const USAGE: &str = "usage: independent [--cases N] [--seed S] [--quiet] -- PROGRAM ARGS...
        independent --answer [ERROR]    be a probe, with a deliberate error if named
@@ -188,12 +192,13 @@ fn compare(options: Options) -> Result<(), End> {
             told = Instant::now();
         }
     }
+    comparer.thousand(seed)?;
     comparer.limits(seed)?;
     comparer.counts()?;
     comparer.receivers_in_turn(seed)?;
     comparer.probe.finish()?;
 
-    let of_readers = [ON_A_LINE, CALLED, FRESHENED].concat();
+    let of_readers = [ON_A_LINE, CALLED, FRESHENED, BROUGHT].concat();
     let of_receivers = [ON_A_LINE, CALLED, RECEIVED].concat();
     let mut gaps = comparer.readers.gaps(&of_readers);
     gaps.extend(comparer.receivers.gaps(&of_receivers).iter().map(|gap| format!("with a receiver, {gap}")));
@@ -273,6 +278,15 @@ impl Comparer {
         Ok(())
     }
 
+    /// Readers of up to 1001 pages, and indexes that are brought over.
+    fn thousand(&mut self, seed: u64) -> Result<(), End> {
+        for (place, request) in thousand::all(seed).chain(bringing_over::all(seed)).enumerate() {
+            self.case = format!("case {place} of the thousand pages, seed {seed}");
+            self.agreed(&request)?;
+        }
+        Ok(())
+    }
+
     /// The greatest lengths and all size codes.
     fn limits(&mut self, seed: u64) -> Result<(), End> {
         for (place, request) in limits::all(seed).iter().enumerate() {
@@ -287,7 +301,7 @@ impl Comparer {
         for (place, (request, stored)) in counts::all().enumerate() {
             self.case = format!("count {place}");
             let told = self.agreed(&request)?.room;
-            self.demand(told[10..12] == stored.to_be_bytes(), "tells another number")?;
+            self.demand(reader::number(&told[10..12]) == stored, "tells another number")?;
         }
         Ok(())
     }

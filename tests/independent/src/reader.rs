@@ -1,14 +1,21 @@
-//! The reader of document 01, with the fresh settings of document 02's request [2], the limits of its request [3] and
-//! the Store of its request [5], written from those papers alone and in document 01's order.
+//! The reader of document 01, with the fresh settings of document 02's request [2], the limits of its request [3], the
+//! Store of its request [5] and the thousand pages of its request [6], written from those papers alone and in document
+//! 01's order.
 
 use std::ops::RangeInclusive;
 
 /// Bytes of a page of templates, of a character buffer and of the notepad.
 pub const PAGE: usize = 512;
 /// The most pages of templates.
-pub const MOST_PAGES: usize = 256;
+pub const MOST_PAGES: usize = 1000;
 /// Bytes of the index.
-pub const INDEX: usize = 32;
+pub const INDEX: usize = 128;
+/// Bytes of a page of ReadIndexTable.
+pub const INDEX_PAGE: usize = 32;
+/// The pages of ReadIndexTable.
+pub const INDEX_PAGES: usize = INDEX / INDEX_PAGE;
+/// Bytes of a stored index that is brought over.
+pub const SHORT_INDEX: usize = 32;
 /// Bytes of a page of the notepad.
 pub const NOTE: usize = 32;
 /// The least bytes of reply room.
@@ -126,11 +133,18 @@ pub struct Answer {
     pub length: usize,
 }
 
+impl Answer {
+    /// No bytes used and no reply, with this refusal or 0.
+    pub fn without_reply(refusal: u8) -> Answer {
+        Answer { refusal, used: 0, length: 0 }
+    }
+}
+
 /// A call of the reader: deals with at most one packet of the run.
 pub fn call(reader: &mut Reader, run: &[u8], reply_room: &mut [u8]) -> Answer {
     let refusal = reader.refusal(reply_room.len());
     if refusal != 0 {
-        return Answer { refusal, used: 0, length: 0 };
+        return Answer::without_reply(refusal);
     }
     let (used, packet) = find(run);
     let reply = packet.map_or_else(Vec::new, |packet| reader.deal_with(&packet));
@@ -141,7 +155,7 @@ pub fn call(reader: &mut Reader, run: &[u8], reply_room: &mut [u8]) -> Answer {
 /// The line switch: takes any settings and both buffers, and knows only refusal 1.
 pub fn line_switch(reader: &mut Reader) -> Answer {
     if !reader.buffers_fit() {
-        return Answer { refusal: 1, used: 0, length: 0 };
+        return Answer::without_reply(1);
     }
     reader.settings.verified = CLEAR;
     reader.settings.filled = [CLEAR; 2];
@@ -149,7 +163,19 @@ pub fn line_switch(reader: &mut Reader) -> Answer {
     for buffer in &mut reader.buffers {
         buffer.fill(0);
     }
-    Answer { refusal: 0, used: 0, length: 0 }
+    Answer::without_reply(0)
+}
+
+/// Brings a stored index of 32 bytes over into the index that is lent: its bytes, then zero bytes. Looks at the two
+/// lengths, and knows only refusal 1.
+pub fn bring_over(stored: &[u8], index: &mut [u8]) -> Answer {
+    if stored.len() != SHORT_INDEX || index.len() != INDEX {
+        return Answer::without_reply(1);
+    }
+    let (first, rest) = index.split_at_mut(SHORT_INDEX);
+    first.copy_from_slice(stored);
+    rest.fill(0);
+    Answer::without_reply(0)
 }
 
 impl Settings {
@@ -242,12 +268,17 @@ impl Reader {
             && self.buffers_fit()
     }
 
+    /// The first page at or above C whose bit is set.
+    pub fn bit_beyond(&self) -> Option<usize> {
+        (self.capacity()..8 * self.index.len()).find(|&page| self.stored(page))
+    }
+
     pub fn refusal(&self, room: usize) -> u8 {
         if !self.lengths_fit() {
             1
         } else if room < ROOM {
             2
-        } else if !self.settings.legal() || (self.capacity()..MOST_PAGES).any(|page| self.stored(page)) {
+        } else if !self.settings.legal() || self.bit_beyond().is_some() {
             3
         } else {
             0
@@ -382,8 +413,8 @@ impl Reader {
                 listed = two_bytes(count).to_vec();
             }
             READ_INDEX_TABLE => {
-                demand(parameters[0] == 0, 0x0B)?;
-                listed = self.index.clone();
+                let place = index_page(parameters[0])?;
+                listed = self.index[place..place + INDEX_PAGE].to_vec();
             }
             _ => {} // HandShake
         }
@@ -542,6 +573,12 @@ fn note(page: u8) -> Result<usize, u8> {
     Ok(usize::from(page) * NOTE)
 }
 
+/// Where this page of ReadIndexTable starts in the index.
+fn index_page(page: u8) -> Result<usize, u8> {
+    demand(usize::from(page) < INDEX_PAGES, 0x0B)?;
+    Ok(usize::from(page) * INDEX_PAGE)
+}
+
 /// The bit of a page in its byte of the index.
 pub fn bit(page: usize) -> u8 {
     1 << (page % 8)
@@ -553,7 +590,7 @@ fn sum(bytes: &[u8]) -> usize {
 }
 
 /// Bytes as a number, high byte first.
-fn number(bytes: &[u8]) -> usize {
+pub fn number(bytes: &[u8]) -> usize {
     bytes.iter().fold(0, |number, &byte| number * 256 + usize::from(byte))
 }
 

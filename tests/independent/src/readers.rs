@@ -4,6 +4,9 @@ use crate::chance::Chance;
 use crate::reader::*;
 use std::ops::RangeInclusive;
 
+/// Capacities about 256 and at the end.
+pub const FAR_CAPACITIES: [usize; 5] = [255, 256, 257, MOST_PAGES - 1, MOST_PAGES];
+
 /// A legal reader, at times a fresh one.
 pub fn any_legal_reader(chance: &mut Chance, capacity: usize) -> Reader {
     if chance.percent(25) {
@@ -24,12 +27,13 @@ pub fn spoiled_reader(chance: &mut Chance) -> (Reader, Vec<u8>) {
     (reader, chance.bytes(room))
 }
 
-/// C: mostly small, at times beside a multiple of 8, anywhere, or at the end.
+/// C: mostly small, at times beside a multiple of 8, about 256, anywhere, or at the end.
 pub fn capacity(chance: &mut Chance) -> usize {
-    match chance.below(100) {
-        0..=79 => chance.within(1, 12),
-        80..=95 => 8 * chance.within(1, 5) + chance.below(3) - 1,
-        96 => chance.within(1, MOST_PAGES),
+    match chance.below(200) {
+        0..=159 => chance.within(1, 12),
+        160..=193 => 8 * chance.within(1, 5) + chance.below(3) - 1,
+        194..=197 => chance.within(255, 257),
+        198 => chance.within(1, MOST_PAGES),
         _ => chance.pick(&[MOST_PAGES, MOST_PAGES, MOST_PAGES - 1]),
     }
 }
@@ -45,21 +49,41 @@ pub fn fresh_reader(capacity: usize) -> Reader {
     }
 }
 
+/// Fresh settings with both buffers filled, so many bytes of templates in which each page has bytes of its own, and
+/// this index.
+pub fn numbered_reader(templates: usize, index: Vec<u8>) -> Reader {
+    let page = |page: usize| (0xA000 + page as u16).to_be_bytes().repeat(PAGE / 2);
+    let mut numbered = (0..=templates / PAGE).map(page).collect::<Vec<_>>().concat();
+    numbered.truncate(templates);
+    Reader {
+        settings: Settings { filled: [SET; 2], ..Settings::fresh() },
+        templates: numbered,
+        index,
+        notepad: vec![0x33; PAGE],
+        buffers: [vec![0x11; PAGE], vec![0x22; PAGE]],
+    }
+}
+
+/// The index of a reader that has such of its pages stored.
+pub fn index_of(capacity: usize, mut such: impl FnMut(usize) -> bool) -> Vec<u8> {
+    let mut index = vec![0; INDEX];
+    for page in (0..capacity).filter(|&page| such(page)) {
+        index[page / 8] |= bit(page);
+    }
+    index
+}
+
 /// Settings that are fresh but for the size code, and memory of one page by chance.
 pub fn sized_reader(chance: &mut Chance, size_code: u8) -> Reader {
     Reader { settings: Settings { size_code, ..Settings::fresh() }, ..legal_reader(chance, 1) }
 }
 
 pub fn legal_reader(chance: &mut Chance, capacity: usize) -> Reader {
-    let mut index = vec![0; INDEX];
-    let share = if capacity == MOST_PAGES { 100 } else { chance.pick(&[0, 20, 50, 80, 100]) };
-    for page in 0..capacity {
-        index[page / 8] |= u8::from(chance.percent(share)) << (page % 8);
-    }
+    let share = chance.pick(&[0, 20, 50, 80, 100]);
     Reader {
+        index: index_of(capacity, |_| chance.percent(share)),
         settings: legal_settings(chance),
         templates: memory(chance, PAGE * capacity),
-        index,
         notepad: memory(chance, PAGE),
         buffers: [memory(chance, PAGE), memory(chance, PAGE)],
     }
@@ -138,7 +162,7 @@ fn spoil(chance: &mut Chance, reader: &mut Reader, room: &mut usize) {
             let far = if chance.percent(10) { PAGE * (MOST_PAGES + 1) } else { 0 };
             resize(chance, &mut reader.templates, &[1, PAGE - 1, length - 1, length + 1, length + PAGE / 2, far]);
         }
-        2 => resize(chance, &mut reader.index, &[0, INDEX - 1, INDEX + 1, 2 * INDEX]),
+        2 => resize(chance, &mut reader.index, &[0, SHORT_INDEX, INDEX - 1, INDEX + 1, 2 * INDEX]),
         3 => resize(chance, &mut reader.notepad, &[0, PAGE - 1, PAGE + 1, 2 * PAGE]),
         4 | 5 => {
             let buffer = chance.below(2);
@@ -180,7 +204,7 @@ fn spoil(chance: &mut Chance, reader: &mut Reader, room: &mut usize) {
             if first < end {
                 let any = chance.within(first, end - 1);
                 let page = chance.pick(&[first, any, end - 1]);
-                reader.index[page / 8] |= 1 << (page % 8);
+                reader.index[page / 8] |= bit(page);
             }
         }
     }

@@ -52,7 +52,7 @@ pub fn call(receiver: &mut Receiver, reader: &mut Reader, piece: &[u8], reply_ro
         refusal => refusal,
     };
     if refusal != 0 {
-        return Answer { refusal, used: 0, length: 0 };
+        return Answer::without_reply(refusal);
     }
     let joined = receiver.joined(piece);
     let taken = joined.len() - receiver.held().len();

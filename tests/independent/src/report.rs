@@ -14,6 +14,7 @@ pub fn case(request: &Request) -> Vec<String> {
         Kind::ReceiverCall(_) => "a call of the receiver",
         Kind::ReceiverLineSwitch(_) => "a line switch of the receiver",
         Kind::FreshSettings => "fresh settings",
+        Kind::BringOver => "an index brought over",
     };
     let mut lines = vec![
         what.to_string(),
@@ -32,7 +33,11 @@ pub fn case(request: &Request) -> Vec<String> {
             lines.push(format!("held bytes: {}", hex(receiver.held())));
         }
     }
-    let run = if request.kind.receiver().is_some() { "piece" } else { "run" };
+    let run = match request.kind {
+        Kind::ReceiverCall(_) | Kind::ReceiverLineSwitch(_) => "piece",
+        Kind::BringOver => "stored index",
+        _ => "run",
+    };
     lines.push(format!("{run} of {} bytes: {}", request.run.len(), hex(&request.run)));
     lines
 }

@@ -46,9 +46,9 @@ pub fn shrink(
     let mut shrinker = Shrinker { case, outcome, ask, tries: TRIES };
     loop {
         let before = shrinker.case.clone();
+        shrinker.reduce_capacity();
         shrinker.shorten_run();
         shrinker.empty_receiver();
-        shrinker.reduce_capacity();
         shrinker.freshen_settings();
         for memory in 0..MEMORIES {
             shrinker.right_length(memory);
@@ -112,7 +112,9 @@ impl<F: FnMut(&Request) -> Result<Outcome, String>> Shrinker<F> {
             piece /= 2;
         }
         for cell in 0..HOLDS {
-            self.attempt(|case| case.kind.receiver_mut().into_iter().for_each(|receiver| receiver.cells[cell] = 0));
+            if self.case.kind.receiver().map_or(false, |receiver| receiver.cells[cell] != 0) {
+                self.attempt(|case| case.kind.receiver_mut().into_iter().for_each(|receiver| receiver.cells[cell] = 0));
+            }
         }
     }
 
@@ -120,20 +122,17 @@ impl<F: FnMut(&Request) -> Result<Outcome, String>> Shrinker<F> {
         self.case.kind.receiver().map_or(&[], Receiver::held)
     }
 
+    /// Takes away pages at the end, first many at once and then fewer.
     fn reduce_capacity(&mut self) {
-        let capacity = self.case.reader.capacity();
-        for pages in 1..capacity {
-            let smaller = |case: &mut Request| {
-                case.reader.templates.truncate(PAGE * pages);
-                for page in pages..capacity {
-                    if let Some(byte) = case.reader.index.get_mut(page / 8) {
-                        *byte &= !(1 << (page % 8));
-                    }
+        let mut piece = self.case.reader.capacity();
+        while piece > 0 {
+            while self.case.reader.capacity() > piece {
+                let pages = self.case.reader.capacity() - piece;
+                if !self.attempt(|case| keep_pages(case, pages)) {
+                    break;
                 }
-            };
-            if self.attempt(smaller) {
-                break;
             }
+            piece /= 2;
         }
     }
 
@@ -157,11 +156,23 @@ impl<F: FnMut(&Request) -> Result<Outcome, String>> Shrinker<F> {
         while piece >= least {
             for start in (0..length).step_by(piece) {
                 let end = length.min(start + piece);
-                self.attempt(|case| memory(case, which)[start..end].fill(0));
+                if memory(&mut self.case, which)[start..end].iter().any(|&byte| byte != 0) {
+                    self.attempt(|case| memory(case, which)[start..end].fill(0));
+                }
             }
             piece /= 2;
         }
     }
+}
+
+/// Takes away the pages from this one on, and their bits.
+fn keep_pages(case: &mut Request, pages: usize) {
+    for page in pages..case.reader.capacity() {
+        if let Some(byte) = case.reader.index.get_mut(page / 8) {
+            *byte &= !bit(page);
+        }
+    }
+    case.reader.templates.truncate(PAGE * pages);
 }
 
 /// Changes the held bytes of a receiver with a legal count; the cells past them keep their bytes as far as they can.

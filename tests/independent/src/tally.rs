@@ -2,6 +2,7 @@
 
 use crate::frame::{self, Outcome, Request};
 use crate::reader::*;
+use crate::readers::FAR_CAPACITIES;
 use crate::receiver::{Receiver, HOLDS};
 use crate::receivers::MOST_PIECE;
 use std::collections::BTreeMap;
@@ -53,6 +54,24 @@ const STORES_VACANT_BYTES: usize = 28;
 const STORES_OTHER: usize = 29;
 const STORES_SAME: usize = 30;
 const STORES_IN_TRANSFER: usize = 31;
+const INDEX_PAGES_READ: usize = 32;
+const INDEX_PAGES_REFUSED: usize = 33;
+const INDEX_PAGES_NOT_ZERO: usize = 34;
+const CAPACITIES: usize = 35;
+const CAPACITIES_REFUSED: usize = 36;
+const INDEX_LENGTHS_REFUSED: usize = 37;
+const BITS_REFUSED: usize = 38;
+const PAGES_STORED: usize = 39;
+const PAGES_LOADED: usize = 40;
+const PAGES_DELETED: usize = 41;
+const PAGES_BEYOND: usize = 42;
+const DELETES_ACROSS: usize = 43;
+const NUMBERS_TOLD: usize = 44;
+const BROUGHT_OVER: usize = 45;
+const STORED_INDEXES_REFUSED: usize = 46;
+const LENT_INDEXES_REFUSED: usize = 47;
+const BOTH_INDEXES_REFUSED: usize = 48;
+const MARKS_BROUGHT_OVER: usize = 49;
 
 /// What a legal reader on a line brings about, in the stored dialogue too.
 pub const ON_A_LINE: &[usize] = &[
@@ -70,14 +89,39 @@ pub const ON_A_LINE: &[usize] = &[
     STORES_OTHER,
     STORES_SAME,
     STORES_IN_TRANSFER,
+    INDEX_PAGES_READ,
+    INDEX_PAGES_REFUSED,
 ];
 /// What else calls and line switches bring about, with a receiver or without.
-pub const CALLED: &[usize] =
-    &[REFUSALS, SWITCHES, MARKS, MARKS_SWITCHED, SIZES_REFUSED, STRAY_257, STRAY_258, UNFINISHED, STORES_VACANT_BYTES];
+pub const CALLED: &[usize] = &[
+    REFUSALS,
+    SWITCHES,
+    MARKS,
+    MARKS_SWITCHED,
+    SIZES_REFUSED,
+    STRAY_257,
+    STRAY_258,
+    UNFINISHED,
+    STORES_VACANT_BYTES,
+    INDEX_PAGES_NOT_ZERO,
+    CAPACITIES,
+    CAPACITIES_REFUSED,
+    INDEX_LENGTHS_REFUSED,
+    BITS_REFUSED,
+    PAGES_STORED,
+    PAGES_LOADED,
+    PAGES_DELETED,
+    PAGES_BEYOND,
+    DELETES_ACROSS,
+    NUMBERS_TOLD,
+];
 /// What needs a receiver.
 pub const RECEIVED: &[usize] = &[COUNTS, COUNTS_SWITCHED, PAST, LOCKED, PIECES, HELD];
 /// What stands there when fresh settings are asked for.
 pub const FRESHENED: &[usize] = &[FRESH, FRESH_SIZES, FRESH_MARKS];
+/// What an index that is brought over meets.
+pub const BROUGHT: &[usize] =
+    &[BROUGHT_OVER, STORED_INDEXES_REFUSED, LENT_INDEXES_REFUSED, BOTH_INDEXES_REFUSED, MARKS_BROUGHT_OVER];
 
 /// The acknowledge codes of document 01, and 22h of document 02's request [5].
 pub const CODES: [u8; 14] = [0x00, 0x01, 0x0B, 0x0C, 0x0D, 0x0E, 0x10, 0x13, 0x19, 0x1A, 0x1B, 0x1C, 0x21, 0x22];
@@ -89,7 +133,10 @@ const IDENTIFIERS: [usize; 4] = [COMMAND as usize, DATA as usize, ACKNOWLEDGE as
 const MOST_SIZE_CODE: usize = SIZES.len() - 1;
 const UNFIT_SIZE_CODES: [usize; 2] = [MOST_SIZE_CODE + 1, 255];
 
-const KINDS: [Kind; 32] = [
+/// Pages about 256 and at the end.
+const FAR_PAGES: [usize; 5] = [255, 256, 257, 998, 999];
+
+const KINDS: [Kind; 50] = [
     Kind { name: "acknowledge codes", awaited: Codes(&CODES) },
     Kind { name: "commands answered 00h", awaited: Codes(&COMMANDS) },
     Kind { name: "uploads by size", awaited: Numbers(&SIZES) },
@@ -122,6 +169,36 @@ const KINDS: [Kind; 32] = [
     Kind { name: "Stores to a stored page of other bytes by code", awaited: Codes(&[0x0C, 0x21, 0x22]) },
     Kind { name: "Stores to a stored page of the buffer's bytes by code", awaited: Codes(&[0x22]) },
     Kind { name: "Stores to a stored page that ended a transfer by code", awaited: Codes(&[0x0C, 0x22]) },
+    Kind { name: "index pages read", awaited: UpTo(INDEX_PAGES - 1) },
+    Kind { name: "index pages answered 0Bh", awaited: Numbers(&[INDEX_PAGES, 255]) },
+    Kind { name: "index pages read that are not all zero", awaited: UpTo(INDEX_PAGES - 1) },
+    Kind { name: "calls carried out by C", awaited: Numbers(&FAR_CAPACITIES) },
+    Kind { name: "calls refused for C alone, by C", awaited: Numbers(&[MOST_PAGES + 1]) },
+    Kind { name: "calls refused for the index's length alone, by this length", awaited: Numbers(&[0, 32, 127, 129]) },
+    Kind {
+        name: "calls refused for a bit at or above C alone, by the index page of the first",
+        awaited: UpTo(INDEX_PAGES - 1),
+    },
+    Kind { name: "pages stored", awaited: Numbers(&FAR_PAGES) },
+    Kind { name: "pages loaded", awaited: Numbers(&FAR_PAGES) },
+    Kind { name: "pages deleted, by the first", awaited: Numbers(&FAR_PAGES) },
+    Kind { name: "pages answered 0Bh where C is above 256", awaited: Numbers(&[257, 999, 1000, 1001, 1023, 1024]) },
+    Kind { name: "pages deleted on both sides of 256, by N", awaited: Numbers(&[2, 100, 257, 1000]) },
+    Kind { name: "valid counts told", awaited: Numbers(&FAR_CAPACITIES) },
+    Kind { name: "indexes brought over by the refusal that a call would get", awaited: Numbers(&[0, 1, 2, 3]) },
+    Kind {
+        name: "bringing over refused for the stored index alone, by its length",
+        awaited: Numbers(&[0, 31, 33, 128]),
+    },
+    Kind {
+        name: "bringing over refused for the lent index alone, by its length",
+        awaited: Numbers(&[0, 32, 127, 129]),
+    },
+    Kind {
+        name: "bringing over refused for both indexes, by the stored one's length",
+        awaited: Numbers(&[31, 33, 128]),
+    },
+    Kind { name: "bringing over by refusal, with a mark of neither 0 nor 1", awaited: Numbers(&[0, 1]) },
 ];
 
 #[derive(Default)]
@@ -141,6 +218,9 @@ impl Tally {
             self.count(FRESH, request.reader.refusal(request.room.len()));
             self.count(FRESH_SIZES, request.reader.settings.size_code);
             FRESH_MARKS
+        } else if request.kind == frame::Kind::BringOver {
+            self.add_bringing_over(request, refusal);
+            MARKS_BROUGHT_OVER
         } else if request.kind.is_line_switch() {
             self.count(SWITCHES, refusal);
             MARKS_SWITCHED
@@ -154,17 +234,44 @@ impl Tally {
         }
     }
 
+    fn add_bringing_over(&mut self, request: &Request, refusal: u8) {
+        let (stored, lent) = (request.run.len(), request.reader.index.len());
+        match (refusal, stored == SHORT_INDEX, lent == INDEX) {
+            (0, ..) => self.count(BROUGHT_OVER, request.reader.refusal(request.room.len())),
+            (_, _, true) => self.count(STORED_INDEXES_REFUSED, stored),
+            (_, true, _) => self.count(LENT_INDEXES_REFUSED, lent),
+            _ => self.count(BOTH_INDEXES_REFUSED, stored),
+        }
+    }
+
     fn add_call(&mut self, request: &Request, outcome: &Outcome) {
         if outcome.answer.refusal != 0 {
-            if refused_for_size(request) {
-                self.count(SIZES_REFUSED, request.reader.settings.size_code);
-            }
+            self.add_refused(request);
             return;
         }
+        self.count(CAPACITIES, request.reader.capacity());
         let run = request.whole_run();
         self.add_header(&run);
         if let Some(packet) = find(&run).1 {
             self.add_packet(&packet, request, outcome);
+        }
+    }
+
+    /// A refused call, by what it alone was refused for.
+    fn add_refused(&mut self, request: &Request) {
+        let Reader { settings, index, .. } = &request.reader;
+        let capacity = request.reader.capacity();
+        if refused_for(|reader| reader.settings.size_code = Settings::fresh().size_code, request) {
+            self.count(SIZES_REFUSED, settings.size_code);
+        }
+        if capacity > MOST_PAGES && refused_for(|reader| reader.templates.truncate(PAGE * MOST_PAGES), request) {
+            self.count(CAPACITIES_REFUSED, capacity);
+        }
+        if refused_for(|reader| reader.index = vec![0; INDEX], request) {
+            match request.reader.bit_beyond() {
+                Some(page) if index.len() == INDEX => self.count(BITS_REFUSED, page / 8 / INDEX_PAGE),
+                _ => self.count(INDEX_LENGTHS_REFUSED, index.len()),
+            }
         }
     }
 
@@ -186,6 +293,7 @@ impl Tally {
         let before = &request.reader.settings;
         if outcome.answer.length > 0 {
             self.add_reply(packet, outcome.room[9], before.size());
+            self.add_pages(packet, request, outcome);
             self.add_store(request, outcome.room[9]);
         } else if before.transfer != 0 && outcome.reader.settings.transfer == 0 {
             self.count(DOWNLOADS, before.size());
@@ -209,10 +317,42 @@ impl Tally {
         }
     }
 
+    /// A reply to a command that names pages or tells the valid count.
+    fn add_pages(&mut self, packet: &Packet, request: &Request, outcome: &Outcome) {
+        let (code, listed) = (outcome.room[9], &outcome.room[10..outcome.answer.length - 2]);
+        match (packet.content, code) {
+            ([READ_INDEX_TABLE, page], 0x00) => {
+                self.count(INDEX_PAGES_READ, *page);
+                if listed.iter().any(|&byte| byte != 0) {
+                    self.count(INDEX_PAGES_NOT_ZERO, *page);
+                }
+            }
+            ([READ_INDEX_TABLE, page], 0x0B) => self.count(INDEX_PAGES_REFUSED, *page),
+            ([STORE, _, page @ ..], 0x00) => self.count(PAGES_STORED, number(page)),
+            ([LOAD_CHAR, _, page @ ..], 0x00) => self.count(PAGES_LOADED, number(page)),
+            ([STORE | LOAD_CHAR, _, page @ ..], 0x0B) if request.reader.capacity() > 256 => {
+                self.count(PAGES_BEYOND, number(page));
+            }
+            ([DELET_CHAR, numbers @ ..], 0x00) => self.add_delete(number(&numbers[..2]), number(&numbers[2..])),
+            ([TEMPLETE_NUM], 0x00) => self.count(NUMBERS_TOLD, number(listed)),
+            _ => {}
+        }
+    }
+
+    /// A DeletChar that was carried out, by page and N.
+    fn add_delete(&mut self, page: usize, count: usize) {
+        if count > 0 {
+            self.count(PAGES_DELETED, page);
+        }
+        if page < 256 && page + count > 256 {
+            self.count(DELETES_ACROSS, count);
+        }
+    }
+
     /// The code of a Store, by what it found.
     fn add_store(&mut self, request: &Request, code: u8) {
         let before = &request.reader;
-        let (buffer, page) = match request.store() {
+        let (buffer, page) = match request.buffer_and_page(STORE) {
             Some(named) => named,
             None => return,
         };
@@ -301,10 +441,10 @@ impl Tally {
     }
 }
 
-/// Whether a refused call would be carried out with another size code.
-fn refused_for_size(request: &Request) -> bool {
+/// Whether a refused call would be carried out with this change of the reader.
+fn refused_for(change: fn(&mut Reader), request: &Request) -> bool {
     let mut asked = request.clone();
-    asked.reader.settings.size_code = Settings::fresh().size_code;
+    change(&mut asked.reader);
     asked.carried_out().answer.refusal == 0
 }
 

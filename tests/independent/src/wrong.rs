@@ -4,9 +4,11 @@
 use crate::frame::{Kind, Outcome, Request};
 use crate::reader::*;
 use crate::receiver::{Receiver, HOLDS};
+use crate::wrong_bringing_over;
 use crate::wrong_limits;
 use crate::wrong_stores;
-use Error::{OfFresh, OfReader, OfReceiver};
+use crate::wrong_thousand;
+use Error::{OfBringingOver, OfFresh, OfReader, OfReceiver};
 
 pub enum Error {
     /// The error shows in calls and line switches without a receiver.
@@ -15,6 +17,8 @@ pub enum Error {
     OfReceiver(fn(&Request, &Receiver) -> Outcome),
     /// The error shows where fresh settings are asked for.
     OfFresh(fn(&Request) -> Outcome),
+    /// The error shows where an index is brought over.
+    OfBringingOver(fn(&Request) -> Outcome),
 }
 
 impl Error {
@@ -26,6 +30,7 @@ impl Error {
                 wrong(request, receiver)
             }
             (OfFresh(wrong), Kind::FreshSettings) => wrong(request),
+            (OfBringingOver(wrong), Kind::BringOver) => wrong(request),
             _ => request.carried_out(),
         }
     }
@@ -33,7 +38,8 @@ impl Error {
 
 /// All wrong ones by name.
 pub fn errors() -> impl Iterator<Item = &'static (&'static str, Error)> {
-    ERRORS.iter().chain(&wrong_limits::ERRORS).chain(&wrong_stores::ERRORS)
+    let of_requests = wrong_limits::ERRORS.iter().chain(&wrong_stores::ERRORS).chain(&wrong_thousand::ERRORS);
+    ERRORS.iter().chain(of_requests).chain(&wrong_bringing_over::ERRORS)
 }
 
 const ERRORS: [(&str, Error); 54] = [
@@ -51,7 +57,7 @@ const ERRORS: [(&str, Error); 54] = [
     ("always-fine", OfReader(always_fine)),
     ("store-moves-nothing", OfReader(store_moves_nothing)),
     ("invents-count", OfReader(|request| told(request, |count, _| count + 1))),
-    ("counts-all-but-last-byte", OfReader(|request| told(request, |_, index| ones(&index[..INDEX - 1])))),
+    ("counts-all-but-last-byte", OfReader(|request| told(request, |_, index| ones(&index[..MOST_PAGES / 8 - 1])))),
     ("counts-highest-bit-twice", OfReader(counts_highest_bit_twice)),
     ("counts-in-8-bits", OfReader(|request| told(request, |count, _| count % 256))),
     ("counts-bytes-with-a-bit", OfReader(counts_bytes_with_a_bit)),
@@ -252,7 +258,7 @@ fn counts_bytes_with_a_bit(request: &Request) -> Outcome {
 }
 
 /// TempleteNum gives another number, made of the right one and the index.
-fn told(request: &Request, number: fn(u16, &[u8]) -> u16) -> Outcome {
+pub fn told(request: &Request, number: fn(u16, &[u8]) -> u16) -> Outcome {
     let outcome = request.carried_out();
     if is_command(request, TEMPLETE_NUM) && code(&outcome) == Some(0x00) {
         let count = u16::from_be_bytes([outcome.room[10], outcome.room[11]]);
@@ -262,7 +268,7 @@ fn told(request: &Request, number: fn(u16, &[u8]) -> u16) -> Outcome {
     outcome
 }
 
-fn ones(bytes: &[u8]) -> u16 {
+pub fn ones(bytes: &[u8]) -> u16 {
     bytes.iter().map(|byte| byte.count_ones() as u16).sum()
 }
 
@@ -622,6 +628,12 @@ pub fn is_command(request: &Request, code: u8) -> bool {
 /// The acknowledge code of an outcome that is not silent.
 pub fn code(outcome: &Outcome) -> Option<u8> {
     (outcome.answer.length > 0).then(|| outcome.room[9])
+}
+
+/// The request refused with this number.
+pub fn refused_with(refusal: u8, request: &Request) -> Outcome {
+    let Request { kind, reader, room, .. } = request.clone();
+    Outcome { answer: Answer::without_reply(refusal), receiver: kind.receiver().cloned(), reader, room }
 }
 
 /// The outcome with another acknowledge in place of the reply.

@@ -87,7 +87,7 @@ fn store_looks_at_whole_byte(request: &Request) -> Outcome {
 }
 
 /// A Store that passes all other tests gets 22h if its buffer and its page are such, and goes in otherwise.
-fn refused_if(such: fn(&Reader, usize, usize) -> bool, request: &Request) -> Outcome {
+pub fn refused_if(such: fn(&Reader, usize, usize) -> bool, request: &Request) -> Outcome {
     let outcome = request.carried_out();
     let reader = &request.reader;
     match store_with(&[0x00, 0x22], request, &outcome) {
@@ -96,8 +96,8 @@ fn refused_if(such: fn(&Reader, usize, usize) -> bool, request: &Request) -> Out
     }
 }
 
-/// Store takes the bit of this page for its opposite.
-fn with_other_bit(page: usize, request: &Request) -> Outcome {
+/// Store or LoadChar takes the bit of this page for its opposite.
+pub fn with_other_bit(page: usize, request: &Request) -> Outcome {
     let mut asked = request.clone();
     asked.reader.index[page / 8] ^= bit(page);
     let mut outcome = asked.carried_out();
@@ -166,5 +166,5 @@ fn refused_store(effect: impl Fn(&mut Reader, usize, usize), request: &Request) 
 
 /// The buffer and the page of a Store that got one of these codes.
 fn store_with(codes: &[u8], request: &Request, outcome: &Outcome) -> Option<(usize, usize)> {
-    request.store().filter(|_| code(outcome).map_or(false, |code| codes.contains(&code)))
+    request.buffer_and_page(STORE).filter(|_| code(outcome).map_or(false, |code| codes.contains(&code)))
 }
