@@ -9,11 +9,11 @@ import collections
 import os
 import sys
 
-from line import Line, Refused, Trouble, transfer_size
+from line import Line, Refused, Trouble, capacity, transfer_size
 from program import TROUBLE, end
-from protocol import (BAUD, BAUD_FACTOR, FRESH_ADDRESS, FRESH_BAUD_FACTOR, NO_PASSWORD, NOTE, SECURITY_LEVEL, SIZE_CODE, SIZES,
-                      TEMPLATE)
-from words import SIZES_IN_WORDS
+from protocol import (BAUD, BAUD_FACTOR, FRESH_ADDRESS, FRESH_BAUD_FACTOR, INDEXED, NO_PASSWORD, NOTE, SECURITY_LEVEL, SIZE_CODE,
+                      SIZES, TEMPLATE)
+from words import SIZES_IN_WORDS, pages_of, plural, ranges_of
 
 SECONDS = 3                 # the longest wait for a packet, unless --wait says another
 MOST_SECONDS = 3600
@@ -64,8 +64,8 @@ def baud_factor_of(text):
     return factor
 
 
-BUFFER, PAGE, COUNT, NOTE_PAGE, LEVEL = [(name, number_of(length)) for name, length in (
-    ("BUFFER", 1), ("PAGE", 2), ("COUNT", 2), ("PAGE", 1), ("LEVEL", 1))]
+BUFFER, PAGE, COUNT, PART, NOTE_PAGE, LEVEL = [(name, number_of(length)) for name, length in (
+    ("BUFFER", 1), ("PAGE", 2), ("COUNT", 2), ("PART", 1), ("PAGE", 1), ("LEVEL", 1))]
 PASSWORD, ADDRESS, TEXT = ("PASSWORD", four_bytes), ("ADDRESS", four_bytes), ("TEXT", note_of)
 SIZE, SPEED, FILE = ("SIZE", size_code_of), ("BAUD", baud_factor_of), ("FILE", str)
 
@@ -75,7 +75,8 @@ FORMS = (
     Form("handshake", (), "HandShake", "is a reader there?"),
     Form("parameters", (), "ReadSysPara", "its settings"),
     Form("count", (), "TempleteNum", "how many templates are stored"),
-    Form("index", (), "ReadIndexTable", "which pages are stored", before=(0,)),
+    Form("index", (), "ReadIndexTable", "which pages are stored, of all that the reader has"),
+    Form("index", (PART,), "ReadIndexTable", "of 256 pages: part 0 is pages 0 to 255, part 1 256 to 511, up to part 3"),
     Form("note", (NOTE_PAGE,), "ReadNotepad", "reads a notepad page, 0 to 15"),
     Form("note", (NOTE_PAGE, TEXT), "WriteNotepad", "writes it: at most 32 bytes, zero bytes behind them"),
     Form("password", (PASSWORD,), "VfyPwd", "verifies a password: eight hex digits"),
@@ -178,6 +179,16 @@ def download(line, buffer, template):
     print("buffer %d holds the %d bytes that were sent" % (buffer, TEMPLATE))
 
 
+def tell_index(line):
+    """As many index pages as the reader's own pages need, and what they tell together."""
+    pages, stored = capacity(line), []
+    for part in range(-(-pages // INDEXED)):
+        stored += pages_of(line.ask("ReadIndexTable", part)["stored"], part)
+    if stored and stored[-1] >= pages:
+        raise Trouble("the reader tells that page %d is stored, and it has %d pages" % (stored[-1], pages))
+    print("stored: %s of %s%s" % (len(stored) or "none", plural(pages, "page"), ": " + ranges_of(stored) if stored else ""))
+
+
 def tell_next(form, values):
     """What a fitter has to know after a setting has changed."""
     if form.word == "set-address":
@@ -195,6 +206,8 @@ def carry_out(line, form, values):
         upload(line, *values)
     elif form.word == "download":
         download(line, *values)
+    elif form.word == "index" and not values:
+        tell_index(line)
     else:
         address = values[0] if form.word == "set-address" else None
         line.ask(form.command, *form.before, *values, *form.after, new_address=address)

@@ -12,8 +12,8 @@ import subprocess
 import sys
 
 from program import TROUBLE, end
-from protocol import (ACKNOWLEDGE, BY_NAME, COMMAND, DAMAGED, FRESH_ADDRESS, FRESH_BAUD_FACTOR, FRESH_SIZE_CODE, HEAD,
-                      NOTE, SIZES, TEMPLATE, content_of, data_packets, number, packet, two_bytes)
+from protocol import (ACKNOWLEDGE, COMMAND, DAMAGED, FRESH_ADDRESS, FRESH_BAUD_FACTOR, FRESH_SIZE_CODE, HEAD,
+                      NOTE, SIZES, TEMPLATE, Packet, content_of, data_packets, number, packet, two_bytes)
 from words import show, show_data
 
 SECONDS = 10                        # the longest wait for an answer
@@ -53,25 +53,25 @@ class Reader:
         head = self.receive(HEAD)
         return head + self.receive(number(head[7:]))
 
-    def exchange(self, title, command, asked, code, listed):
+    def exchange(self, title, command, code, listed):
         """Sends a command packet, and holds the reply to the code and the listed bytes that document 01 says."""
         self.answers += 1
         print("\n%d. %s" % (self.answers, title))
         show("host", command)
         self.send(command)
-        reply, expected = self.receive_packet(), packet(ACKNOWLEDGE, bytes([code]) + listed)
+        reply, expected, asked = self.receive_packet(), packet(ACKNOWLEDGE, bytes([code]) + listed), Packet(command)
         show("reader", reply, asked)
         if reply != expected:
             show("doc 01", expected, asked)
             raise Wrong("The reader does not answer what document 01 says.")
 
     def ask(self, title, name, *values, code=0, listed=b""):
-        self.exchange(title, packet(COMMAND, content_of(name, *values)), BY_NAME[name], code, listed)
+        self.exchange(title, packet(COMMAND, content_of(name, *values)), code, listed)
 
     def ask_damaged(self, title, name, *values):
         """Sends a command with a bit of its sum turned."""
         whole = packet(COMMAND, content_of(name, *values))
-        self.exchange(title, whole[:-1] + bytes([whole[-1] ^ 1]), BY_NAME[name], DAMAGED, b"")
+        self.exchange(title, whole[:-1] + bytes([whole[-1] ^ 1]), DAMAGED, b"")
 
     def download(self, template):
         """Sends the data packets of a transfer, which are taken in silence."""

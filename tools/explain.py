@@ -70,14 +70,14 @@ def explain_packet(packet, asked):
 
 
 def explain(run, asked=None):
-    """Tells each part of a run, and whether all is well; asked is the command that the first reply answers."""
+    """Tells each part of a run, and whether all is well; asked is the command packet that the first reply answers."""
     is_well = True
     for case, part in parts_of(run):
         print("\n".join(rows_of(part)))
         if case == WHOLE:
             packet = Packet(part)
             if packet.identifier == COMMAND:
-                asked = BY_CODE.get(packet.code)
+                asked = packet if packet.code in BY_CODE and not faults_of(packet) else None
             is_well &= explain_packet(packet, asked)
             continue
         is_well = False

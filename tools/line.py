@@ -9,7 +9,7 @@ import time
 import serial
 
 from explain import explain
-from protocol import (ACKNOWLEDGE, BY_NAME, COMMAND, DATA, DONE, LAST_DATA, IDENTIFIERS, SIZES, TEMPLATE, UNFIT, WHOLE, Packet,
+from protocol import (ACKNOWLEDGE, BY_CODE, COMMAND, DATA, DONE, LAST_DATA, IDENTIFIERS, MOST_PAGES, SIZES, TEMPLATE, UNFIT, WHOLE, Packet,
                       content_of, data_packets, fields_of, find, number, packet)
 from words import faults_of, in_hex, plural, show, show_data
 
@@ -115,24 +115,27 @@ class Line:
         if faults:
             raise Trouble("the reply is not of document 01: " + "; ".join(faults))
 
+    def command(self, name, *values):
+        return packet(COMMAND, content_of(name, *values), self.address)
+
     def ask(self, name, *values, new_address=None):
         """Sends a command, and shows and checks the reply. Returns the fields that it lists."""
-        asked = BY_NAME[name]
-        command = packet(COMMAND, content_of(name, *values), self.address)
+        command = self.command(name, *values)
         self.forget()
         show("host", command)
         self.send(command)
-        return self.acknowledge(asked, new_address)
+        return self.acknowledge(Packet(command), new_address)
 
     def acknowledge(self, asked, new_address=None):
-        """Receives, shows and checks a reply; that of a new address carries it already."""
-        reply = Packet(self.receive("the acknowledge of %s" % asked.name, asked))
+        """Receives, shows and checks the reply to a command packet; that of a new address carries it already."""
+        command = BY_CODE[asked.code]
+        reply = Packet(self.receive("the acknowledge of %s" % command.name, asked))
         show("reader", reply.run, asked)
         changes = new_address and reply.code == DONE
         self.check(reply, asked, ACKNOWLEDGE, new_address if changes else self.address)
         if reply.code != DONE:
             raise Refused
-        return fields_of(asked.listed, reply.content[1:])
+        return fields_of(command.listed, reply.content[1:])
 
     def upload(self, buffer, size):
         """The bytes of a buffer."""
@@ -160,7 +163,15 @@ class Line:
         show_data("host", runs)
         self.held = self.read(SILENCE)
         if self.held:
-            self.acknowledge(BY_NAME["DownChar"])
+            self.acknowledge(Packet(self.command("DownChar", buffer)))
+
+
+def capacity(line):
+    """The pages that the reader has."""
+    pages = number(line.ask("ReadSysPara")["capacity"])
+    if not 1 <= pages <= MOST_PAGES:
+        raise Trouble("the reader's capacity is %d, and document 01 has 1 to %d" % (pages, MOST_PAGES))
+    return pages
 
 
 def transfer_size(line):

@@ -17,6 +17,9 @@ MOST_LENGTH = {COMMAND: 256, DATA: 258, ACKNOWLEDGE: 256, LAST_DATA: 258}
 
 TEMPLATE = 512                          # bytes, in a buffer or on a page
 NOTE = 32                               # bytes of a notepad page
+INDEX_PAGE = 32                         # bytes of the index in a reply of ReadIndexTable
+INDEXED = 8 * INDEX_PAGE                # pages that they tell of
+MOST_PAGES = 1000                       # of a library
 SIZES = {0: 32, 1: 64, 2: 128, 3: 256}  # the bytes in a data packet, by size code
 BAUD = 9600                             # times the baud factor is the speed of the line
 FRESH_ADDRESS = b"\xff" * 4
@@ -45,7 +48,7 @@ COMMANDS = (
     Command(0x18, "WriteNotepad", {"page": 1, "text": NOTE}, {}),
     Command(0x19, "ReadNotepad", {"page": 1}, {"text": NOTE}),
     Command(0x1D, "TempleteNum", {}, {"templates stored": 2}),
-    Command(0x1F, "ReadIndexTable", {"page": 1}, {"index": 32}),
+    Command(0x1F, "ReadIndexTable", {"index page": 1}, {"stored": INDEX_PAGE}),
     Command(0x40, "HandShake", {}, {}),
 )
 BY_CODE = {command.code: command for command in COMMANDS}
@@ -59,7 +62,7 @@ ACKNOWLEDGES = {
     0x0C: "nothing is there: a buffer that is not filled, or a page that is not stored",
     0x0D: "the buffer is not filled",
     TRANSFER_FAILED: "the transfer failed: a data packet does not fit in size, sum or total",
-    0x10: "no such pages",
+    0x10: "no such pages: not all of them are there, and none is deleted",
     0x13: "wrong password",
     UNKNOWN: "unknown command",
     0x1A: "no such parameter",

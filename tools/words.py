@@ -1,6 +1,6 @@
 """A packet in words: what it is, its fields, and what is wrong with it by document 01."""
 
-from protocol import (ACKNOWLEDGE, ACKNOWLEDGES, BAUD, BY_CODE, COMMAND, COMMANDS, DATA, DONE, IDENTIFIERS, LAST_DATA, SIZES,
+from protocol import (ACKNOWLEDGE, ACKNOWLEDGES, BAUD, BY_CODE, COMMAND, COMMANDS, DATA, DONE, IDENTIFIERS, INDEXED, LAST_DATA, MOST_PAGES, SIZES,
                       Packet, fields_of, number, sum_of)
 
 WIDTH = 80      # of a line of words
@@ -31,7 +31,7 @@ def one_of(numbers):
 SIZES_IN_WORDS = one_of(SIZES.values())
 
 
-def in_text(note):
+def in_text(note, _):
     """A notepad page: its text without the zero bytes behind it, or its bytes if it is no text."""
     try:
         text = note.rstrip(b"\0").decode()
@@ -40,13 +40,24 @@ def in_text(note):
     return '"%s"' % text if text.isprintable() else in_hex(note)
 
 
-def pages_in_words(index):
-    """The pages stored, neighbours as a range."""
-    pages = [page for page in range(8 * len(index)) if index[page // 8] >> page % 8 & 1]
+def pages_of(index, number):
+    """The pages that an index page of this number tells as stored."""
+    return [INDEXED * number + bit for bit in range(INDEXED) if index[bit // 8] >> bit % 8 & 1]
+
+
+def ranges_of(pages):
+    """Pages in words, neighbours as a range."""
     starts = [page for page in pages if page - 1 not in pages]
     ends = [page for page in pages if page + 1 not in pages]
-    ranges = ["%d" % first if first == last else "%d to %d" % (first, last) for first, last in zip(starts, ends)]
-    return "page%s %s" % ("" if len(pages) == 1 else "s", ", ".join(ranges)) if pages else "no page"
+    return ", ".join("%d" % first if first == last else "%d to %d" % (first, last) for first, last in zip(starts, ends))
+
+
+def stored_in_words(index, asked):
+    """The pages stored, of those that the index page asked for has."""
+    number = asked.content[1]
+    pages = pages_of(index, number)
+    of = "of pages %d to %d" % (INDEXED * number, min(INDEXED * number + INDEXED, MOST_PAGES) - 1)
+    return "page%s %s, %s" % ("" if len(pages) == 1 else "s", ranges_of(pages), of) if pages else "none " + of
 
 
 # What the numbers of some fields mean.
@@ -57,13 +68,13 @@ MEANINGS = {
     "size code": lambda n: "%d bytes in a data packet" % SIZES[n] if n in SIZES else "no such code",
     "baud factor": lambda n: "%d baud" % (BAUD * n),
 }
-# How longer fields are written; others stand as digits.
-LONG = {"text": in_text, "index": pages_in_words}
+# How longer fields are written, by what was asked; others stand as digits.
+LONG = {"text": in_text, "stored": stored_in_words}
 
 
-def field_in_words(name, value):
+def field_in_words(name, value, asked):
     if len(value) > 2:
-        return "%s %s" % (name, LONG[name](value) if name in LONG else value.hex().upper())
+        return "%s %s" % (name, LONG[name](value, asked) if name in LONG else value.hex().upper())
     n = number(value)
     return "%s %d" % (name, n) + (" (%s)" % MEANINGS[name](n) if name in MEANINGS else "")
 
@@ -72,9 +83,14 @@ def length_of(names):
     return sum(names.values())
 
 
+def possible_for(asked):
+    """The commands that a reply can answer."""
+    return [BY_CODE[asked.code]] if asked else COMMANDS
+
+
 def listed_by(asked, length):
     """What a reply of 00h lists in so many bytes. If it is not known which command was asked: the one listing that it can be."""
-    possible = [asked] if asked else COMMANDS
+    possible = possible_for(asked)
     listings = [command.listed for command in possible if length_of(command.listed) == length]
     return listings[0] if len(listings) == 1 or not length else {}
 
@@ -87,11 +103,11 @@ def fields_in_words(packet, asked):
         names = listed_by(asked, len(run)) if packet.code == DONE else {}
     if length_of(names) != len(run):
         return ["%s: %s" % (plural(len(run), "byte"), in_hex(run))]
-    return [field_in_words(name, value) for name, value in fields_of(names, run).items()]
+    return [field_in_words(name, value, asked) for name, value in fields_of(names, run).items()]
 
 
 def in_words(packet, asked=None):
-    """What a packet is, and its fields; asked is the command that it answers, if that is known."""
+    """What a packet is, and its fields; asked is the command packet that it answers, if that is known."""
     kind = IDENTIFIERS[packet.identifier]
     if packet.identifier in (DATA, LAST_DATA):
         return "%s, %s" % (kind, plural(len(packet.content), "byte")), []
@@ -152,10 +168,11 @@ def faults_of_command(packet):
 def faults_of_acknowledge(packet, asked):
     if packet.code not in ACKNOWLEDGES:
         return ["document 01 has no code %02Xh" % packet.code]
-    possible = [asked] if asked else COMMANDS
-    lengths = {3 + length_of(command.listed) if packet.code == DONE else 3 for command in possible}
+    if packet.code == DONE and asked and "stored" in BY_CODE[asked.code].listed and INDEXED * asked.content[1] >= MOST_PAGES:
+        return ["there is no index page %d, and 0Bh is right" % asked.content[1]]
+    lengths = {3 + length_of(command.listed) if packet.code == DONE else 3 for command in possible_for(asked)}
     if packet.length in lengths:
         return []
     told = " or ".join(map(str, sorted(lengths)))
     return ["its length is %d, and that of code %02Xh%s is %s" %
-            (packet.length, packet.code, " to " + asked.name if asked else "", told)]
+            (packet.length, packet.code, " to " + BY_CODE[asked.code].name if asked else "", told)]

@@ -53,7 +53,7 @@ DIALOGUE = (
     ("parameters", "01 00 03 0f 00 13", "07 00 13 00 00 00 00 00 00 40 00 03 ff ff ff ff 00 02 00 06 04 61", 0,
      "capacity 64 (pages)", "security level 3", "128 bytes in a data packet", "57600 baud", "no password verified"),
     ("count", "01 00 03 1d 00 21", "07 00 05 00 00 00 00 0c", 0, "templates stored 0"),
-    ("index", "01 00 04 1f 00 00 24", "07 00 23 00 00", 0, "index no page"),
+    ("index", "01 00 04 1f 00 00 24", "07 00 23 00 00", 0, "stored none of pages 0 to 255", "stored: none of 64 pages"),
     ("note|3|Station 12", "01 00 24 18 03 53 74 61 74 69 6f 6e 20 31 32 00", DONE, 0, 'page 3, text "Station 12"'),
     ("note|3", "01 00 04 19 03 00 21", "07 00 23 00 53 74 61 74 69 6f 6e 20 31 32 00", 0, 'text "Station 12"'),
     ("note|15|" + "x" * 32, "01 00 24 18 0f 78", DONE, 0),
@@ -69,7 +69,11 @@ DIALOGUE = (
     ("store|3|7", "01 00 06 06 03 00 07 00 17", "07 00 03 01 00 0b", 1, "bad parameter"),
     ("store|1|64", "01 00 06 06 01 00 40 00 4e", "07 00 03 0b 00 15", 1, "no such page"),
     ("count", "01 00 03 1d 00 21", "07 00 05 00 00 03 00 0f", 0, "templates stored 3"),
-    ("index", "01 00 04 1f 00 00 24", "07 00 23 00 80 09 00", 0, "index pages 7 to 8, 11"),
+    ("index", "01 00 04 1f 00 00 24", "07 00 23 00 80 09 00", 0, "stored pages 7 to 8, 11, of pages 0 to 255",
+     "stored: 3 of 64 pages: 7 to 8, 11"),
+    ("index|0", "01 00 04 1f 00 00 24", "07 00 23 00 80 09 00", 0, "index page 0", "stored pages 7 to 8, 11, of pages 0 to 255"),
+    ("index|3", "01 00 04 1f 03 00 27", "07 00 23 00 00", 0, "index page 3", "stored none of pages 768 to 999"),
+    ("index|4", "01 00 04 1f 04 00 28", "07 00 03 0b 00 15", 1, "index page 4", "no such page"),
     ("upload|2|FOLDER/read-back", "01 00 04 08 02 00 0f", "07 00 03 0d 00 17", 1, "the buffer is not filled"),
     ("load|2|7", "01 00 06 07 02 00 07 00 17", DONE, 0, "buffer 2, page 7"),
     ("load|2|9", "01 00 06 07 02 00 09 00 19", "07 00 03 0c 00 16", 1, "nothing is there"),
@@ -155,7 +159,7 @@ def talk_to_reader():
 # ---- words and files that are not fit: nothing is sent
 
 BAD_WORDS = (
-    "PORT", "PORT|unknown", "PORT|count|1", "PORT|store|1", "PORT|store|1|65536", "PORT|store|256|1", "PORT|store|x|1",
+    "PORT", "PORT|unknown", "PORT|count|1", "PORT|index|256", "PORT|index|0|1", "PORT|store|1", "PORT|store|1|65536", "PORT|store|256|1", "PORT|store|x|1",
     "PORT|store|-1|1", "PORT|delete|1|2|3", "PORT|note|256", "PORT|note|1|" + "x" * 33, "PORT|note|1|a|b", "PORT|password",
     "PORT|password|1234", "PORT|password|1234567g", "PORT|password|12 34 56 78", "PORT|set-address|123456789",
     "PORT|set-size|512", "PORT|set-size|1", "PORT|set-level|x", "PORT|set-baud|1000", "PORT|set-baud|2457600",
@@ -254,6 +258,38 @@ DOWNLOADS = (
 )
 
 
+# Indexes of readers: their pages, those that are stored, the status, what is said of all, and of each 256.
+INDEXES = (
+    (1, [0], 0, "stored: 1 of 1 page: 0", "stored page 0, of pages 0 to 255"),
+    (256, [0, 255], 0, "stored: 2 of 256 pages: 0, 255", "stored pages 0, 255, of pages 0 to 255"),
+    (257, [256], 0, "stored: 1 of 257 pages: 256", "stored none of pages 0 to 255", "stored page 256, of pages 256 to 511"),
+    (1000, [0, 1, 2, 255, 256, 767, 768, 999], 0, "stored: 8 of 1000 pages: 0 to 2, 255 to 256, 767 to 768, 999",
+     "stored pages 0 to 2, 255, of pages 0 to 255", "stored page 256, of pages 256 to 511",
+     "stored page 767, of pages 512 to 767", "stored pages 768, 999, of pages 768 to 999"),
+    (200, [7, 202], 2, "the reader tells that page 202 is stored, and it has 200 pages", "stored pages 7, 202, of pages 0 to 255"),
+    (0, [], 2, "the reader's capacity is 0, and document 01 has 1 to 1000"),
+    (1001, [], 2, "the reader's capacity is 1001, and document 01 has 1 to 1000"),
+)
+
+
+def acknowledge_of(listed):
+    """A reply of 00h that lists these bytes."""
+    summed = bytes([7, 0, len(listed) + 3, 0]) + listed
+    return run_of("ef 01 A") + summed + sum(summed).to_bytes(2, "big")
+
+
+def answer_index(row):
+    """A reader of so many pages: ask wants the index of all, and no more."""
+    pages, stored, status, said, *parts = row
+    index = sum(1 << page for page in stored).to_bytes(128, "little")
+    parameters = bytes(4) + pages.to_bytes(2, "big") + bytes.fromhex("0003 ffffffff 0002 0006")
+    with Peer(acknowledge_of(parameters), *(acknowledge_of(index[at:at + 32]) for at in range(0, 128, 32))) as peer:
+        expect(["ask", peer.name, "--wait", WAIT, "index"], status, said, *parts)
+        sent = [peer.heard[at:at + 13] for at in range(12, len(peer.heard), 13)]
+        wanted = [run_of("ef 01 A 01 00 04 1f %02x 00 %02x" % (page, 0x24 + page)) for page in range(len(parts))]
+        check(sent == wanted, "index of %d pages sends %s" % (pages, peer.heard.hex(" ")))
+
+
 def answer_command(row):
     words, answer, status, said = row
     with Peer(answer) as peer:
@@ -277,6 +313,7 @@ def answer_download(row):
 
 def answer_badly():
     side_by_side(answer_command, ANSWERS)
+    side_by_side(answer_index, INDEXES)
     side_by_side(answer_upload, UPLOADS)
     side_by_side(answer_download, DOWNLOADS)
 
@@ -301,6 +338,11 @@ EXPLAINED = (
     ("ef01ffffffff020101", 1, "a packet that is unfinished: it has 9 bytes of 266"),
     ("ef01ffffffff080103", 1, "its length is 259, and not 3 to 258, which identifier 8 has"),
     ("ef01ffffffff0100030f0013 ef01ffffffff070013000000000000400003ffffffff000400060463", 0, "size code 4 (no such code)"),
+    ("ef01ffffffff0100041f030027 ef01ffffffff0700230080" + "00" * 31 + "00aa", 0, "stored page 775, of pages 768 to 999"),
+    ("ef01ffffffff0100031f0023 ef01ffffffff0700230080" + "00" * 31 + "00aa", 1, "its length is 3, and that of ReadIndexTable is 4", "32 bytes: 80"),
+    ("ef01ffffffff0700230080" + "00" * 31 + "00aa", 0, "32 bytes: 80"),
+    ("ef01ffffffff0100041f040028 ef01ffffffff0700230080" + "00" * 31 + "00aa", 1, "there is no index page 4, and 0Bh is right"),
+    ("ef01ffffffff0100041f040028 ef01ffffffff0700030b0015", 0, "no such page"),
     ("41 ef", 1, "no packet starts here", "it has 1 byte of the first 9"),
     ("xyz", 2, "this is no hex", "usage: ./bystrodol explain"),
     ("ef 1", 2, "this is no hex"),
