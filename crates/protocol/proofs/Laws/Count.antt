@@ -9,11 +9,11 @@ use lib.Dec.{T, eqb}
 use lib.Arith.{lt-one}
 use lib.Pow.{shr-lt, shr-shr}
 use lib.Count.{ones, ones-step}
-use lib.ListN.{length, length-append, length-replicate}
+use lib.ListN.{length}
 use Rattle.protocol.specs.Bytes.{Bytes, byteAt, zeros}
 use Rattle.protocol.specs.Tests.{countBelow}
 use Rattle.protocol.specs.Index.{bit, stored, bits, setBits, clearFrom}
-use Rattle.protocol.proofs.Laws.Index.{clear-from, stored-over, stored-past}
+use Rattle.protocol.proofs.Laws.Index.{clear-from, length-over, stored-over, stored-past}
 
 pub count-ext : (f g : ℕ → Bool) (n : ℕ) → ((q : ℕ) → q < n → f q ≡ g q) → countBelow f n ≡ countBelow g n
 unfolding countBelow
@@ -44,7 +44,7 @@ below-capacity x c h t =
 pub count-over : (x : List ℕ) (n : ℕ) → setBits (x ++ zeros n) ≡ setBits x
 unfolding setBits
 count-over x n =
-    let long : bits (x ++ zeros n) ≡ bits x + 8 * n = simp (length-append, length-replicate) (omega arith) in
+    let long : bits (x ++ zeros n) ≡ bits x + 8 * n = omega (arith, length-over x n) in
     let none : countBelow (λ q. stored x (bits x + q)) (8 * n) ≡ 0 =
     count-none (λ q. stored x (bits x + q)) (8 * n) (λ q l. stored-past x (bits x + q) (omega arith))
     in

@@ -201,6 +201,9 @@ fine-zeros n = record { long = length-replicate n 0; bytes = λ i. rw (byte-zero
 
 -- ---- an index with zero bytes added
 
+pub length-over : (x : List ℕ) (n : ℕ) → length (x ++ zeros n) ≡ length x + n
+length-over x n = simp (length-append, length-replicate) (omega arith)
+
 pub byte-over : (x : List ℕ) (n i : ℕ) → byteAt (x ++ zeros n) i ≡ byteAt x i
 byte-over [] n i = byte-zeros n i
 byte-over (b ∷ x) n zero = refl
@@ -213,7 +216,7 @@ stored-over x n q = ap (λ (b : ℕ). eqb (bit b (q % 8)) 1) (byte-over x n (q /
 
 pub fine-over : {m : ℕ} (x : List ℕ) (n : ℕ) → Fine m x → Fine (m + n) (x ++ zeros n)
 unfolding Bytes
-fine-over x n f = record { long = simp (length-append, length-replicate) (omega (arith, f .long)); bytes = λ i. rw (byte-over x n i) (f .bytes i) }
+fine-over x n f = record { long = omega (arith, length-over x n, f .long); bytes = λ i. rw (byte-over x n i) (f .bytes i) }
 
 -- no bit is set past the last byte
 pub stored-past : (x : List ℕ) (q : ℕ) → bits x ≤ q → stored x q ≡ false

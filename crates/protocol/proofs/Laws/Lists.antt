@@ -142,6 +142,10 @@ module _ (i : ℕ) (s d : List ℕ) (h : i + length s ≤ length d) where
       ap (λ (m : ℕ). getD (take i d ++ (s ++ drop (i + length s) d)) m 0) e ∙ getD-append-add (take i d) (s ++ drop (i + length s) d) (length s + k) 0
       ∙ getD-append-add s (drop (i + length s) d) k 0 ∙ getD-drop (i + length s) d k 0 ∙ ap (λ (m : ℕ). getD d m 0) f
 
+-- a part that ends before t begins
+pub part-left : (s t : List ℕ) (i n : ℕ) → i + n ≤ length s → part i n (s ++ t) ≡ part i n s
+part-left s t i n h = ap (take n) (drop-append-le i s t (omega arith)) ∙ take-append-le n (drop i s) t (omega (arith, length-drop i s))
+
 pub last-lay : (i : ℕ) (s d : List ℕ) → i + length s ≡ length d → lay i s d ≡ take i d ++ s
 unfolding lay
 last-lay i s d h =

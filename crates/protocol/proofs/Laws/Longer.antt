@@ -8,10 +8,10 @@ use native.Mathlib.Omega.{arith}
 use native.Mathlib.Decide.{decLt}
 use lib.Dec.{ltb→lt}
 use borrow.Author.Tests.{lt-ltb}
-use lib.ListN.{length, set, take, drop, length-drop, length-append, length-replicate, replicate-append-replicate}
-use lib.Seq.{set-append-left, drop-append-le, take-append-le}
+use lib.ListN.{length, set, replicate-append-replicate}
+use lib.Seq.{set-append-left}
 use Rattle.protocol.specs.Numbers.{passwordFirst}
-use Rattle.protocol.specs.Bytes.{byteAt, part, zeros}
+use Rattle.protocol.specs.Bytes.{byteAt, zeros}
 use Rattle.protocol.specs.Tests.{verdict}
 use Rattle.protocol.specs.Index.{stored, bits, setBit, clearBit, clearBits}
 use Rattle.protocol.specs.Reader.{Transfer, closed, opened, unfit, Reader, capacity, locked, bufferOf, withLibrary, withBuffer, withNotepad, contents, reader}
@@ -19,23 +19,23 @@ use Rattle.protocol.specs.Commands.{Barred, store, loadChar, upChar, dow
 use Rattle.protocol.specs.Table.{Effect, keep, fillPage, erase, eraseAll, fillBuffer, await, note, settle, apply, Row, rule, publicOf}
 use Rattle.protocol.specs.Step.{Heard, nothing, order, piece, Said, silence, says, carryAs, carry, carryFree, obey, heed, ended, rested, fits, takeAs, takeIn, answer}
 use Rattle.protocol.proofs.Laws.Logic.{and-l, and-r, verdict-passed}
-use Rattle.protocol.proofs.Laws.Index.{byte-over, stored-over, stored-past}
+use Rattle.protocol.proofs.Laws.Lists.{part-left}
+use Rattle.protocol.proofs.Laws.Index.{length-over, byte-over, stored-over, stored-past}
 use Rattle.protocol.proofs.Laws.Count.{count-over}
 use Rattle.protocol.proofs.Laws.Answers.{spared}
 
 -- ---- the index
 
-module _ (x : List ℕ) (n : ℕ) where
-  with-over : (p : ℕ) → p / 8 < length x → setBit (x ++ zeros n) p ≡ setBit x p ++ zeros n
-  unfolding setBit
-  with-over p h = rw (stored-over x n p, byte-over x n (p / 8)) (go (stored x p))
-    where
-      v : ℕ
-      v = byteAt x (p / 8) + 2 ^ (p % 8)
+with-over : (x : List ℕ) (n p : ℕ) → p / 8 < length x → setBit (x ++ zeros n) p ≡ setBit x p ++ zeros n
+unfolding setBit
+with-over x n p h = rw (stored-over x n p, byte-over x n (p / 8)) (go (stored x p))
+  where
+    v : ℕ
+    v = byteAt x (p / 8) + 2 ^ (p % 8)
 
-      go : (b : Bool) → cond b (x ++ zeros n) (set (x ++ zeros n) (p / 8) v) ≡ cond b x (set x (p / 8) v) ++ zeros n
-      go true = refl
-      go false = set-append-left x (zeros n) (p / 8) v h
+    go : (b : Bool) → cond b (x ++ zeros n) (set (x ++ zeros n) (p / 8) v) ≡ cond b x (set x (p / 8) v) ++ zeros n
+    go true = refl
+    go false = set-append-left x (zeros n) (p / 8) v h
 
 less-over : (x : List ℕ) (n p : ℕ) → clearBit (x ++ zeros n) p ≡ clearBit x p ++ zeros n
 unfolding clearBit
@@ -58,7 +58,7 @@ span-over x n p zero = refl
 span-over x n p (suc m) = ap (λ (y : List ℕ). clearBits y (suc p) m) (less-over x n p) ∙ span-over (clearBit x p) n (suc p) m
 
 zeros-over : (x : List ℕ) (n : ℕ) → zeros (length (x ++ zeros n)) ≡ zeros (length x) ++ zeros n
-zeros-over x n = rw (length-append x (zeros n), length-replicate {A = ℕ} n 0) (sym (replicate-append-replicate (length x) n 0))
+zeros-over x n = rw (length-over x n) (sym (replicate-append-replicate (length x) n 0))
 
 -- ---- the reader
 
@@ -123,11 +123,7 @@ module _ (n : ℕ) where
   rule-longer r (readIndexTable p) d =
       let x : List ℕ = r .guarded .index in
       let h : 32 * p + 32 ≤ length x = d p refl in
-      let long : length (x ++ zeros n) ≡ length x + n = length-append x (zeros n) ∙ ap (λ (i : ℕ). length x + i) (length-replicate {A = ℕ} n 0) in
-      let b : part (32 * p) 32 (x ++ zeros n) ≡ part (32 * p) 32 x =
-      ap (λ (y : List ℕ). take 32 y) (drop-append-le (32 * p) x (zeros n) (omega arith)) ∙ take-append-le 32 (drop (32 * p) x) (zeros n) (omega (arith, length-drop (32 * p) x))
-      in
-      rw (lt-ltb p (length (x ++ zeros n) / 32) (omega (arith, long)), lt-ltb p (length x / 32) (omega arith), b)
+      rw (lt-ltb p (length (x ++ zeros n) / 32) (omega (arith, length-over x n)), lt-ltb p (length x / 32) (omega arith), part-left x (zeros n) (32 * p) 32 h)
 
   -- a bit for each page
   module _ (r : Reader) (roomy : capacity (r .guarded) ≤ 8 * length (r .guarded .index)) where
@@ -193,7 +189,7 @@ module _ (n : ℕ) where
   take-longer r last right content (unfit b k) = refl
 
   pub answer-longer : (r : Reader) → capacity (r .guarded) ≤ 8 * length (r .guarded .index) → (h : Heard)
-      → ((p : ℕ) → h ≡ order (command (barred (readIndexTable p))) → 32 * p + 32 ≤ length (r .guarded .index)) → answer (longer r) h ≡ saidLonger (answer r h)
+      → ((p : ℕ) → h ≡ order (command (barred (readIndexTable p))) → Within r p) → answer (longer r) h ≡ saidLonger (answer r h)
   unfolding answer silence capacity
   answer-longer r roomy nothing d = refl
   answer-longer r roomy (order o) d =

@@ -6,8 +6,7 @@ use mathlib.Core.List.{List, [], _∷_, _++_}
 use Prim.Native.Nat.{ℕ, zero, suc, _+_, _*_, _/_, _≤_, _<_}
 use native.Mathlib.Omega.{arith}
 use lib.Dec.{T, lit≤}
-use lib.ListN.{length, take, drop, replicate, length-append, length-replicate, length-drop}
-use lib.Seq.{drop-append-le, take-append-le}
+use lib.ListN.{length, replicate}
 use Rattle.protocol.specs.Bytes.{zeros}
 use Rattle.protocol.specs.Tests.{countBelow}
 use Rattle.protocol.specs.Index.{bit, stored, setBits}
@@ -17,7 +16,8 @@ use Rattle.protocol.specs.Commands.{readIndexTable, barred, command}
 use Rattle.protocol.specs.Step.{order, hear, stepOf, wiped, switched}
 use Rattle.protocol.specs.Call.{Shape, core, fitLent, fitBuffers, fitTransfer, legal, Typed, Ended, refused, carried, replyOf, callOf, switchRefusal, switchAs, switchOf}
 use Rattle.protocol.specs.Dialogue.{Event, received, switch, on, finally, Exchange, exchanges, Act, history, live}
-use Rattle.protocol.proofs.Laws.Index.{Fine, stored-over, fine-over, clear-above, clear-to}
+use Rattle.protocol.proofs.Laws.Index.{Fine, length-over, stored-over, fine-over, clear-above, clear-to}
+use Rattle.protocol.proofs.Laws.Lists.{part-left}
 use Rattle.protocol.proofs.Laws.Answers.{call-legal, call-short}
 use Rattle.protocol.proofs.Laws.Legal.{Good, good-of, legal-of, fine-of}
 use Rattle.protocol.proofs.Laws.Longer.{answer-longer}
@@ -164,7 +164,7 @@ grows k r l few =
     let x : List ℕ = r .guarded .index in
     let g : Good core core-holds r = good-of core core-holds r (l .typed) (l .legal) in
     let long : length t ≡ 512 * (length t / 512) = g .shelf .long in
-    let n : length (t ++ replicate (512 * k) 0) ≡ length t + 512 * k = simp (length-append, length-replicate) (omega arith) in
+    let n : length (t ++ replicate (512 * k) 0) ≡ length t + 512 * k = length-over t (512 * k) in
     let c : length (t ++ replicate (512 * k) 0) / 512 ≡ length t / 512 + k = omega (arith, n, long) in
     let y : Typed (grown k r) = record { password = g .typed .password; address = g .typed .address; index = g .typed .index } in
     record {
@@ -183,8 +183,6 @@ grows k r l few =
                 };
           };
       more = c;
-      same = λ q h.
-          ap (λ (s : List ℕ). take 512 s) (drop-append-le (512 * q) t (replicate (512 * k) 0) (omega arith))
-          ∙ take-append-le 512 (drop (512 * q) t) (replicate (512 * k) 0) (omega (arith, length-drop (512 * q) t));
+      same = λ q h. part-left t (replicate (512 * k) 0) (512 * q) 512 (omega arith);
       vacant = λ q m. clear-above x (capacity (r .guarded)) (g .clear) q m;
     }

@@ -8,7 +8,7 @@ use mathlib.Core.List.{List, [], _∷_, _++_}
 use Prim.Native.Nat.{ℕ, zero, suc, _*_, _/_, _%_, _^_, _≤_}
 use native.Mathlib.Omega.{arith}
 use lib.Dec.{T, eqb, eqb→eq}
-use lib.ListN.{length, take, drop, getD, replicate, length-drop, length-append, length-replicate}
+use lib.ListN.{length, take, drop, getD, replicate, length-drop}
 use lib.Seq.{length-take-le, getD-take, getD-drop}
 use Rattle.protocol.specs.Index.{setBits}
 use Rattle.protocol.specs.BringOver.{broughtOver, Brought, bringRefusal, bringAs, bringOver}
@@ -17,7 +17,7 @@ use Rattle.protocol.specs.Commands.{readIndexTable, barred, command}
 use Rattle.protocol.specs.Data.{acknowledge}
 use Rattle.protocol.specs.Step.{order, hear, rested}
 use Rattle.protocol.specs.Call.{core, Lent, fitLent, legal, callOf}
-use Rattle.protocol.proofs.Laws.Index.{byte-over}
+use Rattle.protocol.proofs.Laws.Index.{length-over, byte-over}
 use Rattle.protocol.proofs.Laws.Count.{count-over}
 use Rattle.protocol.proofs.Laws.Answers.{spared}
 use Rattle.protocol.proofs.Laws.Lines.{Line, unless, Follows, follows}
@@ -96,7 +96,7 @@ pub keeps-bits : (old index : List ℕ) → length old ≡ 32 → length index �
 keeps-bits old index e d =
     rw (bring-refusals old index .0 e .0 d .1)
     record {
-      long = simp (length-append, length-replicate) (omega arith);
+      long = omega (arith, length-over old 96);
       bits = λ q. ap (λ (b : ℕ). b / 2 ^ (q % 8) % 2) (byte-over old 96 (q / 8));
       count = count-over old 96;
     }
