@@ -15,4 +15,3 @@ pub mod Drain
 pub mod Holding
 pub mod History
 pub mod Sizes
-pub mod Longer

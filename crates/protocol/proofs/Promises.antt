@@ -26,6 +26,7 @@ pub mod ValidCount
 pub mod Untouched
 pub mod Ones
 pub mod Thousand
+pub mod Longer
 pub mod BroughtOver
 pub mod SizeCode
 pub mod FirstDownload

@@ -20,7 +20,7 @@ use Rattle.protocol.proofs.Laws.Index.{Fine, length-over, stored-over, 
 use Rattle.protocol.proofs.Laws.Lists.{part-left}
 use Rattle.protocol.proofs.Laws.Answers.{call-legal, call-short}
 use Rattle.protocol.proofs.Laws.Legal.{Good, good-of, legal-of, fine-of}
-use Rattle.protocol.proofs.Laws.Longer.{answer-longer}
+use Rattle.protocol.proofs.Promises.Longer.{answer-longer}
 use Rattle.protocol.proofs.Promises.Told.{pages, page, has}
 use Rattle.protocol.proofs.Promises.LegalMeans.{core-holds}
 use Rattle.protocol.proofs.Promises.ValidCount.{Tells, tells-none, tells-count, tells-ever}

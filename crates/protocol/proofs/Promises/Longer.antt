@@ -1,4 +1,4 @@
--- A reader whose index is longer by zero bytes: it answers what the reader would, but for ReadIndexTable of the pages that are new, and is left as the reader would
+-- For BroughtOver: a reader whose index is longer by zero bytes. It answers what the reader would, but for ReadIndexTable of the pages that are new, and is left as the reader would
 -- be, with as many more.
 use mathlib.Core.Bool.{Bool, true, false, true≢false, cond}
 use mathlib.Core.Path.{_≡_, refl, sym, ap, _∙_}
