@@ -26,7 +26,6 @@ pub mod ValidCount
 pub mod Untouched
 pub mod Ones
 pub mod Thousand
-pub mod Longer
 pub mod BroughtOver
 pub mod SizeCode
 pub mod FirstDownload
