@@ -106,6 +106,7 @@ static void measure_command(int expected, const uint8_t *content, size_t n) {
 
 static void command_rows(size_t capacity) {
     const uint8_t delete_all[] = {0x0C, 0, 0, (uint8_t)(capacity >> 8), (uint8_t)capacity};
+    const uint8_t delete_last[] = {0x0C, (uint8_t)((capacity - 1) >> 8), (uint8_t)(capacity - 1), 0, 1};
     for (size_t i = 0; i < COMMANDS; i++) {
         const struct command command = command_of(i, capacity);
         begin(&calls, command.name, capacity);
@@ -118,6 +119,10 @@ static void command_rows(size_t capacity) {
     begin(&calls, "0Ch DeletChar, all pages", capacity);
     row->may_grow = 1;
     measure_command(0x00, delete_all, sizeof delete_all);
+    begin(&calls, "0Ch DeletChar, buffers wiped", capacity);
+    row->may_grow = 1;
+    reader.line.settings.origin1 = reader.line.settings.origin2 = (uint16_t)(capacity - 1);
+    measure_command(0x00, delete_last, sizeof delete_last);
 }
 
 static void refused_command_rows(size_t capacity) {
@@ -169,6 +174,9 @@ static void refusal_rows(size_t capacity) {
     measure_call(REFUSED + BYSTRODOL_BAD_SETTING);
     begin(&calls, "refusal 3, a mark", capacity);
     reader.line.settings.verified = 2;
+    measure_call(REFUSED + BYSTRODOL_BAD_SETTING);
+    begin(&calls, "refusal 3, an origin", capacity);
+    reader.line.settings.origin1 = (uint16_t)capacity;
     measure_call(REFUSED + BYSTRODOL_BAD_SETTING);
 }
 

@@ -153,6 +153,13 @@ static void set_filled(struct bystrodol_settings *settings, uint8_t buffer, uint
         settings->filled2 = mark;
 }
 
+static void set_origin(struct bystrodol_settings *settings, uint8_t buffer, size_t page) {
+    if (buffer == 1)
+        settings->origin1 = (uint16_t)page;
+    else
+        settings->origin2 = (uint16_t)page;
+}
+
 static int is_level(uint8_t level) { return level >= 1 && level <= 5; }
 
 static int is_size(uint8_t size) { return size <= 3; }
@@ -167,6 +174,16 @@ static int is_legal(const struct bystrodol_settings *settings) {
     if (settings->transfer == 0) return settings->got == 0;
     return settings->transfer <= 2 && settings->got < BYSTRODOL_PAGE_BYTES &&
            settings->got % data_size(settings) == 0 && !is_filled(settings, settings->transfer) && !is_locked(settings);
+}
+
+/* An origin is none, or a page that is stored, of a filled buffer. */
+static int is_origin(uint16_t origin, uint8_t filled, const uint8_t *index, size_t pages) {
+    return origin == BYSTRODOL_NO_PAGE || (origin < pages && is_stored(index, origin) && filled);
+}
+
+static int are_origins(const struct bystrodol_settings *settings, const uint8_t *index, size_t pages) {
+    return is_origin(settings->origin1, settings->filled1, index, pages) &&
+           is_origin(settings->origin2, settings->filled2, index, pages);
 }
 
 /* ---- the commands: parameters in, acknowledge code out */
@@ -186,6 +203,7 @@ static enum code store(struct reader *reader, uint8_t buffer, size_t page) {
     if (is_stored(reader->index, page)) return PAGE_STORED;
     memcpy(page_of(reader, page), buffer_of(reader, buffer), BYSTRODOL_PAGE_BYTES);
     set_stored(reader->index, page);
+    set_origin(reader->settings, buffer, page);
     return DONE;
 }
 
@@ -195,28 +213,43 @@ static enum code load(struct reader *reader, uint8_t buffer, size_t page) {
     if (!is_stored(reader->index, page)) return NOT_THERE;
     memcpy(buffer_of(reader, buffer), page_of(reader, page), BYSTRODOL_PAGE_BYTES);
     set_filled(reader->settings, buffer, 1);
+    set_origin(reader->settings, buffer, page);
     return DONE;
+}
+
+static void wipe(struct reader *reader, uint8_t buffer) {
+    memset(buffer_of(reader, buffer), 0, BYSTRODOL_PAGE_BYTES);
+    set_filled(reader->settings, buffer, 0);
+    set_origin(reader->settings, buffer, BYSTRODOL_NO_PAGE);
 }
 
 static enum code open_transfer(struct reader *reader, uint8_t buffer) {
     if (!is_buffer(buffer)) return BAD_PACKET;
-    memset(buffer_of(reader, buffer), 0, BYSTRODOL_PAGE_BYTES);
-    set_filled(reader->settings, buffer, 0);
+    wipe(reader, buffer);
     reader->settings->transfer = buffer;
     reader->settings->got = 0;
     return DONE;
+}
+
+/* Pages are deleted: so are the buffers that hold one of them. */
+static void forget(struct reader *reader, size_t page, size_t n) {
+    size_t origin1 = reader->settings->origin1, origin2 = reader->settings->origin2;
+    if (origin1 >= page && origin1 < page + n) wipe(reader, 1);
+    if (origin2 >= page && origin2 < page + n) wipe(reader, 2);
 }
 
 static enum code delete_pages(struct reader *reader, size_t page, size_t n) {
     if (page >= reader->pages || page + n > reader->pages) return NOT_DELETED;
     for (size_t i = page; i < page + n; i++) clear_stored(reader->index, i);
     memset(page_of(reader, page), 0, BYSTRODOL_PAGE_BYTES * n);
+    forget(reader, page, n);
     return DONE;
 }
 
 static enum code empty(struct reader *reader) {
     memset(reader->index, 0, BYSTRODOL_INDEX_BYTES);
     memset(reader->templates, 0, BYSTRODOL_PAGE_BYTES * reader->pages);
+    forget(reader, 0, reader->pages);
     return DONE;
 }
 
@@ -377,7 +410,7 @@ static void close_transfer(struct bystrodol_settings *settings) {
 }
 
 static void break_transfer(struct reader *reader) {
-    memset(buffer_of(reader, reader->settings->transfer), 0, BYSTRODOL_PAGE_BYTES);
+    wipe(reader, reader->settings->transfer);
     close_transfer(reader->settings);
 }
 
@@ -436,7 +469,7 @@ struct bystrodol_answer plain_step(struct bystrodol_settings *settings, uint8_t 
         answer.refusal = BYSTRODOL_BAD_LENGTH;
     else if (reply_length < BYSTRODOL_REPLY_BYTES)
         answer.refusal = BYSTRODOL_BAD_ROOM;
-    else if (!is_legal(settings) || !fits(index, pages))
+    else if (!is_legal(settings) || !fits(index, pages) || !are_origins(settings, index, pages))
         answer.refusal = BYSTRODOL_BAD_SETTING;
     else {
         struct reader reader = {settings, templates, pages, index, notepad, buffer1, buffer2, reply};
@@ -448,7 +481,8 @@ struct bystrodol_answer plain_step(struct bystrodol_settings *settings, uint8_t 
 }
 
 struct bystrodol_settings plain_fresh(void) {
-    return (struct bystrodol_settings){.address = {0xFF, 0xFF, 0xFF, 0xFF}, .level = 3, .size = 2, .baud = 6};
+    return (struct bystrodol_settings){.address = {0xFF, 0xFF, 0xFF, 0xFF}, .level = 3, .size = 2, .baud = 6,
+                                       .origin1 = BYSTRODOL_NO_PAGE, .origin2 = BYSTRODOL_NO_PAGE};
 }
 
 uint8_t plain_line_switch(struct bystrodol_settings *settings, uint8_t *buffer1, size_t buffer1_length,
@@ -457,6 +491,8 @@ uint8_t plain_line_switch(struct bystrodol_settings *settings, uint8_t *buffer1,
     settings->verified = 0;
     settings->filled1 = 0;
     settings->filled2 = 0;
+    settings->origin1 = BYSTRODOL_NO_PAGE;
+    settings->origin2 = BYSTRODOL_NO_PAGE;
     close_transfer(settings);
     memset(buffer1, 0, BYSTRODOL_PAGE_BYTES);
     memset(buffer2, 0, BYSTRODOL_PAGE_BYTES);

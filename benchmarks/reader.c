@@ -20,6 +20,8 @@ void fill_random(void *at, size_t n) {
     for (uint8_t *byte = at; n > 0; n--) *byte++ = random_byte();
 }
 
+int is_stored(const struct memory *memory, size_t page) { return memory->index[page / 8] >> page % 8 & 1; }
+
 void set_stored(struct memory *memory, size_t page) { memory->index[page / 8] |= (uint8_t)(1 << page % 8); }
 
 void clear_stored(struct memory *memory, size_t page) { memory->index[page / 8] &= (uint8_t)~(1 << page % 8); }

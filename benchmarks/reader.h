@@ -34,6 +34,7 @@ void make_reader(size_t capacity);
 /* Pseudo-random bytes in all memory but the templates behind the pages in use. */
 void fill_memory(struct memory *memory);
 
+int is_stored(const struct memory *memory, size_t page);
 void set_stored(struct memory *memory, size_t page);
 void clear_stored(struct memory *memory, size_t page);
 

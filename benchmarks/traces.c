@@ -8,14 +8,14 @@
 #include "stepper.h"
 #include "system.h"
 
-static const size_t capacities[] = {1, 8, 9, 64, 257, 999, 1000};
+static const size_t capacities[] = {1, 8, 9, 257, 999, 1000};
 enum { CAPACITIES = sizeof capacities / sizeof *capacities };
 
 /* ---- a pair: two readers with the same public settings */
 
 static struct reader pair[2];
 
-enum { KINDS = 4 };
+enum { KINDS = 5 };
 
 static void set_marks(struct bystrodol_settings *settings, uint8_t marks) {
     settings->filled1 = marks & 1;
@@ -30,6 +30,21 @@ static void make_locked_settings(struct bystrodol_settings *settings) {
     settings->baud = (uint8_t)(1 + random_byte() % 12);
     settings->sensor = random_byte();
     set_marks(settings, random_byte());
+}
+
+/* A filled buffer's origin is a page that is stored, if one is found, or none. */
+static uint16_t random_origin(const struct memory *memory, size_t capacity, uint8_t is_filled) {
+    for (int tries = 0; is_filled && tries < 8; tries++) {
+        size_t page = (random_byte() << 8 | random_byte()) % capacity;
+        if (is_stored(memory, page)) return (uint16_t)page;
+    }
+    return BYSTRODOL_NO_PAGE;
+}
+
+static void set_origins(struct reader *reader, size_t capacity) {
+    struct bystrodol_settings *settings = &reader->line.settings;
+    settings->origin1 = random_origin(&reader->memory, capacity, settings->filled1);
+    settings->origin2 = random_origin(&reader->memory, capacity, settings->filled2);
 }
 
 static void make_pair(size_t capacity, size_t number) {
@@ -52,12 +67,23 @@ static void make_pair(size_t capacity, size_t number) {
         set_marks(&pair[0].line.settings, 0);
         set_marks(&pair[1].line.settings, (uint8_t)(1 + random_byte() % 3));
         break;
-    default: /* one page of the index alone */
+    case 3: /* one page of the index alone */
         clear_stored(&pair[0].memory, number % capacity);
         set_stored(&pair[1].memory, number % capacity);
+        break;
+    default: /* the origins alone: none, and a page for each buffer */
+        for (int i = 0; i < 2; i++) {
+            set_stored(&pair[i].memory, 0);
+            set_stored(&pair[i].memory, number % capacity);
+            set_marks(&pair[i].line.settings, 3);
+        }
     }
     make_index_legal(&pair[0].memory);
     make_index_legal(&pair[1].memory);
+    if (number % KINDS == 4)
+        pair[1].line.settings.origin1 = 0, pair[1].line.settings.origin2 = (uint16_t)(number % capacity);
+    else if (number % KINDS != 3)
+        set_origins(&pair[0], capacity), set_origins(&pair[1], capacity);
 }
 
 /* ---- calls: a command in one of its shapes, another packet, other bytes, or a line switch */
@@ -216,10 +242,11 @@ static int paths_differ(enum call call) {
     return 0;
 }
 
-/* A round's calls with a line switch among them, and then the right password. The first call whose paths differ. */
+/* A round's calls with a line switch somewhere among them, and then the right password. The first call whose paths differ. */
 static enum call first_difference(size_t round) {
+    const size_t switched = random_byte() % CALLS_EACH;
     for (size_t i = 0; i < CALLS_EACH; i++) {
-        if (i == CALLS_EACH / 2 && paths_differ(LINE_SWITCH)) return LINE_SWITCH;
+        if (i == switched && paths_differ(LINE_SWITCH)) return LINE_SWITCH;
         enum call call = (enum call)((CALLS_EACH * round + i) % LOCKED_CALLS);
         if (paths_differ(call)) return call;
     }

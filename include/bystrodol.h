@@ -47,9 +47,21 @@
  *     as the last one left it, open and with its buffers. Drop also what is left of a piece and what the port has not handed
  *     over yet, which are the last host's bytes, and let no reply to it go on to the next. Do not call bystrodol_line_switch,
  *     which knows of no receiver: bytes of the last host would stay held, before those of the next.
+ *   Your own writes. A firmware that fills a buffer itself sets its filled mark to 1 and its origin to BYSTRODOL_NO_PAGE; one that
+ *     clears a mark makes the origin none, too. One that writes templates or index itself calls the line switch. An origin that is left
+ *     behind makes every call be refused with 3, or what was put into the buffer be wiped with a page that it has nothing to do with.
  *   Saving. The table of commands below says what each one changes.
- *   Upgrade. Versions 0.1 to 0.5 had an index of 32 bytes. Where such a one is stored, and not yet brought over, do that before all
- *     else of power-on; bystrodol_bring_over says how. Templates, notepad and settings stay as they are.
+ *   Upgrade. Templates and notepad stay as they are.
+ *     Versions 0.1 to 0.5 had an index of 32 bytes. Where such a one is stored, and not yet brought over, do that before all else of
+ *     power-on; bystrodol_bring_over says how.
+ *     Versions 0.1 to 0.6 had settings of 20 bytes: the first 20 of today's, every field at its place. Load them so, and give both
+ *     buffers no origin:
+ *         memcpy(&line.settings, stored, BYSTRODOL_OLD_SETTINGS_BYTES);
+ *         line.settings.origin1 = line.settings.origin2 = BYSTRODOL_NO_PAGE;
+ *     This may be done at every power-on, since the line switch makes both none in any case. So a board may go on storing 20 bytes,
+ *     and needs no mark for it; and an older version can read them. A struct of yours that was stored with settings inside has another
+ *     layout today: what stood behind them, such as a sum, stands 4 bytes further. Of a stored struct bystrodol_line load the first 20
+ *     bytes alone.
  */
 #ifndef BYSTRODOL_H
 #define BYSTRODOL_H
@@ -60,9 +72,9 @@
 /* The version of this header and of the archives. Another major number, or, while that is 0, another minor one, may need a
  * change of the caller. */
 #define BYSTRODOL_VERSION_MAJOR 0
-#define BYSTRODOL_VERSION_MINOR 6
+#define BYSTRODOL_VERSION_MINOR 7
 #define BYSTRODOL_VERSION_PATCH 0
-#define BYSTRODOL_VERSION "0.6.0"
+#define BYSTRODOL_VERSION "0.7.0"
 
 /* ---- lengths, in bytes */
 
@@ -73,6 +85,9 @@
 /* The index, of every reader; and one that version 0.5 or an older one stored. */
 #define BYSTRODOL_INDEX_BYTES 128u
 #define BYSTRODOL_OLD_INDEX_BYTES 32u
+
+/* The settings that version 0.6 or an older one stored. */
+#define BYSTRODOL_OLD_SETTINGS_BYTES 20u
 
 /* The least reply room. No reply is longer. */
 #define BYSTRODOL_REPLY_BYTES 700u
@@ -90,8 +105,8 @@
 #define BYSTRODOL_ACCEPTED 0u
 #define BYSTRODOL_BAD_LENGTH 1u  /* a lent length, the reply room's apart, is not as it must be */
 #define BYSTRODOL_BAD_ROOM 2u    /* the reply room is too small */
-#define BYSTRODOL_BAD_SETTING 3u /* a setting or the transfer is not legal, an index bit at or above the capacity is set, or a
-                                    receiver's count is above 267 */
+#define BYSTRODOL_BAD_SETTING 3u /* a setting or the transfer is not legal, an index bit at or above the capacity is set, a
+                                    buffer's origin is not legal, or a receiver's count is above 267 */
 
 /* ---- a packet: EF 01, address (4), identifier, length (2), content, sum (2); numbers high byte first. The length counts content
  * and sum: 3 to 256, for identifiers 2 and 8 3 to 258. The sum is identifier, both length bytes and every content byte added,
@@ -109,7 +124,16 @@
  * verified mark. A command, whatever it is answered, also ends an open transfer: settings, and its buffer is zeroed.
  * A data packet changes a buffer and the settings, and only while a transfer is open.
  *
- * Over power-off nothing of a buffer, a mark or a transfer is worth keeping, since the line switch clears them. So save templates
+ * LoadChar and Store make a page a buffer's origin: the buffer holds that page's template. DeletChar and Empty also wipe every buffer
+ * whose origin is among the pages deleted: its bytes are zeroed, its filled mark is 0, its origin none, and the next UpChar of it is
+ * answered 0Dh. A buffer that came by DownChar and was not stored has no origin, and stays. Three things follow for hosts:
+ *   - What was loaded from a page, or stored on it, cannot be stored there again: the DeletChar that makes room wipes the buffer, and
+ *     Store is then answered 0Ch. To replace a page, download anew, before DeletChar or after it.
+ *   - So where the reply to a Store was lost, and the next Store is answered 22h, do not delete and store: page and buffer would both be
+ *     gone. Load the page into the other buffer, and compare.
+ *   - A buffer has one origin, the last: loaded from page 3 and stored on page 5, it has 5. DeletChar of page 3 leaves it then.
+ *
+ * Over power-off nothing of a buffer, a mark, an origin or a transfer is worth keeping: the line switch clears them. So save templates
  * and index after Store, DeletChar and Empty, settings after SetSysPara, SetPwd and SetAdder, and the notepad after
  * WriteNotepad; or compare them with what was saved. After Store save the template before the index, and after DeletChar and Empty
  * the index before the templates: so power that fails in between leaves no stored page without its template.
@@ -118,12 +142,12 @@
  * byte 9 of the reply room. A receiver's run is what it held before the call, and behind that what the call took; the call drops
  * it, so look before, or compare what is stored.
  */
-#define BYSTRODOL_COMMAND_STORE 0x06u            /* buffer, page that is not stored: templates and index */
-#define BYSTRODOL_COMMAND_LOAD_CHAR 0x07u        /* buffer, page: that buffer; settings (its filled mark) */
+#define BYSTRODOL_COMMAND_STORE 0x06u            /* buffer, page that is not stored: templates and index; settings (its origin) */
+#define BYSTRODOL_COMMAND_LOAD_CHAR 0x07u        /* buffer, page: that buffer; settings (its filled mark and origin) */
 #define BYSTRODOL_COMMAND_UP_CHAR 0x08u          /* buffer: nothing */
-#define BYSTRODOL_COMMAND_DOWN_CHAR 0x09u        /* buffer: that buffer; settings (its filled mark, the transfer) */
-#define BYSTRODOL_COMMAND_DELET_CHAR 0x0Cu       /* page, count: templates and index */
-#define BYSTRODOL_COMMAND_EMPTY 0x0Du            /* templates and index */
+#define BYSTRODOL_COMMAND_DOWN_CHAR 0x09u        /* buffer: that buffer; settings (its filled mark and origin, the transfer) */
+#define BYSTRODOL_COMMAND_DELET_CHAR 0x0Cu       /* page, count: templates and index; buffers with such an origin, and settings */
+#define BYSTRODOL_COMMAND_EMPTY 0x0Du            /* templates and index; buffers with an origin, and settings */
 #define BYSTRODOL_COMMAND_SET_SYS_PARA 0x0Eu     /* parameter, value: settings (baud, level or size) */
 #define BYSTRODOL_COMMAND_READ_SYS_PARA 0x0Fu    /* nothing */
 #define BYSTRODOL_COMMAND_SET_PWD 0x12u          /* password: settings (password, verified mark) */
@@ -155,10 +179,13 @@
 #define BYSTRODOL_CODE_BAD_VALUE 0x1Bu       /* SetSysPara: a value outside the parameter's range */
 #define BYSTRODOL_CODE_BAD_NOTE_PAGE 0x1Cu   /* no such page of the notepad */
 #define BYSTRODOL_CODE_PASSWORD_FIRST 0x21u  /* the reader is locked */
-#define BYSTRODOL_CODE_PAGE_TAKEN 0x22u      /* Store: the page is stored already, and kept; DeletChar, then Store, replaces it */
+#define BYSTRODOL_CODE_PAGE_TAKEN 0x22u      /* Store: the page is stored already, and kept; before you delete it, see above */
+
+/* The origin of a buffer that has none. */
+#define BYSTRODOL_NO_PAGE 0xFFFFu
 
 /*
- * A reader's settings, 20 bytes without a gap. Numbers are in the machine's byte order. They hold no pointer: they may be
+ * A reader's settings, 24 bytes without a gap. Numbers are in the machine's byte order. They hold no pointer: they may be
  * copied, compared, stored and moved.
  *
  * A mark is 0 or 1. Any other byte there, or a number outside its range, is a setting that is not legal: a call is refused
@@ -166,6 +193,9 @@
  *
  * The reader is locked if the password is not 0 and verified is 0. A transfer is legal if got is a multiple of the size and
  * below 512, its buffer's filled mark is 0, and the reader is not locked. No transfer is transfer 0 and got 0.
+ *
+ * BYSTRODOL_NO_PAGE is a legal origin of any buffer. Any other number is one only if it is below the capacity, that page is stored, and
+ * the buffer's filled mark is 1. That the buffer has the very bytes of that page no call tests; the core keeps it so.
  *
  * The core only keeps the baud factor; the port is the firmware's. The reply to SetSysPara still goes out at the old speed.
  * When its last byte has left, set the port to 9600 times the new factor, in bits a second.
@@ -183,6 +213,8 @@ struct bystrodol_settings {
     uint8_t filled1;     /* 1 if character buffer 1 holds a template, received or put there by the firmware */
     uint8_t filled2;     /* the same of character buffer 2 */
     uint8_t spare;       /* any byte; no call changes it */
+    uint16_t origin1;    /* origin of character buffer 1: the page that holds its template too, or BYSTRODOL_NO_PAGE */
+    uint16_t origin2;    /* the same of character buffer 2 */
 };
 
 /*
@@ -200,8 +232,8 @@ struct bystrodol_receiver {
 };
 
 /*
- * A line, 290 bytes: the settings and the receiver of one reader. Settings that were stored go into line.settings as they are.
- * The receiver is not worth storing: after power-on it starts as zeros.
+ * A line, 294 bytes: the settings and the receiver of one reader. Settings that were stored go into line.settings as they are, those of
+ * an older version as Upgrade says. The receiver is not worth storing: after power-on it starts as zeros.
  */
 struct bystrodol_line {
     struct bystrodol_settings settings;
@@ -230,7 +262,7 @@ extern "C" {
 
 /*
  * Fresh settings: password 0, address FFFFFFFFh, level 3, size code 2, baud factor 6, sensor type 0, marks clear, no
- * transfer, spare 0. With zeroed memory they are a fresh reader.
+ * transfer, no origins, spare 0. With zeroed memory they are a fresh reader.
  *
  * So a fresh reader takes and sends data packets of 128 bytes. A host that sends 64 sets size code 1 first (SetSysPara, parameter
  * 6), and one that sends 256 code 3; otherwise its first data packet is answered 0Eh. Settings that were stored keep their own
@@ -240,8 +272,8 @@ extern "C" {
 struct bystrodol_settings bystrodol_fresh(void);
 
 /*
- * The line switch: verified mark and filled marks 0, transfer closed, both buffers and the bytes that are held zeroed, count 0. It
- * takes any line, whatever bytes it has. Returns 0, or BYSTRODOL_BAD_LENGTH if a buffer is not 512 bytes long; then nothing
+ * The line switch: verified mark and filled marks 0, no origins, transfer closed, both buffers and the bytes that are held zeroed,
+ * count 0. It takes any line, whatever bytes it has. Returns 0, or BYSTRODOL_BAD_LENGTH if a buffer is not 512 bytes long; then nothing
  * changes.
  */
 uint8_t bystrodol_receiver_switch(struct bystrodol_line *line, uint8_t *buffer1, size_t buffer1_length,
@@ -270,7 +302,7 @@ struct bystrodol_received bystrodol_receive(struct bystrodol_line *line, uint8_t
 /* ---- the same without a receiver, for a caller that holds the bytes itself; these two are in libstep.a */
 
 /*
- * The line switch: verified mark and filled marks 0, transfer closed, both buffers zeroed. It takes any settings, whatever
+ * The line switch: verified mark and filled marks 0, no origins, transfer closed, both buffers zeroed. It takes any settings, whatever
  * bytes they are. Returns 0, or BYSTRODOL_BAD_LENGTH if a buffer is not 512 bytes long; then nothing changes. The caller
  * drops the bytes that it holds.
  */

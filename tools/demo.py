@@ -123,7 +123,8 @@ def dialogue(reader):
     reader.ask("The right password unlocks it.", "VfyPwd", password)
     reader.ask("Page 7 is deleted.", "DeletChar", 7, 1)
     reader.ask("How many templates are stored?", "TempleteNum", listed=two_bytes(0))
-    reader.ask("Now buffer 1 can be stored there.", "Store", 1, 7)
+    reader.ask("Buffer 2 was loaded from page 7, and is wiped with it.", "UpChar", 2, code=0x0D)
+    reader.ask("Buffer 1 was never stored, and stays: now it can be.", "Store", 1, 7)
     reader.end()
 
 

@@ -59,8 +59,8 @@ ACKNOWLEDGES = {
     DONE: "done",
     DAMAGED: "damaged packet or bad parameter",
     0x0B: "no such page",
-    0x0C: "nothing is there: a buffer that is not filled, or a page that is not stored",
-    0x0D: "the buffer is not filled",
+    0x0C: "nothing is there: a buffer that is not filled, or was wiped with a deleted page; or a page that is not stored",
+    0x0D: "the buffer is not filled, or was wiped with a deleted page",
     TRANSFER_FAILED: "the transfer failed: a data packet does not fit in size, sum or total",
     0x10: "no such pages: not all of them are there, and none is deleted",
     0x13: "wrong password",
@@ -69,7 +69,7 @@ ACKNOWLEDGES = {
     0x1B: "no such value",
     0x1C: "no such notepad page",
     0x21: "locked: the password first",
-    0x22: "the page is stored already: to replace it, delete it and store again",
+    0x22: "the page is stored already: to replace it, delete it and store again (a buffer that has this page's own template is wiped with it)",
 }
 
 

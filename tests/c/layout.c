@@ -11,7 +11,7 @@
 #define STRUCT(type, size, alignment) IS(sizeof(struct type), size); IS(ALIGNMENT(type), alignment)
 #define AT(type, field, offset) IS(offsetof(struct type, field), offset)
 
-STRUCT(bystrodol_settings, 20, 2);
+STRUCT(bystrodol_settings, 24, 2);
 AT(bystrodol_settings, password, 0);
 AT(bystrodol_settings, address, 4);
 AT(bystrodol_settings, level, 8);
@@ -24,14 +24,17 @@ AT(bystrodol_settings, verified, 16);
 AT(bystrodol_settings, filled1, 17);
 AT(bystrodol_settings, filled2, 18);
 AT(bystrodol_settings, spare, 19);
+AT(bystrodol_settings, origin1, 20);
+AT(bystrodol_settings, origin2, 22);
+IS(BYSTRODOL_OLD_SETTINGS_BYTES, 20);
 
 STRUCT(bystrodol_receiver, 270, 2);
 AT(bystrodol_receiver, held, 0);
 AT(bystrodol_receiver, count, 268);
 
-STRUCT(bystrodol_line, 290, 2);
+STRUCT(bystrodol_line, 294, 2);
 AT(bystrodol_line, settings, 0);
-AT(bystrodol_line, receiver, 20);
+AT(bystrodol_line, receiver, 24);
 
 STRUCT(bystrodol_received, 24, 8);
 AT(bystrodol_received, refusal, 0);

@@ -1,161 +1,11 @@
 /*
  * Calls the whole reader from C: fresh settings, every code that the header names, and every refusal. Readers of 1 to 1000 pages.
- * Marks of all bytes, and settings of random bytes. All of it through three doors: a call without a receiver, a receiver's call that is offered the
- * whole run, and one that already holds part of it. All memory, the settings too, lies in one area with guard bytes around each
- * part; after a refusal no byte of the area has changed.
+ * Marks of all bytes, and settings of random bytes. All of it through the three doors of area.h; after a refusal no byte of the area has changed.
  * tests/c/run builds and runs it. It writes one line, 'reader: N checks passed', and ends with 0; or names each failed check
  * and ends with 1.
  */
 #include "bystrodol.h"
-#include "check.h"
-
-#include <string.h>
-
-/* ---- the area */
-
-enum { INDEX, NOTEPAD, BUFFER1, BUFFER2, RUN, REPLY, TEMPLATES, PARTS };
-enum { GUARD = 64, TEN_PAGES = 10 * BYSTRODOL_PAGE_BYTES, MOST = 1025 * BYSTRODOL_PAGE_BYTES };
-
-static const char *const names[PARTS] = {"index", "notepad", "buffer 1", "buffer 2", "run", "reply room", "templates"};
-
-/* Room for each part, more than is right. */
-static const size_t rooms[PARTS] = {385, 513, 513, 513, 64, 701, MOST};
-
-static struct {
-    uint8_t before_line[GUARD];
-    struct bystrodol_line line;
-    uint8_t parts[PARTS * GUARD + 385 + 3 * 513 + 64 + 701 + MOST + GUARD];
-} area, was, bytes;
-
-static uint8_t *parts[PARTS];
-static size_t lengths[PARTS];
-static struct bystrodol_answer answer;
-
-/* How the reader is called: without a receiver; with one that is offered all of the run; with one that holds half of it. */
-static enum { STEP, OFFERED, HELD, DOORS } door;
-
-static const uint8_t handshake[] = {0xEF, 0x01, 0xFF, 0xFF, 0xFF, 0xFF, 0x01, 0x00, 0x03, 0x40, 0x00, 0x44};
-static const uint8_t count[] = {0xEF, 0x01, 0xFF, 0xFF, 0xFF, 0xFF, 0x01, 0x00, 0x03, 0x1D, 0x00, 0x21};
-
-/* No two pages have the same bytes. */
-static void fill_bytes(void) {
-    for (size_t i = 0; i < sizeof bytes; i++) ((uint8_t *)&bytes)[i] = (uint8_t)(0xA5 + 7 * i + i / 509);
-    area = bytes;
-}
-
-/* How much of the area is used: the templates are its last part, and have a guard behind them. */
-static size_t extent(void) { return (size_t)(parts[TEMPLATES] - (uint8_t *)&area) + lengths[TEMPLATES] + GUARD; }
-
-static void save(void) { memcpy(&was, &area, extent()); }
-
-/* A legal reader of so many bytes of templates, with fresh settings and bytes in all its memory, a handshake as its run, and a reply
- * room. */
-static void set_up_templates(size_t length) {
-    const size_t right[PARTS] = {128, 512, 512, 512, sizeof handshake, 700, length};
-    size_t at = GUARD;
-    for (int i = 0; i < PARTS; i++) {
-        parts[i] = area.parts + at;
-        lengths[i] = right[i];
-        at += rooms[i] + GUARD;
-    }
-    memcpy(&area, &bytes, extent());
-    area.line.settings = bystrodol_fresh();
-    memset(parts[INDEX], 0, rooms[INDEX]);
-    memcpy(parts[RUN], handshake, sizeof handshake);
-}
-
-static void set_up_pages(size_t pages) { set_up_templates(pages * BYSTRODOL_PAGE_BYTES); }
-
-static void set_up(void) { set_up_templates(TEN_PAGES); }
-
-/* A part of no bytes is NULL. */
-static uint8_t *part(int i) { return lengths[i] ? parts[i] : NULL; }
-
-#define MEMORY part(TEMPLATES), lengths[TEMPLATES], part(INDEX), lengths[INDEX], part(NOTEPAD), lengths[NOTEPAD], \
-               part(BUFFER1), lengths[BUFFER1], part(BUFFER2), lengths[BUFFER2]
-
-static void step(void) {
-    save();
-    answer = bystrodol_step(&area.line.settings, MEMORY, part(RUN), lengths[RUN], part(REPLY), lengths[REPLY]);
-}
-
-/* Some bytes of the run are held, and the others are the piece. The bytes used are those that are neither held nor left of it. */
-static void receive(size_t held) {
-    memcpy(area.line.receiver.held, parts[RUN], held);
-    area.line.receiver.count = (uint16_t)held;
-    save();
-    struct bystrodol_received r = bystrodol_receive(&area.line, MEMORY, parts[RUN] + held, lengths[RUN] - held, part(REPLY), lengths[REPLY]);
-    answer.refusal = r.refusal;
-    answer.used = held + r.taken - area.line.receiver.count;
-    answer.length = r.length;
-}
-
-static void call(void) {
-    if (door == STEP) step();
-    else receive(door == HELD ? lengths[RUN] / 2 : 0);
-}
-
-/* A packet to the reader as it is. */
-static void send(uint8_t identifier, const uint8_t *content, size_t length) {
-    lengths[RUN] = bystrodol_build(0xFFFFFFFF, identifier, content, length, parts[RUN], rooms[RUN]);
-    call();
-}
-
-/* The receiver's padding means nothing. */
-static size_t unchanged(void) {
-    size_t padding = offsetof(struct bystrodol_receiver, held) + BYSTRODOL_HELD_MOST;
-    ((uint8_t *)&was.line.receiver)[padding] = ((uint8_t *)&area.line.receiver)[padding];
-    return differ((const uint8_t *)&area, (const uint8_t *)&was, extent());
-}
-
-/* A receiver that was called holds nothing now. */
-static void empty_what_was(void) {
-    if (door != STEP) memset(&was.line.receiver, 0, sizeof was.line.receiver);
-}
-
-/* The call is refused, and not a byte of the area changes. */
-static void refuses(const char *name, size_t which, uint8_t refusal) {
-    call();
-    check_of(name, which, "refusal", answer.refusal, refusal);
-    check_of(name, which, "bytes used", answer.used, 0);
-    check_of(name, which, "reply length", answer.length, 0);
-    check_of(name, which, "memory, settings and guards", unchanged(), extent());
-}
-
-/* Where a part lies in the area as it was. */
-static uint8_t *part_was(int i) { return was.parts + (parts[i] - area.parts); }
-
-/* The run is answered with these bytes, and nothing else of the area changes. */
-static void is_answered(const char *name, size_t which, const uint8_t *reply, size_t length) {
-    check_of(name, which, "refusal", answer.refusal, BYSTRODOL_ACCEPTED);
-    check_of(name, which, "bytes used", answer.used, lengths[RUN]);
-    check_of(name, which, "reply length", answer.length, length);
-    check_of(name, which, "reply", differ(parts[REPLY], reply, length), length);
-    memcpy(parts[REPLY], part_was(REPLY), length);
-    empty_what_was();
-    check_of(name, which, "memory, settings and guards", unchanged(), extent());
-}
-
-/* The same with a code alone. */
-static void is_said(const char *name, size_t which, uint8_t code) {
-    const uint8_t reply[] = {0xEF, 0x01, 0xFF, 0xFF, 0xFF, 0xFF, 0x07, 0x00, 0x03, code, 0x00, (uint8_t)(0x0A + code)};
-    is_answered(name, which, reply, sizeof reply);
-}
-
-static void is_done(const char *name, size_t which) { is_said(name, which, BYSTRODOL_CODE_DONE); }
-
-static void answers(const char *name, size_t which) {
-    call();
-    is_done(name, which);
-}
-
-/* The same where a transfer into a buffer is open: the handshake ends it. */
-static void answers_and_ends(const char *name, size_t which, int buffer) {
-    call();
-    was.line.settings.transfer = 0, was.line.settings.got = 0;
-    memset(part_was(buffer), 0, 512);
-    is_done(name, which);
-}
+#include "area.h"
 
 /* ---- lent lengths and the reply room */
 
@@ -274,22 +124,6 @@ static void order(void) {
 
 /* ---- the line switch */
 
-/* The receiver has what set_up left in it, a count above 267. */
-static uint8_t line_switch(void) {
-    save();
-    if (door == STEP) return bystrodol_line_switch(&area.line.settings, part(BUFFER1), lengths[BUFFER1], part(BUFFER2), lengths[BUFFER2]);
-    return bystrodol_receiver_switch(&area.line, part(BUFFER1), lengths[BUFFER1], part(BUFFER2), lengths[BUFFER2]);
-}
-
-/* What a line switch leaves of the area as it was. */
-static void switch_what_was(void) {
-    was.line.settings.verified = was.line.settings.filled1 = was.line.settings.filled2 = 0;
-    was.line.settings.transfer = 0, was.line.settings.got = 0;
-    memset(part_was(BUFFER1), 0, 512);
-    memset(part_was(BUFFER2), 0, 512);
-    empty_what_was();
-}
-
 static void switches(void) {
     for (int i = BUFFER1; i <= BUFFER2; i++)
         for (int wrong = 0; wrong < 3; wrong++) {
@@ -324,54 +158,6 @@ static void changes(void) {
 
 /* ---- the library's commands, in readers of many sizes: the page is two bytes, and the index 128 */
 
-static uint8_t *page_of(uint8_t *templates, size_t page) { return templates + BYSTRODOL_PAGE_BYTES * page; }
-
-static uint8_t bit_of(size_t page) { return (uint8_t)(1u << page % 8); }
-
-#define TWO(number) (uint8_t)((number) >> 8), (uint8_t)(number)
-
-/* A reader with both buffers filled and every page stored. */
-static void set_up_stored(size_t pages) {
-    set_up_pages(pages);
-    area.line.settings.filled1 = area.line.settings.filled2 = 1;
-    for (size_t page = 0; page < pages; page++) parts[INDEX][page / 8] |= bit_of(page);
-}
-
-static void take_bit(size_t page) { parts[INDEX][page / 8] &= (uint8_t)~bit_of(page); }
-
-static uint8_t number_of(int buffer) { return buffer == BUFFER1 ? 1 : 2; }
-
-static void send_store(int buffer, size_t page) {
-    const uint8_t store[] = {BYSTRODOL_COMMAND_STORE, number_of(buffer), TWO(page)};
-    send(BYSTRODOL_PACKET_COMMAND, store, sizeof store);
-}
-
-static void send_load(int buffer, size_t page) {
-    const uint8_t load[] = {BYSTRODOL_COMMAND_LOAD_CHAR, number_of(buffer), TWO(page)};
-    send(BYSTRODOL_PACKET_COMMAND, load, sizeof load);
-}
-
-static void send_delete(size_t page, size_t n) {
-    const uint8_t delete[] = {BYSTRODOL_COMMAND_DELET_CHAR, TWO(page), TWO(n)};
-    send(BYSTRODOL_PACKET_COMMAND, delete, sizeof delete);
-}
-
-/* Store to a vacant page puts the buffer there, and sets the bit. */
-static void is_stored(const char *name, int buffer, size_t page) {
-    send_store(buffer, page);
-    memcpy(page_of(part_was(TEMPLATES), page), part_was(buffer), BYSTRODOL_PAGE_BYTES);
-    part_was(INDEX)[page / 8] |= bit_of(page);
-    is_done(name, page);
-}
-
-/* DeletChar zeroes the pages, and clears their bits. */
-static void is_deleted(const char *name, size_t page, size_t n) {
-    send_delete(page, n);
-    memset(page_of(part_was(TEMPLATES), page), 0, n * BYSTRODOL_PAGE_BYTES);
-    for (size_t q = page; q < page + n; q++) part_was(INDEX)[q / 8] &= (uint8_t)~bit_of(q);
-    is_done(name, page);
-}
-
 /* Store to a stored page: 22h, and nothing changes. Once the page is deleted it is stored on. Where it says same, the page has the
  * buffer's bytes. */
 static void is_kept(size_t pages, int buffer, size_t page, int same) {
@@ -391,13 +177,11 @@ static void is_vacant(size_t pages, size_t page) {
 }
 
 /* LoadChar gives the page's own bytes; of a vacant page it is 0Ch. */
-static void is_loaded(size_t pages, size_t page) {
+static void is_given(size_t pages, size_t page) {
     set_up_stored(pages);
     area.line.settings.filled2 = 0;
-    send_load(BUFFER2, page);
-    memcpy(part_was(BUFFER2), page_of(part_was(TEMPLATES), page), BYSTRODOL_PAGE_BYTES);
-    was.line.settings.filled2 = 1;
-    is_done("LoadChar of a stored page", page);
+    is_loaded("LoadChar of a stored page", BUFFER2, page);
+    set_up_stored(pages);
     take_bit(page);
     send_load(BUFFER1, page);
     is_said("LoadChar of a vacant page", page, BYSTRODOL_CODE_NOTHING_THERE);
@@ -423,7 +207,7 @@ static void library(size_t pages, size_t from, size_t n) {
             is_kept(pages, BUFFER2, page, same);
         }
         is_vacant(pages, page);
-        is_loaded(pages, page);
+        is_given(pages, page);
     }
 }
 
@@ -445,17 +229,13 @@ static void no_pages(size_t pages) {
 
 /* DeletChar of many pages, across page 256 too, and Empty. */
 static void deleted_pages(size_t pages) {
-    static const uint8_t empty = BYSTRODOL_COMMAND_EMPTY;
     set_up_stored(pages);
     is_deleted("DeletChar of no page", pages - 1, 0);
     is_deleted("DeletChar of pages about the middle", pages / 4, pages / 2);
     is_deleted("DeletChar of the last pages", pages - 1 - pages / 8, 1 + pages / 8);
     is_deleted("DeletChar of all pages", 0, pages);
     set_up_stored(pages);
-    send(BYSTRODOL_PACKET_COMMAND, &empty, 1);
-    memset(part_was(TEMPLATES), 0, lengths[TEMPLATES]);
-    memset(part_was(INDEX), 0, BYSTRODOL_INDEX_BYTES);
-    is_done("Empty", pages);
+    is_emptied("Empty", pages);
 }
 
 /* ReadIndexTable gives 32 bytes of the index at each page from 0 to 3, and from page 4 on it is 0Bh. */
@@ -575,6 +355,7 @@ static void counted(void) {
 
 /* A reader with a password: the mark decides whether a command is barred, and no byte but 1 opens it. */
 static void opened_by(uint8_t byte) {
+    static const uint8_t count[] = {0xEF, 0x01, 0xFF, 0xFF, 0xFF, 0xFF, 0x01, 0x00, 0x03, 0x1D, 0x00, 0x21};
     static const uint8_t none[] = {0xEF, 0x01, 0xFF, 0xFF, 0xFF, 0xFF, 0x07, 0x00, 0x05, 0x00, 0x00, 0x00, 0x00, 0x0C};
     set_up();
     area.line.settings.password[0] = 0x80;
@@ -621,11 +402,21 @@ static void make_nearly_legal(void) {
     for (int i = 0; i < 3; i++)
         if (random_byte() % 16) *marks[i] &= 1;
     if (random_byte() % 2) memset(s->password, 0, 4);
+    for (int buffer = BUFFER1; buffer <= BUFFER2; buffer++) {
+        uint16_t *origin = origin_of(s, buffer);
+        if (random_byte() % 16) *origin = (uint16_t)(*mark_of(s, buffer) == 1 && random_byte() % 2 ? *origin % 10 : BYSTRODOL_NO_PAGE);
+    }
+}
+
+/* Of ten pages: none, or one that is stored, of a filled buffer. */
+static int is_origin(uint16_t origin, uint8_t mark) {
+    return origin == BYSTRODOL_NO_PAGE || (origin < 10 && (parts[INDEX][origin / 8] & bit_of(origin)) && mark == 1);
 }
 
 static int is_legal(const struct bystrodol_settings *s) {
     int is_open = s->verified || !(s->password[0] | s->password[1] | s->password[2] | s->password[3]);
     if (s->verified > 1 || s->filled1 > 1 || s->filled2 > 1) return 0;
+    if (!is_origin(s->origin1, s->filled1) || !is_origin(s->origin2, s->filled2)) return 0;
     if (s->level < 1 || s->level > 5 || s->size > 3 || s->baud < 1 || s->baud > 12) return 0;
     if (s->transfer == 0) return s->got == 0;
     return s->transfer <= 2 && s->got < 512 && s->got % (32 << s->size) == 0 && is_open && !(s->transfer == 1 ? s->filled1 : s->filled2);
@@ -644,7 +435,7 @@ static void any_settings_called(size_t which) {
     bystrodol_build(address, BYSTRODOL_PACKET_COMMAND, &hand_shake, 1, parts[RUN], lengths[RUN]);
     bystrodol_build(address, BYSTRODOL_PACKET_ACKNOWLEDGE, &code, 1, reply, sizeof reply);
     call();
-    if (was.line.settings.transfer) memset(part_was(was.line.settings.transfer == 1 ? BUFFER1 : BUFFER2), 0, 512);
+    if (was.line.settings.transfer) wipe_what_was(was.line.settings.transfer == 1 ? BUFFER1 : BUFFER2);
     was.line.settings.transfer = 0, was.line.settings.got = 0;
     is_answered("settings of random bytes", which, reply, sizeof reply);
 }
@@ -653,6 +444,7 @@ static void any_settings(void) {
     size_t legal = 0;
     for (size_t i = 0; i < 4096; i++) {
         set_up();
+        parts[INDEX][0] = 0x7B, parts[INDEX][1] = 0x02;
         fill_settings();
         if (i % 4) make_nearly_legal();
         legal += (size_t)is_legal(&area.line.settings);
@@ -734,31 +526,28 @@ static void unfinished(void) {
 }
 
 static void fresh(void) {
-    static const uint8_t bytes[] = {0, 0, 0, 0, 0xFF, 0xFF, 0xFF, 0xFF, 3, 2, 6, 0, 0, 0, 0, 0, 0, 0, 0, 0};
+    static const uint8_t bytes[] = {0, 0, 0, 0, 0xFF, 0xFF, 0xFF, 0xFF, 3, 2, 6, 0, 0, 0, 0, 0, 0, 0, 0, 0, 0xFF, 0xFF, 0xFF, 0xFF};
     struct bystrodol_settings s = bystrodol_fresh();
     check("fresh settings", differ((const uint8_t *)&s, bytes, sizeof bytes), sizeof bytes);
 }
 
-static const char *const door_names[DOORS] = {"bystrodol_step", "bystrodol_receive, all offered", "bystrodol_receive, half held"};
+static void checks(void) {
+    bad_lengths();
+    bad_rooms();
+    bad_settings();
+    bad_bits();
+    order();
+    switches();
+    changes();
+    libraries();
+    counted();
+    any_marks();
+    any_settings();
+    named_codes();
+}
 
 int main(void) {
-    fill_bytes();
     fresh();
     unfinished();
-    for (door = STEP; door < DOORS && !failed; door++) {
-        bad_lengths();
-        bad_rooms();
-        bad_settings();
-        bad_bits();
-        order();
-        switches();
-        changes();
-        libraries();
-        counted();
-        any_marks();
-        any_settings();
-        named_codes();
-        if (failed) dprintf(STDERR_FILENO, "reader: called by %s\n", door_names[door]);
-    }
-    return report("reader");
+    return by_all_doors("reader", checks);
 }

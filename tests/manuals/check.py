@@ -17,9 +17,11 @@ import sys
 DATA = os.path.join(os.path.dirname(os.path.abspath(__file__)), "packets.txt")
 SECONDS = 300
 
-# The settings in the order of a frame: four bytes, numbers of one and two bytes, marks.
-SETTINGS = ("password", "address", "level", "size", "baud", "transfer", "type", "got", "verified", "filled1", "filled2")
-LAYOUT = ">4s4sBBBBHHBBB"
+# The settings in the order of a frame: four bytes, numbers of one and two bytes, marks, origins.
+SETTINGS = ("password", "address", "level", "size", "baud", "transfer", "type", "got", "verified", "filled1", "filled2",
+            "origin1", "origin2")
+LAYOUT = ">4s4sBBBBHHBBBHH"
+NO_PAGE = 0xFFFF
 MEMORY = ("templates", "index", "notepad", "buffer1", "buffer2")
 PAGE = 512
 INDEX = 128
@@ -43,7 +45,7 @@ class Reader:
 
     def __init__(self, capacity):
         self.settings = dict.fromkeys(SETTINGS, 0)
-        self.settings.update(password=bytes(4), address=b"\xff" * 4, level=3, size=2, baud=6)
+        self.settings.update(password=bytes(4), address=b"\xff" * 4, level=3, size=2, baud=6, origin1=NO_PAGE, origin2=NO_PAGE)
         self.memory = {"templates": bytes(PAGE * capacity), "index": bytes(INDEX), "notepad": bytes(512),
                        "buffer1": bytes(512), "buffer2": bytes(512)}
 
@@ -92,6 +94,7 @@ READERS = {
     "wide": with_buffer1(changed(filled(), size=3), 0xA5),
     "awaiting": with_buffer1(changed(filled(), size=3, transfer=1, filled1=0), 0),
     "halfway": in_transfer(size=3),
+    "copied": changed(filled(), origin1=9, origin2=63),
 }
 
 
@@ -121,6 +124,9 @@ def expected_reader(put):
         name, *what = change.split()
         if change == "no transfer":
             reader.settings.update(transfer=0, got=0)
+        elif what == ["wiped"] and name in ("buffer1", "buffer2"):
+            reader.memory[name] = bytes(512)
+            reader.settings.update({"filled" + name[-1]: 0, "origin" + name[-1]: NO_PAGE})
         elif what == ["zeroed"] and name in MEMORY:
             reader.memory[name] = bytes(len(reader.memory[name]))
         elif what[:1] == ["from"] and name in MEMORY:

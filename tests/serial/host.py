@@ -153,6 +153,7 @@ def enrol(host, number):
     host.upload(2, bytes(template))
 
     host.ask("DeletChar", b"\x0c" + two_bytes(page) + two_bytes(1))
+    host.ask("UpChar, loaded from the page deleted", b"\x08\x02", 0x0D)
     host.ask("LoadChar, deleted", b"\x07\x01" + two_bytes(page), 0x0C)
     host.ask("TempleteNum, deleted", b"\x1d", 0, two_bytes(0))
     host.ask("ReadIndexTable, deleted", b"\x1f\x00", 0, index([]))

@@ -140,6 +140,8 @@ one-stored s z t i n b c t′ i′ n′ b′ c′ e =
             filled1 = e j .marks .filled1;
             filled2 = e j .marks .filled2;
             spare = e j .marks .spare;
+            origin1 = r .settings j .origin1;
+            origin2 = r .settings j .origin2;
           },
       r,
     )

@@ -29,7 +29,7 @@ pub stored-read : (spare : ℕ) (s : Settings) (t i n b c : List ℕ) → stored
 unfolding stored
 stored-read spare s t i n b c =
     ap (λ (m : Bool × (Bool × Bool)). record {
-      reader = readerOf record { password = s .password; address = s .address; level = s .level; size = s .size; baud = s .baud; transfer = s .transfer; sensor = s .sensor; got = s .got; verified = m .0; filled1 = m .1 .0; filled2 = m .1 .1 } t i n b c;
+      reader = readerOf record { password = s .password; address = s .address; level = s .level; size = s .size; baud = s .baud; transfer = s .transfer; sensor = s .sensor; got = s .got; verified = m .0; filled1 = m .1 .0; filled2 = m .1 .1; origin1 = s .origin1; origin2 = s .origin2 } t i n b c;
       marks = marksOf (storedAt spare s);
     }) (λ j. (mark-read (s .verified) j, (mark-read (s .filled1) j, mark-read (s .filled2) j)))
 

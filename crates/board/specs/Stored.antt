@@ -58,6 +58,8 @@ settingsAt level s =
       verified = isSet (s .verified);
       filled1 = isSet (s .filled1);
       filled2 = isSet (s .filled2);
+      origin1 = s .origin1;
+      origin2 = s .origin2;
     }
 
 abbrev pub settingsOf : StoredSettings → Settings

@@ -21,6 +21,8 @@ storedAt spare s =
       filled1 = markOf (s .filled1);
       filled2 = markOf (s .filled2);
       spare = spare;
+      origin1 = s .origin1;
+      origin2 = s .origin2;
     }
 
 -- the old record where the call was refused

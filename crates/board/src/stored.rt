@@ -5,17 +5,18 @@ ghost use mathlib.Core.Bool.{cond};
 ghost use mathlib.Core.List.{List};
 ghost use Prim.Native.Nat.{ℕ};
 ghost use Rattle.protocol.specs.Records.{lentOf};
-ghost use Rattle.board.specs.Stored.{markOf, fitMarks, marksOf, settingsAt, storedReaderOf, storedFreshOf, storedCallOf, storedSwitchOf, storedEndOf, storedSwitchedOf};
+ghost use Rattle.board.specs.Stored.{fitMarks, marksOf, settingsAt, storedReaderOf, storedFreshOf, storedCallOf, storedSwitchOf, storedEndOf, storedSwitchedOf};
 ghost use Rattle.board.specs.Storing.{storedAt, keptOf};
 use protocol::Settings;
 use protocol::refusals;
 use reader::call;
 use rules::settings;
+use wire::bytes;
 
 // A level that is not legal.
 const NO_LEVEL: u8 = 0;
 
-// The settings record of C, twenty bytes. A mark is 0 or 1; the spare byte is any, and is kept.
+// The settings record of C, twenty-four bytes. A mark is 0 or 1; the spare byte is any, and is kept; an origin is a page, or FFFFh for none.
 #[repr(C)]
 pub struct StoredSettings {
     pub password: [u8; 4],
@@ -30,6 +31,8 @@ pub struct StoredSettings {
     pub filled1: u8,
     pub filled2: u8,
     pub spare: u8,
+    pub origin1: u16,
+    pub origin2: u16,
 }
 
 // What a call returns: the settings after it, the refusal or 0, the bytes used, and the reply's length.
@@ -85,13 +88,9 @@ pub(crate) fn read(s: StoredSettings, level: u8) -> Settings
         verified: s.verified == 1,
         filled1: s.filled1 == 1,
         filled2: s.filled2 == 1,
+        origin1: s.origin1,
+        origin2: s.origin2,
     }
-}
-
-fn mark_of(on: bool) -> u8
-    ensures { λ r. ⌜ r ≡ markOf on ⌝ }
-{
-    if on { 1 } else { 0 }
 }
 
 // The settings as C stores them.
@@ -109,10 +108,12 @@ fn store(s: Settings, spare: u8) -> StoredSettings
         transfer: s.transfer,
         sensor: s.sensor,
         got: s.got,
-        verified: mark_of(s.verified),
-        filled1: mark_of(s.filled1),
-        filled2: mark_of(s.filled2),
+        verified: bytes::flag(s.verified),
+        filled1: bytes::flag(s.filled1),
+        filled2: bytes::flag(s.filled2),
         spare,
+        origin1: s.origin1,
+        origin2: s.origin2,
     }
 }
 

@@ -32,6 +32,26 @@ pub fn has_bit(index: &[u8], p: usize) -> bool
     false
 }
 
+// The byte at a place, 0 where the index has none. Every byte is looked at, and counts once or not at all: so neither a branch nor an address goes by the place.
+// How far the place still is, is counted down in a byte of its own, which lets the compiler take sixteen bytes at a time.
+pub fn byte_of(index: &[u8], at: u8) -> u8
+    ensures { λ r. ⌜ r ≡ byteAt (now (index .entry)) at ⌝ }
+{
+    let mut end = index.len();
+    if 256 < end {
+        end = 256;
+    }
+    let mut found = 0u8;
+    let mut left = at;
+    let mut i = 0;
+    while i < end {
+        found = found | index[i] * bytes::flag(left == 0);
+        left = std::num::wrapping_sub_u8(left, 1);
+        i += 1;
+    }
+    found
+}
+
 pub fn set_bit(index: &mut [u8], p: usize)
     ensures { λ _. ⌜ now (index .exit) ≡ setBit (now (index .entry)) p ⌝ }
 {

@@ -8,7 +8,7 @@ use Rattle.board.specs.declared.lines.StoredReceived.{StoredReceived}
 abbrev pub lengthAt : List ℕ → ℕ → ℕ
 lengthAt f i = wordAt f i * 65536 + wordAt f (i + 2)
 
--- password, address, level, size code, baud factor, transfer, sensor type, bytes got, verified mark, both filled marks; a mark is any byte
+-- password, address, level, size code, baud factor, transfer, sensor type, bytes got, verified mark, both filled marks, both origins; a mark is any byte
 abbrev pub settingsOf : List ℕ → StoredSettings
 settingsOf f =
     record {
@@ -24,11 +24,13 @@ settingsOf f =
       filled1 = byteAt f 18;
       filled2 = byteAt f 19;
       spare = 0;
+      origin1 = wordAt f 20;
+      origin2 = wordAt f 22;
     }
 
--- the held count of a receiver
-abbrev pub countOf : ℕ → List ℕ
-countOf n = n / 256 ∷ n % 256 ∷ []
+-- a number as its two bytes
+abbrev pub wordOf : ℕ → List ℕ
+wordOf n = n / 256 ∷ n % 256 ∷ []
 
 -- the refusal, the bytes used or taken, the reply's length, and the settings
 abbrev pub headOf : StoredReceived → List ℕ
@@ -40,4 +42,5 @@ headOf c =
     ∷ byteAt (s .address) 0 ∷ byteAt (s .address) 1 ∷ byteAt (s .address) 2 ∷ byteAt (s .address) 3
     ∷ s .level ∷ s .size ∷ s .baud ∷ s .transfer
     ∷ s .sensor / 256 ∷ s .sensor % 256 ∷ s .got / 256 ∷ s .got % 256
-    ∷ s .verified ∷ s .filled1 ∷ s .filled2 ∷ []
+    ∷ s .verified ∷ s .filled1 ∷ s .filled2
+    ∷ s .origin1 / 256 ∷ s .origin1 % 256 ∷ s .origin2 / 256 ∷ s .origin2 % 256 ∷ []

@@ -3,7 +3,7 @@ ghost use mathlib.Core.Path.{_≡_};
 ghost use Prim.Native.Nat.{_+_, _≤_};
 ghost use lib.ListN.{length};
 ghost use Rattle.protocol.specs.Bytes.{wordAt};
-ghost use Rattle.probe.specs.Frame.{lengthAt, settingsOf, countOf, headOf};
+ghost use Rattle.probe.specs.Frame.{lengthAt, settingsOf, wordOf, headOf};
 use board::lines::StoredReceived;
 use board::stored::StoredSettings;
 use wire::bytes;
@@ -26,7 +26,7 @@ pub(crate) fn length_at(head: &[u8], at: usize) -> usize
 
 // The settings of a frame in, a mark as the byte that it is. A frame has no spare byte.
 pub(crate) fn settings_of(head: &[u8]) -> StoredSettings
-    requires { ⌜ 20 ≤ length (now head) ⌝ }
+    requires { ⌜ 24 ≤ length (now head) ⌝ }
     ensures { λ r. ⌜ r ≡ settingsOf (now (head .entry)) ⌝ }
 {
     StoredSettings {
@@ -42,24 +42,30 @@ pub(crate) fn settings_of(head: &[u8]) -> StoredSettings
         filled1: head[18],
         filled2: head[19],
         spare: 0,
+        origin1: word_at(head, 20) as u16,
+        origin2: word_at(head, 22) as u16,
     }
 }
 
-// The held count of a frame out.
-pub(crate) fn count_of(count: u16) -> [u8; 2]
-    ensures { λ r. ⌜ r ≡ countOf count ⌝ }
+// A number as its two bytes.
+pub(crate) fn word_of(n: u16) -> [u8; 2]
+    ensures { λ r. ⌜ r ≡ wordOf n ⌝ }
 {
-    [(count / 256) as u8, (count % 256) as u8]
+    [(n / 256) as u8, (n % 256) as u8]
 }
 
 // The head of a frame out: the refusal, the bytes used or taken, the reply's length, and the settings.
-pub(crate) fn head_of(c: StoredReceived) -> [u8; 28]
+pub(crate) fn head_of(c: StoredReceived) -> [u8; 32]
     ensures { λ r. ⌜ r ≡ headOf c ⌝ }
 {
     let line = c.line;
     let s = line.settings;
     let p = s.password;
     let a = s.address;
+    let sensor = word_of(s.sensor);
+    let got = word_of(s.got);
+    let first = word_of(s.origin1);
+    let second = word_of(s.origin2);
     [
         c.refusal,
         (c.taken / 16777216 % 256) as u8,
@@ -82,12 +88,16 @@ pub(crate) fn head_of(c: StoredReceived) -> [u8; 28]
         s.size,
         s.baud,
         s.transfer,
-        (s.sensor / 256) as u8,
-        (s.sensor % 256) as u8,
-        (s.got / 256) as u8,
-        (s.got % 256) as u8,
+        sensor[0],
+        sensor[1],
+        got[0],
+        got[1],
         s.verified,
         s.filled1,
         s.filled2,
+        first[0],
+        first[1],
+        second[0],
+        second[1],
     ]
 }

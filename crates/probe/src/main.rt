@@ -13,7 +13,7 @@ use protocol::Receiver;
 use protocol::numbers;
 
 // The bytes of a frame in before its receiver and its memory.
-const HEAD: usize = 48;
+const HEAD: usize = 52;
 
 // The most bytes of each memory, so that wrong lengths can be tried: a page more than the most pages, and room past the other lengths. What is refused says them.
 const MOST_TEMPLATES: usize = (numbers::MOST_PAGES + 1) * numbers::PAGE;
@@ -88,7 +88,7 @@ fn send_receiver(op: u8, receiver: Receiver) -> bool {
         return true;
     }
     let cells = receiver.held;
-    send(&frame::count_of(receiver.count)) && send(&cells)
+    send(&frame::word_of(receiver.count)) && send(&cells)
 }
 
 // Writes a frame out: its head, the receiver, and the memory.
@@ -192,13 +192,13 @@ fn answer(
     if 5 < op {
         return complain(b"probe: a frame starts with 0, 1, 2, 3, 4 or 5\n");
     }
-    let t = frame::length_at(head, 20);
-    let i = frame::length_at(head, 24);
-    let n = frame::length_at(head, 28);
-    let b = frame::length_at(head, 32);
-    let c = frame::length_at(head, 36);
-    let s = frame::length_at(head, 40);
-    let r = frame::length_at(head, 44);
+    let t = frame::length_at(head, 24);
+    let i = frame::length_at(head, 28);
+    let n = frame::length_at(head, 32);
+    let b = frame::length_at(head, 36);
+    let c = frame::length_at(head, 40);
+    let s = frame::length_at(head, 44);
+    let r = frame::length_at(head, 48);
     if templates.len() < t {
         return complain(b"probe: more than 512512 bytes of templates, 1001 pages\n");
     }

@@ -6,9 +6,11 @@ pub mod Index
 pub mod Count
 pub mod Finder
 pub mod Effects
+pub mod Origins
 pub mod Commands
 pub mod Answers
 pub mod Legal
+pub mod Proper
 pub mod Locked
 pub mod Growth
 pub mod Drain

@@ -27,6 +27,8 @@ pub mod Untouched
 pub mod Ones
 pub mod Thousand
 pub mod BroughtOver
+pub mod DeletedFinger
+pub mod Faithful
 pub mod SizeCode
 pub mod FirstDownload
 pub mod Lock

@@ -8,8 +8,8 @@ use lib.ListN.{length, take}
 use Rattle.protocol.specs.Numbers.{pageBytes, leastPages, mostPages, indexBytes, notepadBytes, fourBytes, replyRoom, lowestLevel, highestLevel, lowestBaud, highestBaud, highestSize, badLength, badRoom, badSetting}
 use Rattle.protocol.specs.Bytes.{Bytes, lay}
 use Rattle.protocol.specs.Tests.{verdict, within}
-use Rattle.protocol.specs.Index.{clearFrom}
-use Rattle.protocol.specs.Reader.{Transfer, closed, opened, unfit, Plain, Guarded, Reader, capacity, sizeOf, locked, bufferOf}
+use Rattle.protocol.specs.Index.{stored, clearFrom}
+use Rattle.protocol.specs.Reader.{Transfer, closed, opened, unfit, Plain, Origin, noOrigin, fromPage, Guarded, Reader, capacity, sizeOf, locked, bufferOf}
 use Rattle.protocol.specs.Step.{Outcome, stepOf, switched}
 
 -- ---- legal readers
@@ -55,9 +55,19 @@ fitTransfer p g closed = true
 fitTransfer p g (opened w got) = eqb (got % sizeOf (p .size)) 0 && ltb got pageBytes && not (bufferOf w g .filled) && not (locked p)
 fitTransfer p g (unfit b k) = false
 
--- 3: a setting or transfer is not legal, or an index bit at or above C is set
+-- an origin is a page below C that is stored, and its buffer is filled; of c pages, an index, and the buffer's mark
+unfoldable pub fitOrigin : ℕ → List ℕ → Bool → Origin → Bool
+fitOrigin c x mark noOrigin = true
+fitOrigin c x mark (fromPage p) = ltb p c && stored x p && mark
+
+unfoldable pub fitOrigins : Guarded → Bool
+fitOrigins g =
+    fitOrigin (capacity g) (g .index) (g .buffer1 .filled) (g .buffer1 .origin) && fitOrigin (capacity g) (g .index) (g .buffer2 .filled) (g .buffer2 .origin)
+
+-- 3: a setting or transfer is not legal, an index bit at or above C is set, or an origin is not legal
 unfoldable pub sound : Reader → Bool
-sound r = fitPlain (r .plain) && fitTransfer (r .plain) (r .guarded) (r .plain .transfer) && clearFrom (r .guarded .index) (capacity (r .guarded))
+sound r =
+    fitPlain (r .plain) && fitTransfer (r .plain) (r .guarded) (r .plain .transfer) && clearFrom (r .guarded .index) (capacity (r .guarded)) && fitOrigins (r .guarded)
 
 -- a legal reader gets none of refusals 1 to 3 where its reply room is fit
 unfoldable pub legal : Shape → Reader → Bool

@@ -50,7 +50,8 @@ dialogue σ r (e ∷ es) =
     let o = on σ r e in
     first e (o .told) (cond (o .after .plain .verified) (over (o .after)) (dialogue σ (o .after) es))
 
--- these contents stay as they were, save that a line switch wipes the two buffers and clears their filled marks
+-- these contents stay as they were, save that a line switch wipes the two buffers and clears their filled marks; by request [7] their origins are among these
+-- contents, and a line switch makes them none
 unfoldable pub kept : Guarded → List Event → Guarded
 kept g [] = g
 kept g (received s lent ∷ es) = kept g es

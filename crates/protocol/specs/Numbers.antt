@@ -206,6 +206,10 @@ badContent = 4
 abbrev pub noCount : ℕ
 noCount = 0xffff
 
+-- the number that stands for no origin in a settings record, by request [7]
+abbrev pub noPage : ℕ
+noPage = 0xffff
+
 -- ---- not document 01's: where the code's numbers of places and lengths wrap
 
 abbrev pub wrapsAt : ℕ

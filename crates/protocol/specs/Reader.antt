@@ -13,7 +13,7 @@ pub data Transfer : Type 0 where
   -- two numbers of a settings record that name no buffer
   unfit : ℕ → ℕ → Transfer
 
--- the settings, but for the filled marks
+-- the settings, but for the filled marks and the origins
 pub record Plain : Type 0 where
   pub password : List ℕ
   pub address : List ℕ
@@ -24,12 +24,18 @@ pub record Plain : Type 0 where
   pub verified : Bool
   pub transfer : Transfer
 
--- a character buffer and its filled mark
+-- a buffer's origin, by request [7]: none, or a page
+pub data Origin : Type 0 where
+  noOrigin : Origin
+  fromPage : ℕ → Origin
+
+-- a character buffer, its filled mark and its origin
 pub record Buffer : Type 0 where
   pub bytes : List ℕ
   pub filled : Bool
+  pub origin : Origin
 
--- guarded contents: templates, index, notepad, both buffers and their filled marks
+-- guarded contents: templates, index, notepad, both buffers, their filled marks and their origins
 pub record Guarded : Type 0 where
   pub templates : List ℕ
   pub index : List ℕ
@@ -62,10 +68,24 @@ unfoldable pub bufferOf : Bool → Guarded → Buffer
 bufferOf second g = cond second (g .buffer2) (g .buffer1)
 
 unfoldable pub emptied : Buffer
-emptied = record { bytes = zeros pageBytes; filled = false }
+emptied = record { bytes = zeros pageBytes; filled = false; origin = noOrigin }
 
-unfoldable pub filledWith : List ℕ → Buffer
-filledWith b = record { bytes = b; filled = true }
+-- filled with the bytes of page p, which is its origin
+unfoldable pub loadedFrom : ℕ → List ℕ → Buffer
+loadedFrom p b = record { bytes = b; filled = true; origin = fromPage p }
+
+-- stored on page p, which is its origin; its bytes and its mark stay
+unfoldable pub storedOn : ℕ → Buffer → Buffer
+storedOn p b = record { bytes = b .bytes; filled = b .filled; origin = fromPage p }
+
+-- is an origin one of these pages?
+unfoldable pub isOneOf : (ℕ → Bool) → Origin → Bool
+isOneOf pages noOrigin = false
+isOneOf pages (fromPage p) = pages p
+
+-- these pages are deleted: a buffer whose origin is one of them is zeroed and unmarked, and its origin is none
+unfoldable pub without : (ℕ → Bool) → Buffer → Buffer
+without pages b = cond (isOneOf pages (b .origin)) emptied b
 
 -- ---- a reader with one part anew (there is no record update)
 
@@ -99,6 +119,10 @@ withNotepad n g = contents (g .templates) (g .index) n (g .buffer1) (g .buffer2)
 
 unfoldable pub withBuffer : Bool → Buffer → Guarded → Guarded
 withBuffer second b g = contents (g .templates) (g .index) (g .notepad) (cond second (g .buffer1) b) (cond second b (g .buffer2))
+
+-- both buffers, once these pages are deleted
+unfoldable pub withoutPages : (ℕ → Bool) → Guarded → Guarded
+withoutPages pages g = contents (g .templates) (g .index) (g .notepad) (without pages (g .buffer1)) (without pages (g .buffer2))
 
 abbrev pub reader : Plain → Guarded → Reader
 reader p g = record { plain = p; guarded = g }

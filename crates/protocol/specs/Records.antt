@@ -1,16 +1,18 @@
 -- From the code's records and lent memory to the reader and the outcomes of the definitions. Different records give different readers.
-use mathlib.Core.Bool.{Bool, true, false}
+use mathlib.Core.Bool.{Bool, true, false, cond}
 use mathlib.Core.List.{List, []}
 use Prim.Native.Nat.{ℕ, zero, suc}
+use lib.Dec.{eqb}
 use Rattle.protocol.specs.declared.Settings.{Settings}
 use Rattle.protocol.specs.declared.Called.{Called}
 use Rattle.protocol.specs.declared.Switched.{Switched}
 use Rattle.protocol.specs.declared.Built.{Built}
 use Rattle.protocol.specs.declared.Received.{Received}
 use Rattle.protocol.specs.declared.Emptied.{Emptied}
+use Rattle.protocol.specs.Numbers.{noPage}
 use Rattle.protocol.specs.Packet.{Made}
 use Rattle.protocol.specs.BringOver.{Brought}
-use Rattle.protocol.specs.Reader.{Transfer, closed, opened, unfit, Plain, Buffer, Reader, settings, fresh, contents, reader}
+use Rattle.protocol.specs.Reader.{Transfer, closed, opened, unfit, Plain, Origin, noOrigin, fromPage, Buffer, Reader, settings, fresh, contents, reader}
 use Rattle.protocol.specs.Call.{Lent, Ended}
 use Rattle.protocol.specs.Receiver.{line, Handed}
 
@@ -26,12 +28,17 @@ abbrev pub plainOf : Settings → Plain
 plainOf s =
     settings (s .password) (s .address) (s .level) (s .size) (s .baud) (s .sensor) (s .verified) (transferOf (s .transfer) (s .got))
 
-abbrev pub buffer : List ℕ → Bool → Buffer
-buffer b f = record { bytes = b; filled = f }
+-- the origin of a settings' number: FFFFh is none
+unfoldable pub originOf : ℕ → Origin
+originOf n = cond (eqb n noPage) noOrigin (fromPage n)
+
+-- bytes, filled mark, and the origin's number
+abbrev pub buffer : List ℕ → Bool → ℕ → Buffer
+buffer b f o = record { bytes = b; filled = f; origin = originOf o }
 
 -- settings, templates, index, notepad, both buffers
 abbrev pub readerOf : Settings → List ℕ → List ℕ → List ℕ → List ℕ → List ℕ → Reader
-readerOf s t i n b c = reader (plainOf s) (contents t i n (buffer b (s .filled1)) (buffer c (s .filled2)))
+readerOf s t i n b c = reader (plainOf s) (contents t i n (buffer b (s .filled1) (s .origin1)) (buffer c (s .filled2) (s .origin2)))
 
 -- what is lent anew at a call: the reply room
 abbrev pub lentOf : List ℕ → Lent
@@ -66,9 +73,9 @@ emptiedOf s t i n b d =
       after = line (readerOf (s .settings) t i n b d) (s .receiver);
     }
 
--- fresh settings have their filled marks clear too
+-- fresh settings have their filled marks clear too, and no origins
 abbrev pub freshOf : List ℕ → List ℕ → List ℕ → List ℕ → List ℕ → Reader
-freshOf t i n b d = reader fresh (contents t i n (buffer b false) (buffer d false))
+freshOf t i n b d = reader fresh (contents t i n (buffer b false noPage) (buffer d false noPage))
 
 abbrev pub madeOf : Built → List ℕ → Made
 madeOf b room = record { refusal = b .refusal; length = b .length; room = room }

@@ -11,7 +11,7 @@ use Rattle.protocol.specs.Bytes.{same, lay, follow}
 use Rattle.protocol.specs.Tests.{verdict}
 use Rattle.protocol.specs.Packet.{addressAt, identifierAt, contentAt, rightAt}
 use Rattle.protocol.specs.Finder.{findOf, usedOf}
-use Rattle.protocol.specs.Reader.{Transfer, closed, opened, unfit, Plain, Guarded, Reader, sizeOf, locked, bufferOf, emptied, filledWith, withMark, withTransfer, withBuffer, contents, reader}
+use Rattle.protocol.specs.Reader.{Transfer, closed, opened, unfit, Plain, Buffer, Guarded, Reader, sizeOf, locked, bufferOf, emptied, withMark, withTransfer, withBuffer, contents, reader}
 use Rattle.protocol.specs.Commands.{Command, free, barred, Order, damaged, unknown, misfit, command, orderOf}
 use Rattle.protocol.specs.Data.{acknowledge}
 use Rattle.protocol.specs.Table.{Row, rule, apply, FreeRow, freeRule, publicOf}
@@ -94,16 +94,18 @@ fits p got last right content =
     let z = sizeOf (p .size) in
     right && eqb (length content) z && cond last (eqb (got + z) pageBytes) (ltb (got + z) pageBytes)
 
+-- a buffer with these bytes at a place, and this mark
+abbrev pub laidIn : ℕ → List ℕ → Bool → Buffer → Buffer
+laidIn at content mark b = record { bytes = lay at content (b .bytes); filled = mark; origin = b .origin }
+
 -- the bytes go in at the place reached; the last sets the filled mark and closes; what does not fit is 0Eh
 unfoldable pub takeAs : Reader → Bool → ℕ → List ℕ → Bool → Bool → Said
 takeAs r w got content false last = says (ended r (opened w got)) transferFailed
 takeAs r w got content true false =
     let b = bufferOf w (r .guarded) in
-    silence
-    (reader (withTransfer (opened w (got + sizeOf (r .plain .size))) (r .plain))
-    (withBuffer w record { bytes = lay got content (b .bytes); filled = b .filled } (r .guarded)))
+    silence (reader (withTransfer (opened w (got + sizeOf (r .plain .size))) (r .plain)) (withBuffer w (laidIn got content (b .filled) b) (r .guarded)))
 takeAs r w got content true true =
-    silence (reader (withTransfer closed (r .plain)) (withBuffer w (filledWith (lay got content (bufferOf w (r .guarded) .bytes))) (r .guarded)))
+    silence (reader (withTransfer closed (r .plain)) (withBuffer w (laidIn got content true (bufferOf w (r .guarded))) (r .guarded)))
 
 unfoldable pub takeIn : Reader → Bool → Bool → List ℕ → Transfer → Said
 takeIn r last right content closed = silence r
@@ -127,7 +129,7 @@ stepOf r s =
     let a = answer r (hear (r .plain .address) s) in
     record { used = usedOf (findOf s); reply = a .reply; after = a .after }
 
--- ---- the line switch: verified mark and filled marks cleared, transfer closed, both buffers zeroed
+-- ---- the line switch: verified mark and filled marks cleared, transfer closed, both buffers zeroed, their origins none
 
 unfoldable pub wiped : Guarded → Guarded
 wiped g = contents (g .templates) (g .index) (g .notepad) emptied emptied

@@ -1,5 +1,5 @@
 -- The sixteen commands: document 01's table, right half. Each row's tests, left to right, and its effect. Store's last test is request [5]'s; how many pages
--- ReadIndexTable has goes by the index's length, which is request [6]'s.
+-- ReadIndexTable has goes by the index's length, which is request [6]'s; the buffers' origins are request [7]'s.
 use mathlib.Core.Bool.{Bool, _&&_, _||_, not, cond}
 use mathlib.Core.List.{List, [], _∷_}
 use Prim.Native.Nat.{ℕ, _+_, _*_, _/_}
@@ -7,9 +7,9 @@ use lib.Dec.{eqb, ltb, leb}
 use lib.ListN.{length}
 use Rattle.protocol.specs.Numbers.{pageBytes, noteBytes, indexPageBytes, lowestLevel, highestLevel, lowestBaud, highestBaud, highestSize, baudParameter, levelParameter, sizeParameter, verifiedStatus, done, badPacket, badPage, nothingThere, nothingToSend, badRange, wrongPassword, badParameter, badValue, badNotePage, pageTaken}
 use Rattle.protocol.specs.Bytes.{two, part, zeros, same, lay, joined}
-use Rattle.protocol.specs.Tests.{Test, within}
+use Rattle.protocol.specs.Tests.{Test, within, among}
 use Rattle.protocol.specs.Index.{stored, setBit, clearBits, setBits}
-use Rattle.protocol.specs.Reader.{opened, Plain, Reader, capacity, sizeOf, bufferOf, emptied, filledWith, withMark, withTransfer, withPassword, withAddress, withTuning, withLibrary, withNotepad, withBuffer, reader}
+use Rattle.protocol.specs.Reader.{opened, Plain, Reader, capacity, sizeOf, bufferOf, emptied, loadedFrom, storedOn, withMark, withTransfer, withPassword, withAddress, withTuning, withLibrary, withNotepad, withBuffer, withoutPages, reader}
 use Rattle.protocol.specs.Commands.{Free, verifyPassword, handShake, Barred, store, loadChar, upChar, downChar, deletChar, empty, setSysPara, readSysPara, setPassword, setAddress, writeNotepad, readNotepad, templeteNum, readIndexTable}
 use Rattle.protocol.specs.Data.{dataPackets}
 
@@ -18,14 +18,14 @@ use Rattle.protocol.specs.Data.{dataPackets}
 -- what a command that answers 00h does to the reader
 pub data Effect : Type 0 where
   keep : Effect
-  -- page p gets a buffer's bytes (the second's?) and its bit
+  -- page p gets a buffer's bytes (the second's?) and its bit, and is the buffer's origin
   fillPage : Bool → ℕ → Effect
-  -- n pages from p on lose their bits and their bytes; all pages do
+  -- n pages from p on lose their bits and their bytes, and so do buffers whose origin is one of them; all pages do
   erase : ℕ → ℕ → Effect
   eraseAll : Effect
-  -- a buffer (the second?) gets page p's bytes and its mark
+  -- a buffer (the second?) gets page p's bytes and its mark, and page p is its origin
   fillBuffer : Bool → ℕ → Effect
-  -- a buffer is zeroed, its mark cleared, and a transfer into it opened
+  -- a buffer is zeroed, its mark cleared, its origin none, and a transfer into it opened
   await : Bool → Effect
   -- these bytes go into the notepad, from the place i on
   note : ℕ → List ℕ → Effect
@@ -36,11 +36,15 @@ unfoldable pub apply : Effect → Reader → Reader
 apply keep r = r
 apply (fillPage w p) r =
     let g = r .guarded in
-    reader (r .plain) (withLibrary (lay (pageBytes * p) (bufferOf w g .bytes) (g .templates)) (setBit (g .index) p) g)
+    let b = bufferOf w g in
+    reader (r .plain) (withBuffer w (storedOn p b) (withLibrary (lay (pageBytes * p) (b .bytes) (g .templates)) (setBit (g .index) p) g))
 apply (erase p n) r =
-    reader (r .plain) (withLibrary (lay (pageBytes * p) (zeros (pageBytes * n)) (r .guarded .templates)) (clearBits (r .guarded .index) p n) (r .guarded))
-apply eraseAll r = reader (r .plain) (withLibrary (zeros (length (r .guarded .templates))) (zeros (length (r .guarded .index))) (r .guarded))
-apply (fillBuffer w p) r = reader (r .plain) (withBuffer w (filledWith (part (pageBytes * p) pageBytes (r .guarded .templates))) (r .guarded))
+    let g = r .guarded in
+    reader (r .plain) (withoutPages (among p n) (withLibrary (lay (pageBytes * p) (zeros (pageBytes * n)) (g .templates)) (clearBits (g .index) p n) g))
+apply eraseAll r =
+    let g = r .guarded in
+    reader (r .plain) (withoutPages (among 0 (capacity g)) (withLibrary (zeros (length (g .templates))) (zeros (length (g .index))) g))
+apply (fillBuffer w p) r = reader (r .plain) (withBuffer w (loadedFrom p (part (pageBytes * p) pageBytes (r .guarded .templates))) (r .guarded))
 apply (await w) r = reader (withTransfer (opened w 0) (r .plain)) (withBuffer w emptied (r .guarded))
 apply (note i b) r = reader (r .plain) (withNotepad (lay i b (r .guarded .notepad)) (r .guarded))
 apply (settle p) r = reader p (r .guarded)
@@ -113,7 +117,7 @@ rule r (readIndexTable p) =
 
 -- ---- the two that the lock lets pass
 
--- all that a locked reader's answers may depend on: the settings but for the filled marks, and the capacity
+-- all that a locked reader's answers may depend on: the settings but for the filled marks and the origins, and the capacity
 pub record Public : Type 0 where
   pub plain : Plain
   pub capacity : ℕ

@@ -18,7 +18,8 @@ pub enum Found {
     Whole { at: usize, len: usize },
 }
 
-// A reader's settings. The transfer is two numbers: its buffer, 1 or 2, and the bytes got so far; no transfer is 0 and 0.
+// A reader's settings. The transfer is two numbers: its buffer, 1 or 2, and the bytes got so far; no transfer is 0 and 0. The origin of a buffer
+// is the number of a page, or FFFFh for none.
 #[repr(C)]
 pub struct Settings {
     pub password: [u8; 4],
@@ -32,6 +33,8 @@ pub struct Settings {
     pub verified: bool,
     pub filled1: bool,
     pub filled2: bool,
+    pub origin1: u16,
+    pub origin2: u16,
 }
 
 // What a call of the reader returns: the settings after it, the refusal or 0, the bytes used, and the reply's length.

@@ -92,3 +92,8 @@ pub const LAST_PACKET: u8 = 8;
 
 // Its answer to an index of another length.
 pub const NO_COUNT: u16 = 0xFFFF;
+
+// ---- the origin of a buffer
+
+// No page, in a settings record.
+pub const NO_PAGE: u16 = 0xFFFF;

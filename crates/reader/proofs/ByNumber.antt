@@ -8,7 +8,7 @@ use lib.Dec.{eqb, ltb}
 use lib.ListN.{length}
 use borrow.Author.Tests.{eqb-true, ne-eqb, le-ltb}
 use Rattle.protocol.specs.declared.Settings.{Settings}
-use Rattle.protocol.specs.Numbers.{pageBytes, badPacket, badPage}
+use Rattle.protocol.specs.Numbers.{pageBytes, noPage, badPacket, badPage}
 use Rattle.protocol.specs.Tests.{Test, verdict}
 use Rattle.protocol.specs.Bytes.{zeros, follow}
 use Rattle.protocol.specs.Reader.{opened, Guarded, capacity, emptied, withBuffer, contents, reader}
@@ -16,11 +16,11 @@ use Rattle.protocol.specs.Reader as readers
 use Rattle.protocol.specs.Table.{isBuffer, Effect}
 use Rattle.protocol.specs.Step.{says, carry, carryAs}
 use Rattle.protocol.proofs.Laws.Logic.{not-true, not-false}
-use Rattle.protocol.specs.Records.{transferOf, plainOf, buffer, readerOf}
+use Rattle.protocol.specs.Records.{transferOf, originOf, plainOf, buffer, readerOf}
 use Rattle.reader.specs.declared.answers.Answer.{Answer}
 use Rattle.reader.specs.Answers.{codeAlone, sent, saidOf}
 use Rattle.rules.specs.Settings.{withTransfer}
-use Rattle.reader.specs.Buffers.{chosenOf, Buffers, buffers, changed, withFill}
+use Rattle.reader.specs.Buffers.{chosenOf, Buffers, buffers, changed, withFill, withHeld}
 use Rattle.reader.proofs.Laws.{chosen-long}
 
 -- ---- a number that names a buffer
@@ -51,20 +51,38 @@ module _ (n : ℕ) (f : List ℕ → List ℕ) (b c x : List ℕ) where
   unfolding changed
   first-changed e g = rw (ne-eqb _ _ e, g) refl
 
-module _ (f : List ℕ → List ℕ) (t i n b c : List ℕ) (u v : Bool) where
+module _ (f : List ℕ → List ℕ) (t i n b c : List ℕ) (u v : Bool) (o q : ℕ) where
+  held-at : (on : Bool) (a : ℕ) (w : Bool)
+      → contents t i n (buffer (cond w b (f b)) (cond w u on) (cond w o a)) (buffer (cond w (f c) c) (cond w on v) (cond w a q))
+      ≡ withBuffer w (buffer (f (cond w c b)) on a) (contents t i n (buffer b u o) (buffer c v q))
+  unfolding withBuffer
+  held-at on a true = refl
+  held-at on a false = refl
+
+  same-at : (on : Bool) (a : ℕ) (w : Bool)
+      → contents t i n (buffer b (cond w u on) (cond w o a)) (buffer c (cond w on v) (cond w a q)) ≡ withBuffer w (buffer (cond w c b) on a) (contents t i n (buffer b u o) (buffer c v q))
+  unfolding withBuffer
+  same-at on a true = refl
+  same-at on a false = refl
+
   marked-at : (on w : Bool)
-      → contents t i n (buffer (cond w b (f b)) (cond w u on)) (buffer (cond w (f c) c) (cond w on v))
-      ≡ withBuffer w (buffer (f (cond w c b)) on) (contents t i n (buffer b u) (buffer c v))
+      → contents t i n (buffer (cond w b (f b)) (cond w u on) o) (buffer (cond w (f c) c) (cond w on v) q)
+      ≡ withBuffer w (buffer (f (cond w c b)) on (cond w q o)) (contents t i n (buffer b u o) (buffer c v q))
   unfolding withBuffer
   marked-at on true = refl
   marked-at on false = refl
 
   kept-at : (w : Bool)
-      → contents t i n (buffer (cond w b (f b)) u) (buffer (cond w (f c) c) v)
-      ≡ withBuffer w (buffer (f (cond w c b)) (cond w v u)) (contents t i n (buffer b u) (buffer c v))
+      → contents t i n (buffer (cond w b (f b)) u o) (buffer (cond w (f c) c) v q)
+      ≡ withBuffer w (buffer (f (cond w c b)) (cond w v u) (cond w q o)) (contents t i n (buffer b u o) (buffer c v q))
   unfolding withBuffer
   kept-at true = refl
   kept-at false = refl
+
+-- neither changed, and the mark and the origin of one
+pub held : (k : ℕ) (on : Bool) (a : ℕ) (s : Settings) (t i n b c : List ℕ)
+    → readerOf (withHeld k on a s) t i n b c .guarded ≡ withBuffer (eqb k 2) (buffer (chosenOf k b c) on a) (readerOf s t i n b c .guarded)
+held k on a s t i n b c = same-at (λ x. x) t i n b c (s .filled1) (s .filled2) (s .origin1) (s .origin2) on a (eqb k 2)
 
 module _ (k : ℕ) (f : List ℕ → List ℕ) (s : Settings) (t i n b c x y : List ℕ) (e : buffers x y ≡ changed k f b c) where
   first-is : x ≡ cond (eqb k 2) b (f b)
@@ -75,24 +93,37 @@ module _ (k : ℕ) (f : List ℕ → List ℕ) (s : Settings) (t i n b c x y : L
   unfolding changed
   second-is = ap (λ (p : Buffers). p .second) e
 
+  -- and its mark set or cleared, and another origin
+  pub changed-held : (on : Bool) (a : ℕ)
+      → readerOf (withHeld k on a s) t i n x y .guarded ≡ withBuffer (eqb k 2) (buffer (f (chosenOf k b c)) on a) (readerOf s t i n b c .guarded)
+  changed-held on a = rw (first-is, second-is) (held-at f t i n b c (s .filled1) (s .filled2) (s .origin1) (s .origin2) on a (eqb k 2))
+
   -- and its mark set or cleared
   pub changed-marked : (on : Bool)
-      → readerOf (withFill k on s) t i n x y .guarded ≡ withBuffer (eqb k 2) (buffer (f (chosenOf k b c)) on) (readerOf s t i n b c .guarded)
-  changed-marked on = rw (first-is, second-is) (marked-at f t i n b c (s .filled1) (s .filled2) on (eqb k 2))
+      → readerOf (withFill k on s) t i n x y .guarded
+      ≡ withBuffer (eqb k 2) (buffer (f (chosenOf k b c)) on (cond (eqb k 2) (s .origin2) (s .origin1))) (readerOf s t i n b c .guarded)
+  changed-marked on = rw (first-is, second-is) (marked-at f t i n b c (s .filled1) (s .filled2) (s .origin1) (s .origin2) on (eqb k 2))
 
   -- and its mark as it was
-  pub changed-kept : readerOf s t i n x y .guarded ≡ withBuffer (eqb k 2) (buffer (f (chosenOf k b c)) (cond (eqb k 2) (s .filled2) (s .filled1))) (readerOf s t i n b c .guarded)
-  changed-kept = rw (first-is, second-is) (kept-at f t i n b c (s .filled1) (s .filled2) (eqb k 2))
+  pub changed-kept : readerOf s t i n x y .guarded
+      ≡ withBuffer (eqb k 2) (buffer (f (chosenOf k b c)) (cond (eqb k 2) (s .filled2) (s .filled1)) (cond (eqb k 2) (s .origin2) (s .origin1))) (readerOf s t i n b c .guarded)
+  changed-kept = rw (first-is, second-is) (kept-at f t i n b c (s .filled1) (s .filled2) (s .origin1) (s .origin2) (eqb k 2))
 
--- one of them wiped, and the transfer moved
-pub wiped : (k w j : ℕ) (s o q : Settings) (t i n b c x y : List ℕ) → q ≡ withTransfer w j o → o ≡ withFill k false s
+-- one of them wiped
+pub emptied-one : (k : ℕ) (s : Settings) (t i n b c x y : List ℕ) → buffers x y ≡ changed k (λ (z : List ℕ). zeros (length z)) b c → length b ≡ pageBytes
+    → length c ≡ pageBytes → readerOf (withHeld k false noPage s) t i n x y .guarded ≡ withBuffer (eqb k 2) emptied (readerOf s t i n b c .guarded)
+unfolding emptied originOf
+emptied-one k s t i n b c x y e l m =
+    let all : length (chosenOf k b c) ≡ pageBytes = chosen-long (eqb k 2) c b pageBytes m l in
+    rw all at (changed-held k (λ (z : List ℕ). zeros (length z)) s t i n b c x y e false noPage)
+
+-- and the transfer moved
+pub wiped : (k w j : ℕ) (s o q : Settings) (t i n b c x y : List ℕ) → q ≡ withTransfer w j o → o ≡ withHeld k false noPage s
     → buffers x y ≡ changed k (λ (z : List ℕ). zeros (length z)) b c → length b ≡ pageBytes → length c ≡ pageBytes
     → readerOf q t i n x y ≡ reader (readers.withTransfer (transferOf w j) (plainOf s)) (withBuffer (eqb k 2) emptied (readerOf s t i n b c .guarded))
-unfolding readers.withTransfer emptied
+unfolding readers.withTransfer
 wiped k w j s o q t i n b c x y f g e l m =
-    let all : length (chosenOf k b c) ≡ pageBytes = chosen-long (eqb k 2) c b pageBytes m l in
-    let h = changed-marked k (λ (z : List ℕ). zeros (length z)) s t i n b c x y e false in
-    rw (f, g) (ap (λ (z : Guarded). reader (readers.withTransfer (transferOf w j) (plainOf s)) z) (rw all at h))
+    rw (f, g) (ap (λ (z : Guarded). reader (readers.withTransfer (transferOf w j) (plainOf s)) z) (emptied-one k s t i n b c x y e l m))
 
 -- ---- the tests that a command with a buffer starts with
 

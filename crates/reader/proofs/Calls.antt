@@ -1,6 +1,6 @@
 -- A call's definitions at each way out, and what passed refusals say.
 use mathlib.Core.Path.{_≡_, refl, sym, ap, _∙_, subst}
-use mathlib.Core.Bool.{Bool, true, false, _&&_}
+use mathlib.Core.Bool.{Bool, true, false}
 use mathlib.Core.Logic.{_⊎_, inl, inr}
 use mathlib.Core.List.{List, [], _∷_}
 use Prim.Native.Nat.{ℕ, _+_, _-_, _*_, _/_, _%_, _≤_, _<_}
@@ -14,10 +14,9 @@ use Rattle.protocol.specs.declared.Found.the-variants.{Noise, Unfinished, Unfit
 use Rattle.protocol.proofs.Found.{the-type}
 use denote.Enum.Declared.{tagOf}
 use types.Run.{OneOf}
-use Rattle.protocol.specs.Numbers.{pageBytes, replyRoom, headBytes}
+use Rattle.protocol.specs.Numbers.{pageBytes, mostPages, replyRoom, headBytes}
 use Rattle.protocol.specs.Bytes.{same}
 use Rattle.protocol.specs.Tests.{within, verdict}
-use Rattle.protocol.specs.Index.{clearFrom}
 use Rattle.protocol.specs.Packet.{addressAt, identifierAt, rightAt}
 use Rattle.protocol.specs.Finder.{findOf, usedOf}
 use Rattle.protocol.specs.Reader.{Guarded, Reader, capacity}
@@ -29,7 +28,7 @@ use Rattle.protocol.proofs.Laws.Lists.{lay-nothing}
 use Rattle.protocol.proofs.Laws.Finder.{Within, found-in, used-in, accepts-least, accepts-most, longest-word}
 use Rattle.reader.specs.Commands.{Fit}
 use Rattle.reader.specs.Calls.{Lies, lengthsFit, carriedOf}
-use Rattle.rules.specs.Settings.{legalOf, Legal}
+use Rattle.rules.specs.Settings.{legalOf, soundOf, Legal}
 use Rattle.rules.proofs.Transfers.{legal-says}
 
 -- ---- a whole packet
@@ -88,13 +87,17 @@ pub lengths-are : (g : Guarded) → fitLengths core g ≡ lengthsFit (length (g 
 unfolding fitLengths fitLibrary fitBuffers capacity lengthsFit
 lengths-are g = refl
 
+pub few-pages : (t i n b c : ℕ) → lengthsFit t i n b c ≡ true → t / pageBytes ≤ mostPages
+unfolding lengthsFit within core
+few-pages t i n b c e = let h : T (lengthsFit t i n b c) = rw e tt in leb→le (t / pageBytes) mostPages (search (and-l, and-r) depth 9)
+
 pub fit-says : (s : Settings) (t i n b c : List ℕ) → lengthsFit (length t) (length i) (length n) (length b) (length c) ≡ true → Legal s → Fit s t i n b c
 unfolding lengthsFit within
 fit-says s t i n b c e m =
     let h : T (lengthsFit (length t) (length i) (length n) (length b) (length c)) = rw e tt in
     record {
       pages = eqb→eq (length t) (pageBytes * (length t / pageBytes)) (search (and-l, and-r) depth 9);
-      within = leb→le (length t / pageBytes) (core .most) (search (and-l, and-r) depth 9);
+      within = few-pages (length t) (length i) (length n) (length b) (length c) e;
       index = eqb→eq (length i) (core .indexed) (search (and-l, and-r) depth 9);
       notepad = eqb→eq (length n) (core .noted) (search (and-l, and-r) depth 9);
       buffer1 = eqb→eq (length b) pageBytes (search (and-l, and-r) depth 9);
@@ -102,9 +105,10 @@ fit-says s t i n b c e m =
       size = m .size;
     }
 
--- refusal 3 as the code asks for it: the settings, and the index bits from C on
-pub legal-passed : (s : Settings) (i : List ℕ) (n : ℕ) → (legalOf s && clearFrom i n) ≡ true → Legal s
-legal-passed s i n e = let h : T (legalOf s && clearFrom i n) = rw e tt in legal-says s (T→true (legalOf s) (search and-l))
+-- refusal 3 as the code asks for it: the settings first
+pub legal-passed : (s : Settings) (i : List ℕ) (n : ℕ) → soundOf n i s ≡ true → Legal s
+unfolding soundOf
+legal-passed s i n e = let h : T (soundOf n i s) = rw e tt in legal-says s (T→true (legalOf s) (search and-l))
 
 -- ---- a call at each way out
 

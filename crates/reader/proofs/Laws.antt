@@ -6,10 +6,12 @@ use Prim.Native.Nat.{ℕ, _+_, _*_, _/_, _%_, _<_}
 use native.Mathlib.Omega.{arith}
 use lib.ListN.{length, getD, take, drop, length-drop}
 use lib.Seq.{take-all}
-use borrow.Author.Tests.{lt-ltb, eq-eqb}
+use borrow.Author.Tests.{lt-ltb, eq-eqb, ne-eqb}
 use Rattle.protocol.specs.Bytes.{two, part, lay, joined}
 use Rattle.protocol.specs.Index.{setBits}
-use Rattle.protocol.specs.Reader.{Buffer}
+use Rattle.protocol.specs.Numbers.{noPage}
+use Rattle.protocol.specs.Reader.{fromPage, Buffer}
+use Rattle.protocol.specs.Records.{originOf, buffer}
 use Rattle.protocol.proofs.Laws.Lists.{by-four}
 use Rattle.library.specs.Lent.{countOf, writePage, readPage}
 
@@ -29,9 +31,18 @@ pub chosen-bytes : (w : Bool) (x y : Buffer) → (cond w x y) .bytes ≡ cond w 
 chosen-bytes true x y = refl
 chosen-bytes false x y = refl
 
+pub chosen-origin : (w : Bool) (x y : List ℕ) (a b : Bool) (o q : ℕ) → (cond w (buffer x a o) (buffer y b q)) .origin ≡ originOf (cond w o q)
+chosen-origin true x y a b o q = refl
+chosen-origin false x y a b o q = refl
+
 pub chosen-long : (w : Bool) (a b : List ℕ) (n : ℕ) → length a ≡ n → length b ≡ n → length (cond w a b) ≡ n
 chosen-long true a b n p q = p
 chosen-long false a b n p q = q
+
+-- the number of a page below FFFFh is its origin
+pub page-origin : (p : ℕ) → p < noPage → originOf p ≡ fromPage p
+unfolding originOf
+page-origin p h = rw (ne-eqb p noPage (λ e. omega arith)) refl
 
 -- ---- within range
 

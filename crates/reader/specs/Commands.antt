@@ -4,7 +4,7 @@ use mathlib.Core.Path.{_≡_}
 use Prim.Native.Nat.{ℕ, _*_, _/_, _≤_}
 use lib.ListN.{length}
 use Rattle.protocol.specs.declared.Settings.{Settings}
-use Rattle.protocol.specs.Numbers.{pageBytes, highestSize}
+use Rattle.protocol.specs.Numbers.{pageBytes, mostPages, highestSize}
 use Rattle.protocol.specs.Packet.{lengthOf}
 use Rattle.protocol.specs.Call.{core}
 use Rattle.protocol.specs.Commands.{Free, Barred}
@@ -18,7 +18,7 @@ use Rattle.reader.specs.Answers.{saidOf, Ready}
 -- the facts that refusals 1 to 3 leave, as the commands use them
 pub record Fit (s : Settings) (t i n b c : List ℕ) : Type 0 where
   pub pages : length t ≡ pageBytes * (length t / pageBytes)
-  pub within : length t / pageBytes ≤ core .most
+  pub within : length t / pageBytes ≤ mostPages
   pub index : length i ≡ core .indexed
   pub notepad : length n ≡ core .noted
   pub buffer1 : length b ≡ pageBytes
@@ -68,11 +68,6 @@ pub record ObeyedNotepad (a : Answer) (s : Settings) (k : Barred) (n n′ : List
 -- both buffers, before and after
 pub record ObeyedBuffers (a : Answer) (s : Settings) (k : Barred) (b c b′ c′ : List ℕ) : Type 0 where
   pub said : (t i n : List ℕ) → saidOf a t i n b′ c′ ≡ obeyed s t i n b c k
-  pub ready : Ready a
-
--- templates and index, before and after
-pub record ObeyedLibrary (a : Answer) (s : Settings) (k : Barred) (t i t′ i′ : List ℕ) : Type 0 where
-  pub said : (n b c : List ℕ) → saidOf a t′ i′ n b c ≡ obeyed s t i n b c k
   pub ready : Ready a
 
 -- templates, index and both buffers, before and after

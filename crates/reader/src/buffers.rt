@@ -8,13 +8,14 @@ ghost use Rattle.protocol.specs.Bytes.{zeros, lay};
 ghost use Rattle.protocol.specs.Table.{isBuffer};
 ghost use Rattle.protocol.specs.Commands.{upChar, downChar};
 ghost use Rattle.library.specs.Lent.{readPage};
-ghost use Rattle.reader.specs.Buffers.{chosenOf, buffers, changed, withFill};
+ghost use Rattle.reader.specs.Buffers.{chosenOf, buffers, changed, withFill, withHeld};
 ghost use Rattle.reader.specs.Commands.{Obeyed, ObeyedBuffers};
 use crate::answers;
 use crate::answers::Answer;
 use library::pages;
 use protocol::Settings;
 use protocol::codes;
+use protocol::numbers;
 use rules::settings;
 use wire::bytes;
 
@@ -88,6 +89,17 @@ pub(crate) fn mark(settings: Settings, n: u8, on: bool) -> Settings
     settings::filled(settings, on, settings.filled2)
 }
 
+// The settings with a buffer's filled mark and its origin.
+pub(crate) fn hold(settings: Settings, n: u8, on: bool, origin: u16) -> Settings
+    ensures { λ r. ⌜ r ≡ withHeld n on origin settings ⌝ }
+{
+    let s = mark(settings, n, on);
+    if n == 2 {
+        return settings::linked(s, s.origin1, origin);
+    }
+    settings::linked(s, origin, s.origin2)
+}
+
 // UpChar (buffer).
 pub(crate) fn up_char(settings: Settings, n: u8) -> Answer
     requires { ⌜ settings .size ≤ highestSize ⌝ }
@@ -114,6 +126,6 @@ pub(crate) fn down_char(settings: Settings, buffer1: &mut [u8], buffer2: &mut [u
         return answers::plain(codes::BAD_PACKET, settings);
     }
     wipe(n, buffer1, buffer2);
-    let s = mark(settings, n, false);
+    let s = hold(settings, n, false, numbers::NO_PAGE);
     answers::plain(codes::DONE, settings::moved(s, n, 0))
 }

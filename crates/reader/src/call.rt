@@ -1,23 +1,22 @@
 // A whole call of the reader, and the line switch.
 ghost use mathlib.Core.Path.{_≡_};
-ghost use mathlib.Core.Bool.{_&&_};
 ghost use mathlib.Core.List.{List};
 ghost use Prim.Native.Nat.{ℕ, _+_, _≤_};
 ghost use lib.ListN.{length};
 ghost use Rattle.protocol.specs.declared.Found.the-variants.{Whole};
-ghost use Rattle.protocol.specs.Numbers.{headBytes};
+ghost use Rattle.protocol.specs.Numbers.{headBytes, mostPages};
 ghost use Rattle.protocol.specs.Bytes.{same};
-ghost use Rattle.protocol.specs.Index.{clearFrom};
 ghost use Rattle.protocol.specs.Packet.{addressAt, rightAt};
 ghost use Rattle.protocol.specs.Step.{hearAs, hearAt, answer};
 ghost use Rattle.protocol.specs.Call.{core, callOf, switchOf};
 ghost use Rattle.protocol.specs.Records.{readerOf, lentOf, endedOf, switchedOf};
 ghost use Rattle.reader.specs.Answers.{saidOf, Ready};
-ghost use Rattle.rules.specs.Settings.{legalOf};
+ghost use Rattle.rules.specs.Settings.{soundOf};
 ghost use Rattle.reader.specs.Calls.{Lies, ActNeeds, HearNeeds, called, switched, lengthsFit, carriedOf};
 use crate::answers;
 use crate::answers::Answer;
 use crate::bytes;
+use crate::origins;
 use crate::reply;
 use crate::table;
 use crate::transfer;
@@ -167,15 +166,20 @@ pub fn is_fit(t: usize, i: usize, n: usize, b: usize, c: usize) -> bool
     c == numbers::PAGE
 }
 
-// Whether settings, transfer and index bits are legal (refusal 3).
+// Whether settings, transfer, index bits and origins are legal (refusal 3).
 pub(crate) fn is_sound(settings: Settings, index: &[u8], pages: usize) -> bool
-    ensures { λ r. ⌜ r ≡ (legalOf settings && clearFrom (now (index .entry)) pages) ⌝ }
+    requires { ⌜ pages ≤ mostPages ⌝ }
+    ensures { λ r. ⌜ r ≡ soundOf pages (now (index .entry)) settings ⌝ }
 {
     let legal = settings::is_legal(settings);
     if !legal {
         return false;
     }
-    index::is_clear_from(index, pages)
+    let clear = index::is_clear_from(index, pages);
+    if !clear {
+        return false;
+    }
+    origins::are_fit(settings, index, pages)
 }
 
 // A call: the settings and lent memory of a reader, a received run, and a reply room.
@@ -232,7 +236,7 @@ fn switched_of(refusal: u8, settings: Settings) -> Switched
     Switched { settings, refusal }
 }
 
-// The line switch: any settings and both buffers; marks cleared, transfer closed, buffers zeroed. It knows only refusal 1.
+// The line switch: any settings and both buffers; marks cleared, transfer closed, buffers zeroed, origins none. It knows only refusal 1.
 pub fn line_switch(settings: Settings, buffer1: &mut [u8], buffer2: &mut [u8]) -> Switched
     ensures { λ r. ⌜ ((t i n : List ℕ) → switchedOf r t i n (now (buffer1 .exit)) (now (buffer2 .exit)) ≡ switchOf (readerOf settings t i n (now (buffer1 .entry)) (now (buffer2 .entry)))) ⌝ }
 {
@@ -244,6 +248,5 @@ pub fn line_switch(settings: Settings, buffer1: &mut [u8], buffer2: &mut [u8]) -
     }
     wire::bytes::zero(buffer1);
     wire::bytes::zero(buffer2);
-    let s = settings::filled(settings::marked(settings, false), false, false);
-    switched_of(refusals::ACCEPTED, settings::moved(s, 0, 0))
+    switched_of(refusals::ACCEPTED, settings::switched(settings))
 }

@@ -5,6 +5,7 @@ mod bytes;
 pub mod call;
 mod keys;
 mod notes;
+mod origins;
 mod parameters;
 mod reply;
 mod stored;

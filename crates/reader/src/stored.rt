@@ -3,15 +3,16 @@
 ghost use mathlib.Core.Path.{_≡_};
 ghost use Prim.Native.Nat.{_*_, _/_, _≤_, _<_};
 ghost use lib.ListN.{length};
-ghost use Rattle.protocol.specs.Numbers.{pageBytes, indexBytes, highestSize};
+ghost use Rattle.protocol.specs.Numbers.{pageBytes, indexBytes, mostPages, highestSize};
 ghost use Rattle.protocol.specs.Bytes.{lay};
 ghost use Rattle.protocol.specs.Index.{setBit};
 ghost use Rattle.protocol.specs.Commands.{store, loadChar, deletChar, empty, templeteNum, readIndexTable};
 ghost use Rattle.reader.specs.Buffers.{chosenOf};
-ghost use Rattle.reader.specs.Commands.{ObeyedCopy, ObeyedLibrary, ObeyedIndex};
+ghost use Rattle.reader.specs.Commands.{ObeyedCopy, ObeyedIndex};
 use crate::answers;
 use crate::answers::Answer;
 use crate::buffers;
+use crate::origins;
 use library::index;
 use library::pages;
 use protocol::Settings;
@@ -47,7 +48,7 @@ pub(crate) fn store_page<'a>(
     n: u8,
     page: usize,
 ) -> Answer
-    requires { ⌜ (length (now b) ≡ pageBytes) × ((length (now c) ≡ pageBytes) × (settings .size ≤ highestSize)) ⌝ }
+    requires { ⌜ (length (now b) ≡ pageBytes) × ((length (now c) ≡ pageBytes) × ((settings .size ≤ highestSize) × (length (now templates) / pageBytes ≤ mostPages))) ⌝ }
     ensures { λ r. ⌜ ObeyedCopy r settings (store n page) (now (templates .entry)) (now (index .entry)) (now (b .entry)) (now (c .entry)) (now (templates .exit)) (now (index .exit)) (now (b .entry)) (now (c .entry)) ⌝ }
 {
     let known = buffers::is_buffer(n);
@@ -66,7 +67,7 @@ pub(crate) fn store_page<'a>(
         return answers::plain(codes::PAGE_TAKEN, settings);
     }
     store_now(templates, index, b, c, n, page);
-    answers::plain(codes::DONE, settings)
+    answers::plain(codes::DONE, buffers::hold(settings, n, true, page as u16))
 }
 
 // LoadChar (buffer, page).
@@ -79,7 +80,7 @@ pub(crate) fn load_page(
     n: u8,
     page: usize,
 ) -> Answer
-    requires { ⌜ (length (now buffer1) ≡ pageBytes) × ((length (now buffer2) ≡ pageBytes) × (settings .size ≤ highestSize)) ⌝ }
+    requires { ⌜ (length (now buffer1) ≡ pageBytes) × ((length (now buffer2) ≡ pageBytes) × ((settings .size ≤ highestSize) × (length (now templates) / pageBytes ≤ mostPages))) ⌝ }
     ensures { λ r. ⌜ ObeyedCopy r settings (loadChar n page) (now (templates .entry)) (now (index .entry)) (now (buffer1 .entry)) (now (buffer2 .entry)) (now (templates .entry)) (now (index .entry)) (now (buffer1 .exit)) (now (buffer2 .exit)) ⌝ }
 {
     let known = buffers::is_buffer(n);
@@ -94,7 +95,7 @@ pub(crate) fn load_page(
         return answers::plain(codes::NOTHING_THERE, settings);
     }
     buffers::load(n, buffer1, buffer2, templates, page);
-    answers::plain(codes::DONE, buffers::mark(settings, n, true))
+    answers::plain(codes::DONE, buffers::hold(settings, n, true, page as u16))
 }
 
 // DeletChar (page, n).
@@ -102,11 +103,13 @@ pub(crate) fn delete_pages(
     settings: Settings,
     templates: &mut [u8],
     index: &mut [u8],
+    buffer1: &mut [u8],
+    buffer2: &mut [u8],
     page: usize,
     n: usize,
 ) -> Answer
-    requires { ⌜ (settings .size ≤ highestSize) × ((page < 65536) × (n < 65536)) ⌝ }
-    ensures { λ r. ⌜ ObeyedLibrary r settings (deletChar page n) (now (templates .entry)) (now (index .entry)) (now (templates .exit)) (now (index .exit)) ⌝ }
+    requires { ⌜ (length (now buffer1) ≡ pageBytes) × ((length (now buffer2) ≡ pageBytes) × ((settings .size ≤ highestSize) × ((page < 65536) × (n < 65536)))) ⌝ }
+    ensures { λ r. ⌜ ObeyedCopy r settings (deletChar page n) (now (templates .entry)) (now (index .entry)) (now (buffer1 .entry)) (now (buffer2 .entry)) (now (templates .exit)) (now (index .exit)) (now (buffer1 .exit)) (now (buffer2 .exit)) ⌝ }
 {
     let there = pages::is_span(page as u16, n as u16, templates.len() / numbers::PAGE);
     if !there {
@@ -114,17 +117,26 @@ pub(crate) fn delete_pages(
     }
     pages::zero_pages(templates, page as u16, n as u16);
     index::clear_bits(index, page as u16, n as u16);
-    answers::plain(codes::DONE, settings)
+    let s = origins::forget(settings, buffer1, buffer2, page, n);
+    answers::plain(codes::DONE, s)
 }
 
 // Empty.
-pub(crate) fn empty_all(settings: Settings, templates: &mut [u8], index: &mut [u8]) -> Answer
-    requires { ⌜ settings .size ≤ highestSize ⌝ }
-    ensures { λ r. ⌜ ObeyedLibrary r settings empty (now (templates .entry)) (now (index .entry)) (now (templates .exit)) (now (index .exit)) ⌝ }
+pub(crate) fn empty_all(
+    settings: Settings,
+    templates: &mut [u8],
+    index: &mut [u8],
+    buffer1: &mut [u8],
+    buffer2: &mut [u8],
+) -> Answer
+    requires { ⌜ (length (now buffer1) ≡ pageBytes) × ((length (now buffer2) ≡ pageBytes) × ((settings .size ≤ highestSize) × (length (now templates) / pageBytes ≤ mostPages))) ⌝ }
+    ensures { λ r. ⌜ ObeyedCopy r settings empty (now (templates .entry)) (now (index .entry)) (now (buffer1 .entry)) (now (buffer2 .entry)) (now (templates .exit)) (now (index .exit)) (now (buffer1 .exit)) (now (buffer2 .exit)) ⌝ }
 {
+    let pages = templates.len() / numbers::PAGE;
     bytes::zero(templates);
     bytes::zero(index);
-    answers::plain(codes::DONE, settings)
+    let s = origins::forget(settings, buffer1, buffer2, 0, pages);
+    answers::plain(codes::DONE, s)
 }
 
 // TempleteNum.

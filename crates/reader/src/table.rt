@@ -49,9 +49,9 @@ pub(crate) fn row(
         0x0C => {
             let page = bytes::word_at(content, 1);
             let n = bytes::word_at(content, 3);
-            stored::delete_pages(settings, templates, index, page, n)
+            stored::delete_pages(settings, templates, index, buffer1, buffer2, page, n)
         }
-        0x0D => stored::empty_all(settings, templates, index),
+        0x0D => stored::empty_all(settings, templates, index, buffer1, buffer2),
         0x0E => parameters::set_parameter(settings, content[1], content[2]),
         0x0F => parameters::read_parameters(settings, templates.len() / numbers::PAGE),
         0x12 => keys::set_password(settings, content),

@@ -15,6 +15,7 @@ use crate::answers::Answer;
 use crate::buffers;
 use protocol::Settings;
 use protocol::codes;
+use protocol::numbers;
 use rules::settings;
 
 // Ends an open transfer: its buffer is zeroed.
@@ -27,7 +28,8 @@ pub(crate) fn end_transfer(settings: Settings, buffer1: &mut [u8], buffer2: &mut
         return settings;
     }
     buffers::wipe(n, buffer1, buffer2);
-    settings::moved(buffers::mark(settings, n, false), 0, 0)
+    let s = buffers::hold(settings, n, false, numbers::NO_PAGE);
+    settings::moved(s, 0, 0)
 }
 
 // A data packet that fits goes in at the place reached; the last sets the filled mark and closes the transfer.

@@ -10,12 +10,11 @@ use lib.ListN.{length}
 use borrow.Author.Tests.{eqb-true}
 use Rattle.protocol.specs.declared.Settings.{Settings}
 use Rattle.protocol.specs.Numbers.{pageBytes, highestSize}
-use Rattle.protocol.specs.Index.{clearFrom}
 use Rattle.protocol.specs.Reader.{Transfer, closed, opened, unfit, Plain, Guarded, capacity, sizeOf, locked, bufferOf}
-use Rattle.protocol.specs.Call.{fitPlain, fitTransfer, sound}
+use Rattle.protocol.specs.Call.{fitPlain, fitTransfer, fitOrigins, sound}
 use Rattle.protocol.specs.Records.{plainOf, transferOf, readerOf}
 use Rattle.protocol.proofs.Laws.Logic.{T→true, and-l, and-r}
-use Rattle.rules.specs.Settings.{legalOf, Legal}
+use Rattle.rules.specs.Settings.{legalOf, originsFit, soundOf, Legal}
 
 -- ---- none, and numbers that name no buffer
 
@@ -62,9 +61,9 @@ fit-any s t i n b c closed = refl
 fit-any s t i n b c (opened w k) = simp filled-at
 fit-any s t i n b c (unfit w k) = refl
 
--- refusal 3 is the settings' and the index's
-pub sound-legal : (s : Settings) (t i n b c : List ℕ) → sound (readerOf s t i n b c) ≡ (legalOf s && clearFrom i (length t / pageBytes))
-unfolding sound capacity legalOf
+-- refusal 3 is the settings', the index's and the origins'
+pub sound-legal : (s : Settings) (t i n b c : List ℕ) → sound (readerOf s t i n b c) ≡ soundOf (length t / pageBytes) i s
+unfolding sound soundOf capacity legalOf fitOrigins originsFit
 sound-legal s t i n b c = rw (fit-any s t i n b c (transferOf (s .transfer) (s .got)))
 
 pub plain-size : (p : Plain) → fitPlain p ≡ true → p .size ≤ highestSize

@@ -5,33 +5,41 @@ use mathlib.Core.Path.{_≡_}
 use Prim.Native.Nat.{ℕ, _≤_}
 use lib.Dec.{leb}
 use Rattle.protocol.specs.declared.Settings.{Settings}
-use Rattle.protocol.specs.Numbers.{pageBytes, highestSize}
+use Rattle.protocol.specs.Numbers.{pageBytes, highestSize, noPage}
+use Rattle.protocol.specs.Index.{clearFrom}
 use Rattle.protocol.specs.Reader.{Reader, sizeOf}
-use Rattle.protocol.specs.Call.{fitPlain, fitTransfer}
-use Rattle.protocol.specs.Records.{readerOf}
+use Rattle.protocol.specs.Call.{fitPlain, fitTransfer, fitOrigin}
+use Rattle.protocol.specs.Records.{originOf, readerOf}
 
 -- the one place that lists all fields
-abbrev pub record-of : List ℕ → List ℕ → ℕ → ℕ → ℕ → ℕ → ℕ → ℕ → Bool → Bool → Bool → Settings
-record-of p a l z b w k g v f h =
-    record { password = p; address = a; level = l; size = z; baud = b; transfer = w; sensor = k; got = g; verified = v; filled1 = f; filled2 = h }
+abbrev pub record-of : List ℕ → List ℕ → ℕ → ℕ → ℕ → ℕ → ℕ → ℕ → Bool → Bool → Bool → ℕ → ℕ → Settings
+record-of p a l z b w k g v f h o q =
+    record { password = p; address = a; level = l; size = z; baud = b; transfer = w; sensor = k; got = g; verified = v; filled1 = f; filled2 = h; origin1 = o; origin2 = q }
 
 abbrev pub withMark : Bool → Settings → Settings
-withMark v s = record-of (s .password) (s .address) (s .level) (s .size) (s .baud) (s .transfer) (s .sensor) (s .got) v (s .filled1) (s .filled2)
+withMark v s = record-of (s .password) (s .address) (s .level) (s .size) (s .baud) (s .transfer) (s .sensor) (s .got) v (s .filled1) (s .filled2) (s .origin1) (s .origin2)
 
 abbrev pub withPassword : List ℕ → Settings → Settings
-withPassword p s = record-of p (s .address) (s .level) (s .size) (s .baud) (s .transfer) (s .sensor) (s .got) false (s .filled1) (s .filled2)
+withPassword p s = record-of p (s .address) (s .level) (s .size) (s .baud) (s .transfer) (s .sensor) (s .got) false (s .filled1) (s .filled2) (s .origin1) (s .origin2)
 
 abbrev pub withAddress : List ℕ → Settings → Settings
-withAddress a s = record-of (s .password) a (s .level) (s .size) (s .baud) (s .transfer) (s .sensor) (s .got) (s .verified) (s .filled1) (s .filled2)
+withAddress a s = record-of (s .password) a (s .level) (s .size) (s .baud) (s .transfer) (s .sensor) (s .got) (s .verified) (s .filled1) (s .filled2) (s .origin1) (s .origin2)
 
 abbrev pub withTuning : ℕ → ℕ → ℕ → Settings → Settings
-withTuning b l z s = record-of (s .password) (s .address) l z b (s .transfer) (s .sensor) (s .got) (s .verified) (s .filled1) (s .filled2)
+withTuning b l z s = record-of (s .password) (s .address) l z b (s .transfer) (s .sensor) (s .got) (s .verified) (s .filled1) (s .filled2) (s .origin1) (s .origin2)
 
 abbrev pub withTransfer : ℕ → ℕ → Settings → Settings
-withTransfer w g s = record-of (s .password) (s .address) (s .level) (s .size) (s .baud) w (s .sensor) g (s .verified) (s .filled1) (s .filled2)
+withTransfer w g s = record-of (s .password) (s .address) (s .level) (s .size) (s .baud) w (s .sensor) g (s .verified) (s .filled1) (s .filled2) (s .origin1) (s .origin2)
 
 abbrev pub withFilled : Bool → Bool → Settings → Settings
-withFilled f h s = record-of (s .password) (s .address) (s .level) (s .size) (s .baud) (s .transfer) (s .sensor) (s .got) (s .verified) f h
+withFilled f h s = record-of (s .password) (s .address) (s .level) (s .size) (s .baud) (s .transfer) (s .sensor) (s .got) (s .verified) f h (s .origin1) (s .origin2)
+
+abbrev pub withOrigins : ℕ → ℕ → Settings → Settings
+withOrigins o q s = record-of (s .password) (s .address) (s .level) (s .size) (s .baud) (s .transfer) (s .sensor) (s .got) (s .verified) (s .filled1) (s .filled2) o q
+
+-- what a line switch leaves of them
+abbrev pub withSwitch : Settings → Settings
+withSwitch s = record-of (s .password) (s .address) (s .level) (s .size) (s .baud) 0 (s .sensor) 0 false false false noPage noPage
 
 -- ---- the data bytes of a size code
 
@@ -55,6 +63,14 @@ unfoldable pub legalOf : Settings → Bool
 legalOf s =
     let r : Reader = readerOf s [] [] [] [] [] in
     fitPlain (r .plain) && fitTransfer (r .plain) (r .guarded) (r .plain .transfer)
+
+-- both origins, of c pages and an index x
+unfoldable pub originsFit : ℕ → List ℕ → Settings → Bool
+originsFit c x s = fitOrigin c x (s .filled1) (originOf (s .origin1)) && fitOrigin c x (s .filled2) (originOf (s .origin2))
+
+-- what refusal 3 tests
+unfoldable pub soundOf : ℕ → List ℕ → Settings → Bool
+soundOf c x s = legalOf s && clearFrom x c && originsFit c x s
 
 -- what legal settings say
 pub record Legal (s : Settings) : Type 0 where

@@ -8,12 +8,12 @@ ghost use Rattle.protocol.specs.Numbers.{highestSize};
 ghost use Rattle.protocol.specs.Reader.{locked};
 ghost use Rattle.protocol.specs.Call.{fitPlain, fitTransfer};
 ghost use Rattle.protocol.specs.Records.{plainOf, transferOf, readerOf, freshOf};
-ghost use Rattle.rules.specs.Settings.{withMark, withPassword, withAddress, withTuning, withTransfer, withFilled, SizeOf, legalOf};
+ghost use Rattle.rules.specs.Settings.{withMark, withPassword, withAddress, withTuning, withTransfer, withFilled, withOrigins, withSwitch, SizeOf, legalOf};
 use protocol::Settings;
 use protocol::numbers;
 use wire::bytes;
 
-// Fresh settings: password 0, address FFFFFFFFh, level 3, size code 2, baud factor 6, type 0, marks clear, no transfer.
+// Fresh settings: password 0, address FFFFFFFFh, level 3, size code 2, baud factor 6, type 0, marks clear, no transfer, no origins.
 pub fn fresh() -> Settings
     ensures { λ r. ⌜ ((t i n b c : List ℕ) → readerOf r t i n b c ≡ freshOf t i n b c) ⌝ }
 {
@@ -29,6 +29,8 @@ pub fn fresh() -> Settings
         verified: false,
         filled1: false,
         filled2: false,
+        origin1: numbers::NO_PAGE,
+        origin2: numbers::NO_PAGE,
     }
 }
 
@@ -85,8 +87,39 @@ pub fn filled(s: Settings, one: bool, two: bool) -> Settings
     t
 }
 
+pub fn linked(s: Settings, one: u16, two: u16) -> Settings
+    ensures { λ r. ⌜ r ≡ withOrigins one two s ⌝ }
+{
+    let mut t = s;
+    t.origin1 = one;
+    t.origin2 = two;
+    t
+}
+
+// Verified mark and filled marks clear, no origins, no transfer.
+pub fn switched(s: Settings) -> Settings
+    ensures { λ r. ⌜ r ≡ withSwitch s ⌝ }
+{
+    let mut t = s;
+    t.transfer = 0;
+    t.got = 0;
+    t.verified = false;
+    t.filled1 = false;
+    t.filled2 = false;
+    t.origin1 = numbers::NO_PAGE;
+    t.origin2 = numbers::NO_PAGE;
+    t
+}
+
 // The filled mark of a buffer.
 pub fn filled_of(n: u8, one: bool, two: bool) -> bool
+    ensures { λ r. ⌜ r ≡ cond (eqb n 2) two one ⌝ }
+{
+    if n == 2 { two } else { one }
+}
+
+// The origin of a buffer.
+pub fn origin_of(n: u8, one: u16, two: u16) -> u16
     ensures { λ r. ⌜ r ≡ cond (eqb n 2) two one ⌝ }
 {
     if n == 2 { two } else { one }
@@ -164,7 +197,7 @@ fn is_transfer_fit(s: Settings) -> bool
     !full
 }
 
-// Whether settings and transfer are legal (refusal 3, but for the index).
+// Whether settings and transfer are legal (refusal 3, but for the index and the origins).
 pub fn is_legal(s: Settings) -> bool
     ensures { λ r. ⌜ r ≡ legalOf s ⌝ }
 {

@@ -1,5 +1,6 @@
-// Bytes: widened, summed, compared, copied, and zeroed.
+// Bytes: made of truths, widened, summed, compared, copied, and zeroed.
 ghost use mathlib.Core.Path.{_≡_};
+ghost use mathlib.Core.Bool.{cond};
 ghost use Prim.Native.Nat.{_+_, _%_, _≤_, _<_};
 ghost use lib.ListN.{length};
 ghost use Rattle.protocol.specs.Bytes.{zeros, total, same};
@@ -10,6 +11,13 @@ pub fn wide(x: u8) -> usize
     ensures { λ r. ⌜ (r ≡ x) × (r < 256) ⌝ }
 {
     x as usize
+}
+
+// A truth as a number, 1 or 0.
+pub fn flag(on: bool) -> u8
+    ensures { λ r. ⌜ r ≡ cond on 1 0 ⌝ }
+{
+    if on { 1 } else { 0 }
 }
 
 // The sum of all bytes modulo 65536.

@@ -6,11 +6,12 @@ use crate::dialogue::dialogue;
 use crate::examples::{bytes, count, FINE};
 use crate::frame::{Kind, Request};
 use crate::host::Exchange;
+use crate::kinds::{CODES, ON_A_LINE};
 use crate::reader::*;
 use crate::readers::fresh_reader;
 use crate::receiver::{given_whole, Receiver, Rest, HOLDS};
 use crate::report::hex;
-use crate::tally::{Tally, CODES, ON_A_LINE};
+use crate::tally::Tally;
 
 /// The pages of the bench program's templates.
 pub const PAGES: usize = 64;

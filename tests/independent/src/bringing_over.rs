@@ -66,13 +66,14 @@ fn of_bytes() -> Vec<Request> {
 
 /// A memory, a reply room and settings that a call refuses, with a stored index of the right length and of a wrong one.
 fn of_unfit_readers() -> Vec<Request> {
-    let spoil: [fn(&mut Request); 3] = [
+    let spoil: [fn(&mut Request); 4] = [
         |request| request.reader.notepad.clear(),
         |request| request.room.clear(),
         |request| {
             request.reader.settings.verified = Mark(2);
             request.reader.settings.filled = [Mark(0x80), Mark(0xFF)];
         },
+        |request| request.reader.settings.origins = [Origin(0x1234), Origin(0xFFFE)],
     ];
     let mut requests = Vec::new();
     for stored in [SHORT_INDEX, SHORT_INDEX + 1] {

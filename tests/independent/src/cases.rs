@@ -110,21 +110,22 @@ impl Author<'_> {
             return vec![Event::Bytes(self.right_password())];
         }
         let scene = match self.chance.below(100) {
-            0..=27 => self.runs(1, 1, Author::any_command),
-            28..=37 => self.runs(2, 6, Author::any_command),
-            38..=43 => self.runs(1, 2, Author::damaged_command),
-            44..=47 => self.runs(1, 2, Author::foreign),
-            48..=50 => self.runs(1, 3, Author::noise),
-            51..=54 => self.runs(1, 2, Author::header),
-            55..=56 => self.runs(1, 2, Author::stray),
-            57..=58 => self.runs(1, 2, Author::long_packet),
-            59..=62 => self.runs(1, 2, Author::wrong_command),
-            63..=73 => self.download(),
-            74..=78 => self.store_and_load(),
-            79..=85 => self.store_again(),
-            86..=90 => self.lock(),
-            91..=93 => self.new_address(),
-            94..=96 => self.runs(1, 3, |author| author.command(DELET_CHAR)),
+            0..=20 => self.runs(1, 1, Author::any_command),
+            21..=30 => self.runs(2, 6, Author::any_command),
+            31..=36 => self.runs(1, 2, Author::damaged_command),
+            37..=39 => self.runs(1, 2, Author::foreign),
+            40..=42 => self.runs(1, 3, Author::noise),
+            43..=46 => self.runs(1, 2, Author::header),
+            47..=48 => self.runs(1, 2, Author::stray),
+            49..=50 => self.runs(1, 2, Author::long_packet),
+            51..=54 => self.runs(1, 2, Author::wrong_command),
+            55..=65 => self.download(),
+            66..=69 => self.store_and_load(),
+            70..=75 => self.store_again(),
+            76..=80 => self.leaver(),
+            81..=85 => self.lock(),
+            86..=88 => self.new_address(),
+            89..=96 => self.runs(1, 3, Author::origin_command),
             _ => vec![Event::LineSwitch],
         };
         self.arranged(scene)
@@ -174,7 +175,7 @@ impl Author<'_> {
     }
 
     /// A whole command, with parameters good and at the edge.
-    fn command(&mut self, code: u8) -> Vec<u8> {
+    pub fn command(&mut self, code: u8) -> Vec<u8> {
         let content = self.content(code);
         self.packet(COMMAND, &content)
     }
@@ -189,9 +190,8 @@ impl Author<'_> {
             }
             UP_CHAR | DOWN_CHAR => content.push(self.buffer()),
             DELET_CHAR => {
-                let page = self.page();
-                content.extend(page.to_be_bytes());
-                content.extend(self.count_from(page).to_be_bytes());
+                let pages = self.deleted_pages();
+                content.extend(pages.map(u16::to_be_bytes).concat());
             }
             SET_SYS_PARA => {
                 content.push(self.chance.pick(&[4, 5, 6, 4, 5, 6, 0, 3, 7, 255]));
@@ -215,17 +215,18 @@ impl Author<'_> {
         self.chance.pick(&[1, 2, 1, 2, 1, 2, 1, 2, 1, 2, 1, 2, 0, 3, 255])
     }
 
-    fn page(&mut self) -> u16 {
+    pub fn page(&mut self) -> u16 {
         let capacity = self.reader.capacity() as u16;
-        match self.chance.below(8) {
+        match self.chance.below(10) {
             0..=5 => self.chance.below(usize::from(capacity).max(1)) as u16,
-            6 => self.chance.pick(&[capacity.wrapping_sub(1), capacity, capacity + 1]),
+            6 | 7 => self.origin(),
+            8 => self.chance.pick(&[capacity.wrapping_sub(1), capacity, capacity + 1]),
             _ => self.chance.pick(&[255, 256, 257, 998, 999, 1000, 1001, 1023, 1024, 0x8000, 0xFFFF]),
         }
     }
 
     /// A page whose bit is set; any page if there is none.
-    fn stored_page(&mut self) -> u16 {
+    pub fn stored_page(&mut self) -> u16 {
         let bits = 0..8 * self.reader.index.len();
         let stored: Vec<usize> = bits.filter(|&page| self.reader.stored(page)).collect();
         if stored.is_empty() {
@@ -236,7 +237,7 @@ impl Author<'_> {
     }
 
     /// N of a delete: what is there, one more or less, and sums that pass 65535.
-    fn count_from(&mut self, page: u16) -> u16 {
+    pub fn count_from(&mut self, page: u16) -> u16 {
         let there = (self.reader.capacity() as u16).wrapping_sub(page);
         let past = page.wrapping_neg();
         let edges = [there, there.wrapping_sub(1), there.wrapping_add(1), past, past.wrapping_add(1)];
@@ -503,6 +504,6 @@ impl Author<'_> {
     }
 }
 
-fn bytes_events(runs: Vec<Vec<u8>>) -> Vec<Event> {
+pub fn bytes_events(runs: Vec<Vec<u8>>) -> Vec<Event> {
     runs.into_iter().map(Event::Bytes).collect()
 }

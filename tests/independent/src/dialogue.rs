@@ -1,5 +1,5 @@
 //! The stored dialogue with the bench program: what a host sends, and beside it what it must get, written by hand from
-//! document 01 and document 02's requests [2], [3], [5] and [6].
+//! document 01 and document 02's requests [2], [3] and [5] to [7].
 
 use crate::coverage::ROWS;
 use crate::examples::{bytes, count, COUNT, FINE, HAND_SHAKE};
@@ -41,6 +41,7 @@ const SCENES: &[fn(&mut Host)] = &[
     locked,
     passwords,
     addresses,
+    leavers,
     unfinished,
 ];
 
@@ -421,30 +422,33 @@ fn delete(host: &mut Host) {
         ("LoadChar page 8", "07 01 0008", 0x0C),
     ]);
     host.count("two left", 2);
-    host.command("LoadChar page 7", "07 01 0007", 0x00);
-    host.upload("page 7 is the second template", 1, &second(), 128);
+    host.upload("buffer 2, loaded from page 0, stays", 2, &first(), 128);
+    host.command("LoadChar 2 from page 7", "07 02 0007", 0x00);
+    host.upload("page 7 is the second template", 2, &second(), 128);
 }
 
 fn empty(host: &mut Host) {
     host.command("Empty", "0D", 0x00);
     host.count("none", 0);
     host.index("no page", "");
-    host.command("LoadChar page 0", "07 01 0000", 0x0C);
-    host.upload("buffer 2 stays", 2, &first(), 128);
-    host.command("Store page 7, emptied", "06 02 0007", 0x00);
+    host.command("buffer 2, loaded from page 7, is not filled any more", "08 02", 0x0D);
+    host.command("LoadChar page 0", "07 02 0000", 0x0C);
+    host.upload("buffer 1, downloaded, stays", 1, &second(), 128);
+    host.command("Store page 7, emptied", "06 01 0007", 0x00);
 }
 
 /// A clerk stores a new driver on page 12, where the old one is: 22h, and nothing changes.
 fn new_driver(host: &mut Host) {
+    host.download("the old driver", 1, &third(), 128, &[]);
     host.command("Store page 12, the old driver", "06 01 000C", 0x00);
     host.count("two stored", 2);
-    host.download("the new driver", 1, &third(), 128, &[]);
+    host.command("LoadChar 1 from page 7, the new driver", "07 01 0007", 0x00);
     host.command("Store page 12, the new driver", "06 01 000C", 0x22);
     host.count("still two", 2);
     host.index("pages 7 and 12", "80 10");
     host.command("LoadChar 2 from page 12", "07 02 000C", 0x00);
-    host.upload("it is the old driver", 2, &second(), 128);
-    host.upload("buffer 1 is still the new one", 1, &third(), 128);
+    host.upload("it is the old driver", 2, &third(), 128);
+    host.upload("buffer 1 is still the new one", 1, &second(), 128);
 }
 
 /// What else gets 22h, and what comes before it; the old driver stays.
@@ -466,23 +470,24 @@ fn stored_page(host: &mut Host) {
     closed(host, "closed");
     host.count("still two", 2);
     host.command("LoadChar 2 from page 12", "07 02 000C", 0x00);
-    host.upload("it is still the old driver", 2, &second(), 128);
+    host.upload("it is still the old driver", 2, &third(), 128);
 }
 
 /// The host deletes the old driver first; then the new one goes there, though the page beside is stored.
 fn deleted_first(host: &mut Host) {
-    host.command("Store page 13, the page beside", "06 01 000D", 0x00);
+    host.command("Store page 13, the old driver on the page beside", "06 02 000D", 0x00);
     host.command("DeletChar (12, 1)", "0C 000C 0001", 0x00);
+    host.upload("buffer 2 stays, its page is 13", 2, &third(), 128);
     host.index("pages 7 and 13", "80 20");
     host.command("Store page 12, deleted", "06 01 000C", 0x00);
     host.index("pages 7, 12 and 13", "80 30");
     host.command("LoadChar 2 from page 12", "07 02 000C", 0x00);
-    host.upload("it is the new driver", 2, &third(), 128);
+    host.upload("it is the new driver", 2, &second(), 128);
     host.command("Store page 12 again", "06 01 000C", 0x22);
-    host.command("DeletChar (13, 1)", "0C 000D 0001", 0x00);
+    host.command("DeletChar (7, 1)", "0C 0007 0001", 0x00);
     host.count("two stored", 2);
-    host.command("LoadChar 2 from page 7", "07 02 0007", 0x00);
-    host.upload("it is still the first template", 2, &first(), 128);
+    host.command("LoadChar 2 from page 13", "07 02 000D", 0x00);
+    host.upload("it is the old driver", 2, &third(), 128);
 }
 
 fn lock(host: &mut Host) {
@@ -525,7 +530,7 @@ fn passwords(host: &mut Host) {
     host.command("right password", "13 EF01A5FF", 0x00);
     host.parameters("status 4", 4, 5, 2, 6);
     host.count("nothing was lost: two stored", 2);
-    host.upload("nothing was lost: buffer 2", 2, &first(), 128);
+    host.upload("nothing was lost: buffer 2", 2, &third(), 128);
     host.command("transfer open, then a wrong password: DownChar 1", "09 01", 0x00);
     host.silent("one part", &part(host));
     host.command("wrong password clears the mark", "13 00000000", 0x13);
@@ -546,7 +551,7 @@ fn addresses(host: &mut Host) {
     host.silent("the fresh address", &bytes(&format!("{HAND_SHAKE} {COUNT}")));
     host.command("HandShake at the new one", "40", 0x00);
     host.parameters("parameters with the new address", 0, 5, 2, 6);
-    host.upload("upload with the new address", 2, &first(), 128);
+    host.upload("upload with the new address", 2, &third(), 128);
     let old = host.packet(COMMAND, &[0x40]);
     host.readdress("SetAdder EF01EF01", [0xEF, 0x01, 0xEF, 0x01]);
     host.command("HandShake there", "40", 0x00);
@@ -556,6 +561,34 @@ fn addresses(host: &mut Host) {
     host.readdress("SetAdder back", FRESH);
     host.command("HandShake", "40", 0x00);
     host.count("last count", 2);
+}
+
+/// Deleted fingers, loaded or stored before, are in no buffer any more; buffer 2 has page 13 until that is deleted.
+fn leavers(host: &mut Host) {
+    host.commands(&[
+        ("LoadChar 1 from page 12", "07 01 000C", 0x00),
+        ("Store page 9, its page from now on", "06 01 0009", 0x00),
+        ("DeletChar (12, 1)", "0C 000C 0001", 0x00),
+    ]);
+    host.upload("buffer 1 stays", 1, &second(), 128);
+    host.command("DeletChar (9, 1)", "0C 0009 0001", 0x00);
+    host.command("stored, then deleted: not filled", "08 01", 0x0D);
+    host.upload("buffer 2 stays", 2, &third(), 128);
+    host.commands(&[
+        ("LoadChar 1 from page 13", "07 01 000D", 0x00),
+        ("DeletChar (13, 0)", "0C 000D 0000", 0x00),
+        ("DeletChar (13, 52)", "0C 000D 0034", 0x10),
+        ("DeletChar (0, 13)", "0C 0000 000D", 0x00),
+        ("DeletChar (14, 50)", "0C 000E 0032", 0x00),
+    ]);
+    host.upload("both stay: buffer 1", 1, &third(), 128);
+    host.upload("both stay: buffer 2", 2, &third(), 128);
+    host.commands(&[
+        ("DeletChar (13, 1)", "0C 000D 0001", 0x00),
+        ("loaded, then deleted: not filled", "08 01", 0x0D),
+        ("buffer 2 too", "08 02", 0x0D),
+    ]);
+    host.count("none", 0);
 }
 
 /// An unfinished packet at the end, with whole packets in it: 266 of 267 bytes.

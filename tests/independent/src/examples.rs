@@ -1,5 +1,6 @@
-//! The table of examples P1 to P12, and examples of document 02's requests [1] to [3], [5] and [6].
+//! The table of examples P1 to P12, and examples of document 02's requests [1] to [3] and [5] to [7].
 
+use crate::examples_origins;
 use crate::reader::{Reader, SET};
 use crate::readers::fresh_reader;
 use crate::receiver::Receiver;
@@ -57,6 +58,7 @@ pub fn all() -> Vec<Example> {
         of_lengths(),
         of_size_code_3(),
         of_stores(),
+        examples_origins::all(),
         of_pages(),
         of_index_pages(),
     ];
@@ -383,13 +385,13 @@ fn of_index_pages() -> Vec<Example> {
 }
 
 /// Fresh settings in a frame.
-const FRESH_SETTINGS: &str = "00000000 A 03 02 06 00 0000 0000 00 00 00";
+const FRESH_SETTINGS: &str = "00000000 A 03 02 06 00 0000 0000 00 00 00 FFFF FFFF";
 
 /// A name, a frame in and the frame out, byte by byte.
-type Frames = (&'static str, Vec<u8>, Vec<u8>);
+pub type Frames = (&'static str, Vec<u8>, Vec<u8>);
 
 pub fn of_frames() -> Vec<Frames> {
-    [of_settings(), of_unfit_indexes(), of_brought_over()].concat()
+    [of_settings(), of_unfit_indexes(), of_brought_over(), examples_origins::of_frames()].concat()
 }
 
 /// Fresh settings, and settings and held counts that do not fit or just fit.
@@ -399,25 +401,25 @@ fn of_settings() -> Vec<Frames> {
     let lengths = "00000200 00000080 00000200 00000200 00000200 0000000C 000002BC";
     let memory = zeroes(512 + 128 + 3 * 512);
     let room = room();
-    let unfit = "00000000 A 03 04 06 00 0000 0000 00 00 00";
+    let unfit = "00000000 A 03 04 06 00 0000 0000 00 00 00 FFFF FFFF";
     let held_268 = format!("010C{}", " 41".repeat(267));
     let held_267 = format!("010B{}", " 41".repeat(267));
     let held_none = format!("0000{}", zeroes(267));
     vec![
         example(
             "fresh settings for unfit ones, with unfit lengths",
-            "04 01234567 89ABCDEF 00 04 0D 07 1234 FFFF 02 80 FF
+            "04 01234567 89ABCDEF 00 04 0D 07 1234 FFFF 02 80 FF FFFE 0000
              00000003 00000001 00000000 00000002 00000001 00000002 00000004
              010203 FF 0405 06 EF01 0708090A",
-            "00 00000000 00000000 00000000 A 03 02 06 00 0000 0000 00 00 00
+            "00 00000000 00000000 00000000 A 03 02 06 00 0000 0000 00 00 00 FFFF FFFF
              010203 FF 0405 06 0708090A",
         ),
         example(
             "fresh settings for stored ones, with P1's run",
-            "04 00000005 89ABCDEF 05 01 0C 02 0001 0040 01 01 00
+            "04 00000005 89ABCDEF 05 01 0C 02 0001 0040 01 01 00 0007 FFFF
              00000000 00000000 00000000 00000000 00000000 0000000C 00000001
              EF 01 A 01 00 03 40 00 44 5A",
-            "00 00000000 00000000 00000000 A 03 02 06 00 0000 0000 00 00 00
+            "00 00000000 00000000 00000000 A 03 02 06 00 0000 0000 00 00 00 FFFF FFFF
              5A",
         ),
         example(
@@ -464,7 +466,7 @@ fn of_unfit_indexes() -> Vec<Frames> {
 
 /// A stored index that is brought over or not, with settings, templates and buffers that no call takes.
 fn of_brought_over() -> Vec<Frames> {
-    let settings = "01234567 89ABCDEF 00 04 0D 07 1234 FFFF 02 80 FF";
+    let settings = "01234567 89ABCDEF 00 04 0D 07 1234 FFFF 02 80 FF 03E8 FFFE";
     let example = |name, refusal: &str, lent: (&str, &str), stored: (&str, &str), left: &str| {
         let lengths = format!("00000003 {} 00000000 00000002 00000001 {} 00000004", lent.0, stored.0);
         let frame_in = format!("05 {settings} {lengths} 010203 {} 0405 06 {} 0708090A", lent.1, stored.1);

@@ -1,6 +1,6 @@
 //! The frames that a probe takes and gives. All numbers are high byte first.
 
-use crate::reader::{self, Answer, Mark, Reader, Settings, COMMAND};
+use crate::reader::{self, Answer, Mark, Origin, Reader, Settings, COMMAND};
 use crate::receiver::{self, Receiver};
 use std::io::{Error, ErrorKind, Read, Result};
 
@@ -244,6 +244,7 @@ fn settings_to_bytes(settings: &Settings) -> Vec<u8> {
     bytes.extend(settings.sensor_type.to_be_bytes());
     bytes.extend(settings.got.to_be_bytes());
     bytes.extend([settings.verified, settings.filled[0], settings.filled[1]].map(|mark| mark.0));
+    bytes.extend(settings.origins.iter().flat_map(|origin| origin.0.to_be_bytes()));
     bytes
 }
 
@@ -255,7 +256,21 @@ fn read_settings(input: &mut impl Read) -> Result<Settings> {
     let got = u16::from_be_bytes(read_bytes(input)?);
     let [verified, filled_1, filled_2] = read_bytes(input)?.map(Mark);
     let filled = [filled_1, filled_2];
-    Ok(Settings { password, address, level, size_code, baud_factor, transfer, sensor_type, got, verified, filled })
+    let mut origin = || read_bytes(input).map(|bytes| Origin(u16::from_be_bytes(bytes)));
+    let origins = [origin()?, origin()?];
+    Ok(Settings {
+        password,
+        address,
+        level,
+        size_code,
+        baud_factor,
+        transfer,
+        sensor_type,
+        got,
+        verified,
+        filled,
+        origins,
+    })
 }
 
 fn read_bytes<const N: usize>(input: &mut impl Read) -> Result<[u8; N]> {

@@ -1,4 +1,4 @@
-//! Pits a reader and a receiver, written from document 01 and document 02's requests [1] to [3], [5] and [6] alone,
+//! Pits a reader and a receiver, written from document 01 and document 02's requests [1] to [3] and [5] to [7] alone,
 //! against another implementation of the papers, and writes the stored dialogue of the bench program with them.
 
 mod bench;
@@ -9,9 +9,13 @@ mod counts;
 mod coverage;
 mod dialogue;
 mod examples;
+mod examples_origins;
 mod frame;
 mod host;
+mod kinds;
+mod leavers;
 mod limits;
+mod origins;
 mod probe;
 mod reader;
 mod readers;
@@ -20,24 +24,29 @@ mod receivers;
 mod report;
 mod shrink;
 mod tally;
+mod tally_origins;
 mod templates;
 mod thousand;
 mod wrong;
 mod wrong_bringing_over;
 mod wrong_limits;
+mod wrong_origins;
+mod wrong_refusals;
 mod wrong_stores;
 mod wrong_thousand;
+mod wrong_wipes;
 
 use cases::Dialogue;
 use chance::Chance;
 use frame::{Kind, Outcome, Request};
+use kinds::{BROUGHT, CALLED, FRESHENED, ON_A_LINE, RECEIVED};
 use probe::Probe;
 use receivers::Caller;
 use std::fs;
 use std::io::{self, Write};
 use std::process::ExitCode;
 use std::time::{Duration, Instant};
-use tally::{Tally, BROUGHT, CALLED, FRESHENED, ON_A_LINE, RECEIVED};
+use tally::Tally;
 
 const USAGE: &str = "usage: independent [--cases N] [--seed S] [--quiet] -- PROGRAM ARGS...
        independent --answer [ERROR]    be a probe, with a deliberate error if named
@@ -195,6 +204,7 @@ fn compare(options: Options) -> Result<(), End> {
     comparer.thousand(seed)?;
     comparer.limits(seed)?;
     comparer.counts()?;
+    comparer.origins()?;
     comparer.receivers_in_turn(seed)?;
     comparer.probe.finish()?;
 
@@ -229,6 +239,13 @@ struct Comparer {
 impl Comparer {
     /// The examples, which also bind the independent reader and receiver.
     fn examples(&mut self) -> Result<(), End> {
+        for (name, frame_in, frame_out) in examples::of_frames() {
+            self.case = format!("the example {name}");
+            let request = Request::read(&mut &frame_in[..]).ok().flatten();
+            let request = request.ok_or_else(|| format!("there is no frame in {}", self.case))?;
+            let outcome = self.agreed(&request)?;
+            self.demand(request.frame() == frame_in && outcome.frame() == frame_out, "gives another frame")?;
+        }
         for example in examples::all() {
             self.case = format!("the example {}", example.name);
             let (mut receiver, mut reader) = (example.receiver, example.reader);
@@ -241,13 +258,6 @@ impl Comparer {
                 self.demand(answered && outcome.receiver == step.receiver, "gives another answer")?;
                 (receiver, reader) = (outcome.receiver, outcome.reader);
             }
-        }
-        for (name, frame_in, frame_out) in examples::of_frames() {
-            self.case = format!("the example {name}");
-            let request = Request::read(&mut &frame_in[..]).ok().flatten();
-            let request = request.ok_or_else(|| format!("there is no frame in {}", self.case))?;
-            let outcome = self.agreed(&request)?;
-            self.demand(request.frame() == frame_in && outcome.frame() == frame_out, "gives another frame")?;
         }
         Ok(())
     }
@@ -302,6 +312,15 @@ impl Comparer {
             self.case = format!("count {place}");
             let told = self.agreed(&request)?.room;
             self.demand(reader::number(&told[10..12]) == stored, "tells another number")?;
+        }
+        Ok(())
+    }
+
+    /// Origins, legal and not, and what becomes of them.
+    fn origins(&mut self) -> Result<(), End> {
+        for (place, request) in origins::all().enumerate() {
+            self.case = format!("case {place} of the origins");
+            self.agreed(&request)?;
         }
         Ok(())
     }

@@ -1,8 +1,8 @@
 //! The reader of document 01, with the fresh settings of document 02's request [2], the limits of its request [3], the
-//! Store of its request [5] and the thousand pages of its request [6], written from those papers alone and in document
-//! 01's order.
+//! Store of its request [5], the thousand pages of its request [6] and the origins of its request [7], written from
+//! those papers alone and in document 01's order.
 
-use std::ops::RangeInclusive;
+use std::ops::{Range, RangeInclusive};
 
 /// Bytes of a page of templates, of a character buffer and of the notepad.
 pub const PAGE: usize = 512;
@@ -97,6 +97,27 @@ impl Mark {
     }
 }
 
+/// An origin as the number that it is kept in: a page, or FFFFh for none.
+#[derive(Clone, Copy, Debug, PartialEq, Eq)]
+pub struct Origin(pub u16);
+
+pub const NONE: Origin = Origin(0xFFFF);
+
+impl Origin {
+    pub fn of(page: usize) -> Origin {
+        Origin(page as u16)
+    }
+
+    pub fn page(self) -> Option<usize> {
+        (self != NONE).then_some(usize::from(self.0))
+    }
+
+    /// Whether it is one of these pages.
+    pub fn among(self, pages: &Range<usize>) -> bool {
+        self.page().map_or(false, |page| pages.contains(&page))
+    }
+}
+
 #[derive(Clone, Debug, PartialEq, Eq)]
 pub struct Settings {
     pub password: [u8; 4],
@@ -111,6 +132,8 @@ pub struct Settings {
     pub got: u16,
     pub verified: Mark,
     pub filled: [Mark; 2],
+    /// The page that each buffer was loaded from or stored to.
+    pub origins: [Origin; 2],
 }
 
 /// The settings and the lent memory, the reply room apart.
@@ -158,10 +181,9 @@ pub fn line_switch(reader: &mut Reader) -> Answer {
         return Answer::without_reply(1);
     }
     reader.settings.verified = CLEAR;
-    reader.settings.filled = [CLEAR; 2];
     reader.settings.close_transfer();
-    for buffer in &mut reader.buffers {
-        buffer.fill(0);
+    for buffer in 0..2 {
+        reader.wipe(buffer);
     }
     Answer::without_reply(0)
 }
@@ -191,6 +213,7 @@ impl Settings {
             got: 0,
             verified: CLEAR,
             filled: [CLEAR; 2],
+            origins: [NONE; 2],
         }
     }
 
@@ -273,12 +296,22 @@ impl Reader {
         (self.capacity()..8 * self.index.len()).find(|&page| self.stored(page))
     }
 
+    /// Whether each origin is none, or a stored page while its buffer is filled. The lengths fit.
+    fn origins_legal(&self) -> bool {
+        let stored = |page| page < self.capacity() && self.stored(page);
+        let Settings { origins, filled, .. } = &self.settings;
+        origins
+            .iter()
+            .zip(filled)
+            .all(|(origin, mark)| origin.page().map_or(true, |page| mark.is_set() && stored(page)))
+    }
+
     pub fn refusal(&self, room: usize) -> u8 {
         if !self.lengths_fit() {
             1
         } else if room < ROOM {
             2
-        } else if !self.settings.legal() || self.bit_beyond().is_some() {
+        } else if !self.settings.legal() || self.bit_beyond().is_some() || !self.origins_legal() {
             3
         } else {
             0
@@ -299,7 +332,23 @@ impl Reader {
         result.unwrap_or_else(|code| self.acknowledge(code, &[]))
     }
 
-    /// Closes an open transfer and zeroes its buffer.
+    /// Zeroes a buffer and clears its filled mark; its origin is none then.
+    pub fn wipe(&mut self, buffer: usize) {
+        self.buffers[buffer].fill(0);
+        self.settings.filled[buffer] = CLEAR;
+        self.settings.origins[buffer] = NONE;
+    }
+
+    /// Wipes every buffer whose origin is one of these pages.
+    fn wipe_from(&mut self, pages: Range<usize>) {
+        for buffer in 0..2 {
+            if self.settings.origins[buffer].among(&pages) {
+                self.wipe(buffer);
+            }
+        }
+    }
+
+    /// Closes an open transfer and zeroes its buffer, which is not filled and so has no origin.
     fn break_off_transfer(&mut self) {
         if let Some(buffer) = self.settings.open_transfer() {
             self.buffers[buffer].fill(0);
@@ -349,12 +398,14 @@ impl Reader {
                 let template = self.buffers[buffer].clone();
                 self.template_mut(page).copy_from_slice(&template);
                 self.index[page / 8] |= bit(page);
+                self.settings.origins[buffer] = Origin::of(page);
             }
             LOAD_CHAR => {
                 let (buffer, page) = self.buffer_and_page(parameters)?;
                 demand(self.stored(page), 0x0C)?;
                 self.buffers[buffer] = self.template(page).to_vec();
                 self.settings.filled[buffer] = SET;
+                self.settings.origins[buffer] = Origin::of(page);
             }
             UP_CHAR => {
                 let buffer = buffer(parameters[0])?;
@@ -363,8 +414,7 @@ impl Reader {
             }
             DOWN_CHAR => {
                 let buffer = buffer(parameters[0])?;
-                self.buffers[buffer].fill(0);
-                self.settings.filled[buffer] = CLEAR;
+                self.wipe(buffer);
                 self.settings.transfer = parameters[0];
                 self.settings.got = 0;
             }
@@ -375,10 +425,12 @@ impl Reader {
                     self.template_mut(page).fill(0);
                     self.index[page / 8] &= !bit(page);
                 }
+                self.wipe_from(page..page + count);
             }
             EMPTY => {
                 self.index.fill(0);
                 self.templates.fill(0);
+                self.wipe_from(0..self.capacity());
             }
             SET_SYS_PARA => {
                 let (range, setting) = match parameters[0] {

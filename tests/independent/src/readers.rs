@@ -80,12 +80,29 @@ pub fn sized_reader(chance: &mut Chance, size_code: u8) -> Reader {
 
 pub fn legal_reader(chance: &mut Chance, capacity: usize) -> Reader {
     let share = chance.pick(&[0, 20, 50, 80, 100]);
-    Reader {
+    let mut reader = Reader {
         index: index_of(capacity, |_| chance.percent(share)),
         settings: legal_settings(chance),
         templates: memory(chance, PAGE * capacity),
         notepad: memory(chance, PAGE),
         buffers: [memory(chance, PAGE), memory(chance, PAGE)],
+    };
+    lay_origins(chance, &mut reader);
+    reader
+}
+
+/// Gives most of the filled buffers a stored page for origin; half of them have its bytes.
+fn lay_origins(chance: &mut Chance, reader: &mut Reader) {
+    let stored: Vec<usize> = (0..reader.capacity()).filter(|&page| reader.stored(page)).collect();
+    for buffer in 0..2 {
+        if !stored.is_empty() && reader.settings.filled[buffer].is_set() && chance.percent(75) {
+            let any = chance.pick(&stored);
+            let page = chance.pick(&[any, stored[0], stored[stored.len() - 1]]);
+            reader.settings.origins[buffer] = Origin::of(page);
+            if chance.percent(50) {
+                reader.buffers[buffer] = reader.template(page).to_vec();
+            }
+        }
     }
 }
 
@@ -109,6 +126,7 @@ fn legal_settings(chance: &mut Chance) -> Settings {
         got: 0,
         verified: Mark::of(chance.percent(50)),
         filled: [Mark::of(chance.percent(60)), Mark::of(chance.percent(60))],
+        origins: [NONE; 2],
     };
     if !settings.locked() && chance.percent(40) {
         open_transfer(chance, &mut settings);
@@ -124,6 +142,7 @@ fn open_transfer(chance: &mut Chance, settings: &mut Settings) {
     settings.transfer = chance.pick(&[1, 2]);
     settings.got = (part * size) as u16;
     settings.filled[usize::from(settings.transfer) - 1] = CLEAR;
+    settings.origins[usize::from(settings.transfer) - 1] = NONE;
 }
 
 fn within(chance: &mut Chance, range: RangeInclusive<u8>) -> u8 {
@@ -156,7 +175,7 @@ pub fn size(settings: &Settings) -> usize {
 /// Makes something wrong that a refusal is for.
 fn spoil(chance: &mut Chance, reader: &mut Reader, room: &mut usize) {
     let settings = &mut reader.settings;
-    match chance.below(19) {
+    match chance.below(23) {
         0 | 1 => {
             let length = reader.templates.len().clamp(1, PAGE * MOST_PAGES);
             let far = if chance.percent(10) { PAGE * (MOST_PAGES + 1) } else { 0 };
@@ -199,6 +218,8 @@ fn spoil(chance: &mut Chance, reader: &mut Reader, room: &mut usize) {
             settings.verified = Mark(chance.byte());
             settings.filled = [Mark(chance.byte()), Mark(chance.byte())];
         }
+        18..=20 => lay_unfit_origin(chance, reader),
+        21 => settings.origins[chance.below(2)] = Origin::of(chance.within(0, 0xFFFF)),
         _ => {
             let (first, end) = (reader.capacity(), 8 * reader.index.len());
             if first < end {
@@ -207,6 +228,28 @@ fn spoil(chance: &mut Chance, reader: &mut Reader, room: &mut usize) {
                 reader.index[page / 8] |= bit(page);
             }
         }
+    }
+}
+
+/// Gives a buffer without a transfer an origin at or above C, on a vacant page, or while it is not filled.
+fn lay_unfit_origin(chance: &mut Chance, reader: &mut Reader) {
+    let capacity = reader.capacity();
+    let buffer = match reader.settings.transfer {
+        1 => 1,
+        2 => 0,
+        _ => chance.below(2),
+    };
+    let below = chance.below(capacity.max(1));
+    let beyond = chance.pick(&[capacity, capacity, capacity + 1, MOST_PAGES, 8 * INDEX, 0x8000, 0xFFFE, 0xFFFE]);
+    let (origin, filled, stored) = match chance.below(3) {
+        0 => (beyond, true, true),
+        1 => (below, true, false),
+        _ => (below, false, true),
+    };
+    reader.settings.origins[buffer] = Origin::of(origin);
+    reader.settings.filled[buffer] = Mark::of(filled);
+    if let Some(byte) = reader.index.get_mut(below / 8) {
+        *byte = if stored { *byte | bit(below) } else { *byte & !bit(below) };
     }
 }
 

@@ -1,7 +1,7 @@
 //! Tells readably what a case is and where two readers differ.
 
 use crate::frame::{Kind, Outcome, Request};
-use crate::reader::{Mark, Settings, CLEAR, SET};
+use crate::reader::{Mark, Origin, Settings, CLEAR, SET};
 
 /// The case in lines.
 pub fn case(request: &Request) -> Vec<String> {
@@ -76,12 +76,13 @@ fn fields(outcome: &Outcome) -> Vec<(&'static str, String)> {
     fields
 }
 
-fn settings(settings: &Settings) -> [(&'static str, String); 10] {
+fn settings(settings: &Settings) -> [(&'static str, String); 12] {
     let mark = |mark| match mark {
         CLEAR => "clear".to_string(),
         SET => "set".to_string(),
         Mark(other) => format!("{other:02X}h, not legal"),
     };
+    let origin = |origin: Origin| origin.page().map_or("none".to_string(), |page| page.to_string());
     let transfer = match (settings.transfer, settings.got) {
         (0, 0) => "none".to_string(),
         (buffer, got) => format!("of buffer {buffer} with {got} bytes got"),
@@ -96,6 +97,8 @@ fn settings(settings: &Settings) -> [(&'static str, String); 10] {
         ("verified", mark(settings.verified)),
         ("filled 1", mark(settings.filled[0])),
         ("filled 2", mark(settings.filled[1])),
+        ("origin 1", origin(settings.origins[0])),
+        ("origin 2", origin(settings.origins[1])),
         ("transfer", transfer),
     ]
 }

@@ -10,7 +10,7 @@ const TRIES: usize = 4000;
 /// Sets one field of the settings to its fresh value.
 type Freshen = fn(&mut Settings, Settings);
 
-const FIELDS: [Freshen; 9] = [
+const FIELDS: [Freshen; 12] = [
     |settings, fresh| settings.password = fresh.password,
     |settings, fresh| settings.address = fresh.address,
     |settings, fresh| settings.level = fresh.level,
@@ -18,7 +18,10 @@ const FIELDS: [Freshen; 9] = [
     |settings, fresh| settings.baud_factor = fresh.baud_factor,
     |settings, fresh| settings.sensor_type = fresh.sensor_type,
     |settings, fresh| settings.verified = fresh.verified,
-    |settings, fresh| settings.filled = fresh.filled,
+    |settings, fresh| settings.origins[0] = fresh.origins[0],
+    |settings, fresh| settings.origins[1] = fresh.origins[1],
+    |settings, fresh| settings.filled[0] = fresh.filled[0],
+    |settings, fresh| settings.filled[1] = fresh.filled[1],
     |settings, fresh| {
         settings.transfer = fresh.transfer;
         settings.got = fresh.got;

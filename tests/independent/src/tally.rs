@@ -1,205 +1,10 @@
 //! Counts what the calls brought about, to show that the cases reach everything.
 
 use crate::frame::{self, Outcome, Request};
+use crate::kinds::{Awaited::UpTo, *};
 use crate::reader::*;
-use crate::readers::FAR_CAPACITIES;
-use crate::receiver::{Receiver, HOLDS};
-use crate::receivers::MOST_PIECE;
+use crate::receiver::Receiver;
 use std::collections::BTreeMap;
-use Awaited::{Codes, Numbers, UpTo};
-
-/// Something to count, and which of it must occur.
-struct Kind {
-    name: &'static str,
-    awaited: Awaited,
-}
-
-enum Awaited {
-    /// Command and acknowledge codes.
-    Codes(&'static [u8]),
-    Numbers(&'static [usize]),
-    /// Every number up to this one.
-    UpTo(usize),
-}
-
-const ACKNOWLEDGES: usize = 0;
-const FINE: usize = 1;
-const UPLOADS: usize = 2;
-const DOWNLOADS: usize = 3;
-const REFUSALS: usize = 4;
-const SWITCHES: usize = 5;
-const MARKS: usize = 6;
-const MARKS_SWITCHED: usize = 7;
-const COUNTS: usize = 8;
-const COUNTS_SWITCHED: usize = 9;
-const PAST: usize = 10;
-const LOCKED: usize = 11;
-const PIECES: usize = 12;
-const HELD: usize = 13;
-const FRESH: usize = 14;
-const FRESH_SIZES: usize = 15;
-const FRESH_MARKS: usize = 16;
-const SIZES_SET: usize = 17;
-const SIZES_NOT_SET: usize = 18;
-const SIZES_REFUSED: usize = 19;
-const HEADERS_257: usize = 20;
-const HEADERS_258: usize = 21;
-const DATA_257: usize = 22;
-const DATA_258: usize = 23;
-const STRAY_257: usize = 24;
-const STRAY_258: usize = 25;
-const UNFINISHED: usize = 26;
-const STORES_VACANT: usize = 27;
-const STORES_VACANT_BYTES: usize = 28;
-const STORES_OTHER: usize = 29;
-const STORES_SAME: usize = 30;
-const STORES_IN_TRANSFER: usize = 31;
-const INDEX_PAGES_READ: usize = 32;
-const INDEX_PAGES_REFUSED: usize = 33;
-const INDEX_PAGES_NOT_ZERO: usize = 34;
-const CAPACITIES: usize = 35;
-const CAPACITIES_REFUSED: usize = 36;
-const INDEX_LENGTHS_REFUSED: usize = 37;
-const BITS_REFUSED: usize = 38;
-const PAGES_STORED: usize = 39;
-const PAGES_LOADED: usize = 40;
-const PAGES_DELETED: usize = 41;
-const PAGES_BEYOND: usize = 42;
-const DELETES_ACROSS: usize = 43;
-const NUMBERS_TOLD: usize = 44;
-const BROUGHT_OVER: usize = 45;
-const STORED_INDEXES_REFUSED: usize = 46;
-const LENT_INDEXES_REFUSED: usize = 47;
-const BOTH_INDEXES_REFUSED: usize = 48;
-const MARKS_BROUGHT_OVER: usize = 49;
-
-/// What a legal reader on a line brings about, in the stored dialogue too.
-pub const ON_A_LINE: &[usize] = &[
-    ACKNOWLEDGES,
-    FINE,
-    UPLOADS,
-    DOWNLOADS,
-    SIZES_SET,
-    SIZES_NOT_SET,
-    HEADERS_257,
-    HEADERS_258,
-    DATA_257,
-    DATA_258,
-    STORES_VACANT,
-    STORES_OTHER,
-    STORES_SAME,
-    STORES_IN_TRANSFER,
-    INDEX_PAGES_READ,
-    INDEX_PAGES_REFUSED,
-];
-/// What else calls and line switches bring about, with a receiver or without.
-pub const CALLED: &[usize] = &[
-    REFUSALS,
-    SWITCHES,
-    MARKS,
-    MARKS_SWITCHED,
-    SIZES_REFUSED,
-    STRAY_257,
-    STRAY_258,
-    UNFINISHED,
-    STORES_VACANT_BYTES,
-    INDEX_PAGES_NOT_ZERO,
-    CAPACITIES,
-    CAPACITIES_REFUSED,
-    INDEX_LENGTHS_REFUSED,
-    BITS_REFUSED,
-    PAGES_STORED,
-    PAGES_LOADED,
-    PAGES_DELETED,
-    PAGES_BEYOND,
-    DELETES_ACROSS,
-    NUMBERS_TOLD,
-];
-/// What needs a receiver.
-pub const RECEIVED: &[usize] = &[COUNTS, COUNTS_SWITCHED, PAST, LOCKED, PIECES, HELD];
-/// What stands there when fresh settings are asked for.
-pub const FRESHENED: &[usize] = &[FRESH, FRESH_SIZES, FRESH_MARKS];
-/// What an index that is brought over meets.
-pub const BROUGHT: &[usize] =
-    &[BROUGHT_OVER, STORED_INDEXES_REFUSED, LENT_INDEXES_REFUSED, BOTH_INDEXES_REFUSED, MARKS_BROUGHT_OVER];
-
-/// The acknowledge codes of document 01, and 22h of document 02's request [5].
-pub const CODES: [u8; 14] = [0x00, 0x01, 0x0B, 0x0C, 0x0D, 0x0E, 0x10, 0x13, 0x19, 0x1A, 0x1B, 0x1C, 0x21, 0x22];
-
-/// The identifiers of document 01.
-const IDENTIFIERS: [usize; 4] = [COMMAND as usize, DATA as usize, ACKNOWLEDGE as usize, LAST_DATA as usize];
-
-/// The greatest size code that is legal, and the least and the greatest that is not.
-const MOST_SIZE_CODE: usize = SIZES.len() - 1;
-const UNFIT_SIZE_CODES: [usize; 2] = [MOST_SIZE_CODE + 1, 255];
-
-/// Pages about 256 and at the end.
-const FAR_PAGES: [usize; 5] = [255, 256, 257, 998, 999];
-
-const KINDS: [Kind; 50] = [
-    Kind { name: "acknowledge codes", awaited: Codes(&CODES) },
-    Kind { name: "commands answered 00h", awaited: Codes(&COMMANDS) },
-    Kind { name: "uploads by size", awaited: Numbers(&SIZES) },
-    Kind { name: "downloads completed by size", awaited: Numbers(&SIZES) },
-    Kind { name: "calls by refusal", awaited: Numbers(&[0, 1, 2, 3]) },
-    Kind { name: "line switches by refusal", awaited: Numbers(&[0, 1]) },
-    Kind { name: "calls by refusal, with a mark of neither 0 nor 1", awaited: Numbers(&[1, 2, 3]) },
-    Kind { name: "line switches by refusal, with such a mark", awaited: Numbers(&[0]) },
-    Kind { name: "calls by refusal, with a held count that is not legal", awaited: Numbers(&[1, 2, 3]) },
-    Kind { name: "line switches by refusal, with such a count", awaited: Numbers(&[0, 1]) },
-    Kind { name: "calls by refusal, with cells past the count that are not zero", awaited: Numbers(&[0, 1, 2, 3]) },
-    Kind { name: "calls by refusal, of a locked reader", awaited: Numbers(&[0, 1, 2, 3]) },
-    Kind { name: "calls carried out by the piece's length", awaited: UpTo(MOST_PIECE) },
-    Kind { name: "calls carried out by the held count", awaited: UpTo(HOLDS) },
-    Kind { name: "fresh settings by the refusal that a call would get", awaited: Numbers(&[0, 1, 2, 3]) },
-    Kind { name: "fresh settings by the size code before", awaited: UpTo(255) },
-    Kind { name: "fresh settings by refusal, with a mark of neither 0 nor 1 before", awaited: Numbers(&[0]) },
-    Kind { name: "size codes set", awaited: UpTo(MOST_SIZE_CODE) },
-    Kind { name: "size codes answered 1Bh", awaited: Numbers(&UNFIT_SIZE_CODES) },
-    Kind { name: "calls refused for the size code alone, by this code", awaited: Numbers(&UNFIT_SIZE_CODES) },
-    Kind { name: "headers of length 257 and all bytes behind them, by identifier", awaited: Numbers(&IDENTIFIERS) },
-    Kind { name: "headers of length 258 and all bytes behind them, by identifier", awaited: Numbers(&IDENTIFIERS) },
-    Kind { name: "data packets of length 257 in a transfer by size", awaited: Numbers(&SIZES) },
-    Kind { name: "data packets of length 258 in a transfer by size", awaited: Numbers(&SIZES) },
-    Kind { name: "data packets of length 257 without a transfer by size", awaited: Numbers(&SIZES) },
-    Kind { name: "data packets of length 258 without a transfer by size", awaited: Numbers(&SIZES) },
-    Kind { name: "unfinished packets by the bytes that are there", awaited: Numbers(&[264, 265, 266]) },
-    Kind { name: "Stores to a vacant page by code", awaited: Codes(&[0x00, 0x0C]) },
-    Kind { name: "Stores to a vacant page that is not all zero by code", awaited: Codes(&[0x00]) },
-    Kind { name: "Stores to a stored page of other bytes by code", awaited: Codes(&[0x0C, 0x21, 0x22]) },
-    Kind { name: "Stores to a stored page of the buffer's bytes by code", awaited: Codes(&[0x22]) },
-    Kind { name: "Stores to a stored page that ended a transfer by code", awaited: Codes(&[0x0C, 0x22]) },
-    Kind { name: "index pages read", awaited: UpTo(INDEX_PAGES - 1) },
-    Kind { name: "index pages answered 0Bh", awaited: Numbers(&[INDEX_PAGES, 255]) },
-    Kind { name: "index pages read that are not all zero", awaited: UpTo(INDEX_PAGES - 1) },
-    Kind { name: "calls carried out by C", awaited: Numbers(&FAR_CAPACITIES) },
-    Kind { name: "calls refused for C alone, by C", awaited: Numbers(&[MOST_PAGES + 1]) },
-    Kind { name: "calls refused for the index's length alone, by this length", awaited: Numbers(&[0, 32, 127, 129]) },
-    Kind {
-        name: "calls refused for a bit at or above C alone, by the index page of the first",
-        awaited: UpTo(INDEX_PAGES - 1),
-    },
-    Kind { name: "pages stored", awaited: Numbers(&FAR_PAGES) },
-    Kind { name: "pages loaded", awaited: Numbers(&FAR_PAGES) },
-    Kind { name: "pages deleted, by the first", awaited: Numbers(&FAR_PAGES) },
-    Kind { name: "pages answered 0Bh where C is above 256", awaited: Numbers(&[257, 999, 1000, 1001, 1023, 1024]) },
-    Kind { name: "pages deleted on both sides of 256, by N", awaited: Numbers(&[2, 100, 257, 1000]) },
-    Kind { name: "valid counts told", awaited: Numbers(&FAR_CAPACITIES) },
-    Kind { name: "indexes brought over by the refusal that a call would get", awaited: Numbers(&[0, 1, 2, 3]) },
-    Kind {
-        name: "bringing over refused for the stored index alone, by its length",
-        awaited: Numbers(&[0, 31, 33, 128]),
-    },
-    Kind {
-        name: "bringing over refused for the lent index alone, by its length",
-        awaited: Numbers(&[0, 32, 127, 129]),
-    },
-    Kind {
-        name: "bringing over refused for both indexes, by the stored one's length",
-        awaited: Numbers(&[31, 33, 128]),
-    },
-    Kind { name: "bringing over by refusal, with a mark of neither 0 nor 1", awaited: Numbers(&[0, 1]) },
-];
 
 #[derive(Default)]
 pub struct Tally {
@@ -232,6 +37,7 @@ impl Tally {
         if !request.reader.settings.marks_legal() {
             self.count(marks, refusal);
         }
+        self.add_origins(request, outcome);
     }
 
     fn add_bringing_over(&mut self, request: &Request, refusal: u8) {
@@ -404,7 +210,7 @@ impl Tally {
         }
     }
 
-    fn count(&mut self, kind: usize, which: impl Into<usize>) {
+    pub fn count(&mut self, kind: usize, which: impl Into<usize>) {
         *self.counts.entry((kind, which.into())).or_default() += 1;
     }
 
@@ -442,25 +248,8 @@ impl Tally {
 }
 
 /// Whether a refused call would be carried out with this change of the reader.
-fn refused_for(change: fn(&mut Reader), request: &Request) -> bool {
+pub fn refused_for(change: fn(&mut Reader), request: &Request) -> bool {
     let mut asked = request.clone();
     change(&mut asked.reader);
     asked.carried_out().answer.refusal == 0
-}
-
-impl Kind {
-    fn awaited(&self) -> Box<dyn Iterator<Item = usize>> {
-        match self.awaited {
-            Codes(codes) => Box::new(codes.iter().map(|&code| code.into())),
-            Numbers(numbers) => Box::new(numbers.iter().copied()),
-            UpTo(most) => Box::new(0..=most),
-        }
-    }
-
-    fn label(&self, which: usize) -> String {
-        match self.awaited {
-            Codes(_) => format!("{which:02X}h"),
-            _ => which.to_string(),
-        }
-    }
 }

@@ -144,10 +144,15 @@ impl Case {
     }
 }
 
-/// A call of a reader at the fresh address with this command, and one of a receiver that holds its first half and is
-/// offered the rest.
+/// A call of a reader at the fresh address with this command, and one of a receiver.
 pub fn calls(reader: Reader, command: &[u8]) -> [Request; 2] {
-    let run = packet(Settings::fresh().address, COMMAND, command);
+    calls_with(reader, COMMAND, command)
+}
+
+/// A call of a reader at the fresh address with this packet, and one of a receiver that holds its first half and is
+/// offered the rest.
+pub fn calls_with(reader: Reader, identifier: u8, content: &[u8]) -> [Request; 2] {
+    let run = packet(Settings::fresh().address, identifier, content);
     let (held, piece) = run.split_at(run.len() / 2);
     let (receiver, piece) = (Receiver::holding(held), piece.to_vec());
     [(Kind::Call, run), (Kind::ReceiverCall(receiver), piece)].map(|(kind, run)| Request {

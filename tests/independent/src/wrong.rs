@@ -6,8 +6,11 @@ use crate::reader::*;
 use crate::receiver::{Receiver, HOLDS};
 use crate::wrong_bringing_over;
 use crate::wrong_limits;
+use crate::wrong_origins;
+use crate::wrong_refusals;
 use crate::wrong_stores;
 use crate::wrong_thousand;
+use crate::wrong_wipes;
 use Error::{OfBringingOver, OfFresh, OfReader, OfReceiver};
 
 pub enum Error {
@@ -39,7 +42,8 @@ impl Error {
 /// All wrong ones by name.
 pub fn errors() -> impl Iterator<Item = &'static (&'static str, Error)> {
     let of_requests = wrong_limits::ERRORS.iter().chain(&wrong_stores::ERRORS).chain(&wrong_thousand::ERRORS);
-    ERRORS.iter().chain(of_requests).chain(&wrong_bringing_over::ERRORS)
+    let of_origins = wrong_origins::ERRORS.iter().chain(&wrong_wipes::ERRORS).chain(&wrong_refusals::ERRORS);
+    ERRORS.iter().chain(of_requests).chain(&wrong_bringing_over::ERRORS).chain(of_origins)
 }
 
 const ERRORS: [(&str, Error); 54] = [

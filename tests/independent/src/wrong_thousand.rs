@@ -286,7 +286,7 @@ fn with_range(codes: &[u8], other: impl Fn(Range<usize>) -> Range<usize>, reques
 }
 
 /// The pages that the content of a DeletChar names.
-fn range(content: &[u8]) -> Range<usize> {
+pub fn range(content: &[u8]) -> Range<usize> {
     let (page, count) = (number(&content[1..3]), number(&content[3..]));
     page..page + count
 }
@@ -414,7 +414,7 @@ fn keeps_far_templates(command: u8, request: &Request) -> Outcome {
 }
 
 /// Whether a request is a call with this command that gets 00h.
-fn fine(command: u8, request: &Request, outcome: &Outcome) -> bool {
+pub fn fine(command: u8, request: &Request, outcome: &Outcome) -> bool {
     is_command(request, command) && code(outcome) == Some(0x00)
 }
 

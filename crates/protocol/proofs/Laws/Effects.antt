@@ -1,5 +1,5 @@
 -- Effects: what filling and erasing pages does to every page's bytes, and what a data packet that goes in does to its buffer.
-use mathlib.Core.Bool.{Bool, true, false}
+use mathlib.Core.Bool.{Bool, true, false, not}
 use mathlib.Core.Path.{_≡_, refl, ap, _∙_}
 use mathlib.Core.Logic.{_≢_}
 use mathlib.Core.List.{List}
@@ -10,7 +10,7 @@ use lib.ListN.{length, length-replicate}
 use lib.Seq.{take-all}
 use Rattle.protocol.specs.Numbers.{pageBytes}
 use Rattle.protocol.specs.Bytes.{part, zeros, lay}
-use Rattle.protocol.specs.Reader.{Buffer, Guarded, Reader, bufferOf, filledWith, withLibrary, withBuffer}
+use Rattle.protocol.specs.Reader.{Buffer, Guarded, Reader, bufferOf, withLibrary, withBuffer, withoutPages}
 use Rattle.protocol.specs.Table.{fillPage, erase, apply}
 use Rattle.protocol.specs.Step.{silence, takeAs}
 use Rattle.protocol.proofs.Laws.Lists.{inside-lay, before-lay, behind-lay, part-zeros}
@@ -22,10 +22,28 @@ unfolding bufferOf withBuffer
 buffer-same true b g = refl
 buffer-same false b g = refl
 
+pub buffer-other : (w : Bool) (b : Buffer) (g : Guarded) → bufferOf (not w) (withBuffer w b g) ≡ bufferOf (not w) g
+unfolding bufferOf withBuffer
+buffer-other true b g = refl
+buffer-other false b g = refl
+
+pub buffer-own : (w : Bool) (g : Guarded) → withBuffer w (bufferOf w g) g ≡ g
+unfolding bufferOf withBuffer
+buffer-own true g = refl
+buffer-own false g = refl
+
+-- what holds of the buffer anew and of the other one holds of both
+pub each-buffer : (P : Buffer → Type 0) (w : Bool) (b : Buffer) (g : Guarded) → P b → P (bufferOf (not w) g) → (v : Bool) → P (bufferOf v (withBuffer w b g))
+unfolding bufferOf withBuffer
+each-buffer P true b g h k true = h
+each-buffer P true b g h k false = k
+each-buffer P false b g h k true = k
+each-buffer P false b g h k false = h
+
 -- a data packet's bytes go in at the place reached
 pub taken-bytes : (r : Reader) (w last : Bool) (got : ℕ) (content : List ℕ)
     → bufferOf w (takeAs r w got content true last .after .guarded) .bytes ≡ lay got content (bufferOf w (r .guarded) .bytes)
-unfolding takeAs silence filledWith
+unfolding takeAs silence
 taken-bytes r w true got content = ap (λ (b : Buffer). b .bytes) (buffer-same w _ (r .guarded))
 taken-bytes r w false got content = ap (λ (b : Buffer). b .bytes) (buffer-same w _ (r .guarded))
 
@@ -59,7 +77,7 @@ pub record Filled (r : Reader) (w : Bool) (p : ℕ) : Type 0 where
 
 pub fill-page : (r : Reader) (w : Bool) (p : ℕ) → length (bufferOf w (r .guarded) .bytes) ≡ pageBytes → pageBytes * (p + 1) ≤ length (r .guarded .templates)
     → Filled r w p
-unfolding apply withLibrary
+unfolding apply withLibrary withBuffer
 fill-page r w p e h =
     let t : List ℕ = r .guarded .templates in
     let b : List ℕ = bufferOf w (r .guarded) .bytes in
@@ -75,7 +93,7 @@ pub record Erased (r : Reader) (p n : ℕ) : Type 0 where
   pub others : (q : ℕ) → (p ≤ q → q < p + n → ⊥) → page (apply (erase p n) r) q ≡ page r q
 
 pub erase-pages : (r : Reader) (p n : ℕ) → pageBytes * (p + n) ≤ length (r .guarded .templates) → Erased r p n
-unfolding apply withLibrary
+unfolding apply withLibrary withoutPages
 erase-pages r p n h =
     let t : List ℕ = r .guarded .templates in
     let c : List ℕ = zeros (pageBytes * n) in

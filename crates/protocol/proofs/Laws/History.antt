@@ -15,7 +15,7 @@ use Rattle.protocol.specs.Bytes.{two, zeros, same, lay, follow}
 use Rattle.protocol.specs.Packet.{packet, addressAt, identifierAt, rightAt, contentAt}
 use Rattle.protocol.specs.Finder.{findOf}
 use Rattle.protocol.specs.Index.{stored, setBit, clearBits}
-use Rattle.protocol.specs.Reader.{Transfer, closed, opened, unfit, Reader, capacity, bufferOf, emptied, withLibrary, withNotepad, withBuffer}
+use Rattle.protocol.specs.Reader.{Transfer, closed, opened, unfit, Reader, capacity, bufferOf, emptied, withLibrary, withNotepad, withBuffer, withoutPages}
 use Rattle.protocol.specs.Commands.{Barred, store, loadChar, upChar, downChar, deletChar, empty, setSysPara, readSysPara, setPassword, setAddress, writeNotepad, readNotepad, templeteNum, readIndexTable, barred, command}
 use Rattle.protocol.specs.Data.{acknowledge}
 use Rattle.protocol.specs.Table.{second, rule, apply}
@@ -104,7 +104,7 @@ module _ (m : ℕ) (P : List ℕ → List ℕ → List Act → Type 0) (law : Ke
 
   does-keeps : (d : Barred) → h ≡ order (command (barred d)) → T (passed (rule u d .tests))
       → After (carryAs u (rule u d) zero .reply) (carryAs u (rule u d) zero .after .guarded .templates) (carryAs u (rule u d) zero .after .guarded .index)
-  unfolding carryAs rule apply withLibrary withNotepad withBuffer follow actsIn actsOf
+  unfolding carryAs rule apply withLibrary withNotepad withBuffer withoutPages follow actsIn actsOf
   does-keeps (store b p) e t =
       let l : p < capacity (u .guarded) = ltb→lt p (capacity (u .guarded)) (search (and-l, and-r)) in
       let v : T (not (stored (u .guarded .index) p)) = search (and-l, and-r) depth 8 in

@@ -143,6 +143,9 @@ fine-less {n} x p f = go (stored x p) refl
 
 -- ---- n bits from p on cleared
 
+pub in-among : (p n q : ℕ) → p ≤ q → q < p + n → among p n q ≡ true
+in-among p n q a b = rw (le-leb p q a, lt-ltb q (p + n) b) refl
+
 pub not-among : (p n q : ℕ) → (p ≤ q → q < p + n → ⊥) → among p n q ≡ false
 not-among p n q o = go (decLe p q) (decLt q (p + n))
   where

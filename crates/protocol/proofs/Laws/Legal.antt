@@ -1,26 +1,22 @@
--- Legal readers: the facts that a legal reader has, and that every answer keeps them.
+-- Legal readers: the facts that a legal reader has, and a legal reader with one part anew.
 use mathlib.Core.Bool.{Bool, true, false, not, cond}
-use mathlib.Core.Path.{_≡_, refl, sym, ap, _∙_, subst}
+use mathlib.Core.Path.{_≡_}
 use mathlib.Core.List.{List}
-use Prim.Native.Nat.{ℕ, _+_, _*_, _/_, _%_, _≤_, _<_}
-use native.Mathlib.Nat.{zero-mod}
-use native.Mathlib.Omega.{arith}
+use Prim.Native.Nat.{ℕ, _+_, _*_, _%_, _≤_, _<_}
 use lib.Dec.{T, eqb, ltb, eqb→eq, leb→le, le→leb, ltb→lt}
-use borrow.Author.Tests.{ne-eqb, lt-ltb}
-use lib.ListN.{length, length-replicate, length-take, length-drop}
+use borrow.Author.Tests.{lt-ltb}
+use lib.ListN.{length}
 use Rattle.protocol.specs.Numbers.{pageBytes, fourBytes}
-use Rattle.protocol.specs.Bytes.{zeros, lay, part}
-use Rattle.protocol.specs.Tests.{within, among}
-use Rattle.protocol.specs.Index.{stored, setBit, clearBits, bits, clearFrom}
-use Rattle.protocol.specs.Reader.{Transfer, closed, opened, Plain, Buffer, Guarded, Reader, capacity, sizeOf, keyed, locked, bufferOf, emptied, filledWith, withTransfer, withLibrary, withNotepad, withBuffer, reader}
+use Rattle.protocol.specs.Tests.{within}
+use Rattle.protocol.specs.Index.{clearFrom}
+use Rattle.protocol.specs.Reader.{Transfer, closed, opened, Plain, Buffer, Guarded, Reader, capacity, sizeOf, locked, bufferOf, withTransfer, withBuffer, reader}
 use Rattle.protocol.specs.Commands.{free}
-use Rattle.protocol.specs.Table.{Effect, keep, fillPage, erase, eraseAll, fillBuffer, await, note, settle, apply}
 use Rattle.protocol.specs.Step.{fits}
 use Rattle.protocol.specs.Call.{Shape, fitLibrary, fitBuffers, fitLengths, fitPlain, fitTransfer, sound, legal, Typed}
-use Rattle.protocol.proofs.Laws.Logic.{T→false, and-l, and-r, and-i, and-false, or-false, eq→eqb}
-use Rattle.protocol.proofs.Laws.Lists.{length-lay}
-use Rattle.protocol.proofs.Laws.Index.{Fine, stored-with, stored-span, stored-zeros, fine-with, fine-span, fine-zeros, clear-from, clear-to}
-use Rattle.protocol.proofs.Laws.Effects.{buffer-same}
+use Rattle.protocol.proofs.Laws.Logic.{T→false, and-l, and-r, and-i, eq→eqb}
+use Rattle.protocol.proofs.Laws.Index.{Fine}
+use Rattle.protocol.proofs.Laws.Effects.{each-buffer}
+use Rattle.protocol.proofs.Laws.Origins.{Rooted, rooted, fit-origins}
 
 -- ---- buffers
 
@@ -65,6 +61,10 @@ moving p g w got t =
 pub legal-transfer : (σ : Shape) (r : Reader) → T (legal σ r) → T (fitTransfer (r .plain) (r .guarded) (r .plain .transfer))
 unfolding legal sound
 legal-transfer σ r t = search (and-l, and-r)
+
+pub legal-origins : (σ : Shape) (r : Reader) → T (legal σ r) → (w : Bool) → Rooted (capacity (r .guarded)) (r .guarded .index) (bufferOf w (r .guarded))
+unfolding legal sound
+legal-origins σ r t = rooted (r .guarded) (search (and-l, and-r))
 
 -- what a data packet that goes in says
 pub record Fitting (p : Plain) (got : ℕ) (last : Bool) (content : List ℕ) : Type 0 where
@@ -114,6 +114,7 @@ module _ (σ : Shape) (ok : σ .most ≤ 8 * σ .indexed) where
     pub buffers : T (fitBuffers (r .guarded))
     pub transfer : T (fitTransfer (r .plain) (r .guarded) (r .plain .transfer))
     pub clear : T (clearFrom (r .guarded .index) (capacity (r .guarded)))
+    pub origins : (w : Bool) → Rooted (capacity (r .guarded)) (r .guarded .index) (bufferOf w (r .guarded))
     pub typed : Typed r
 
   pub good-of : (r : Reader) → Typed r → T (legal σ r) → Good r
@@ -125,6 +126,7 @@ module _ (σ : Shape) (ok : σ .most ≤ 8 * σ .indexed) where
         buffers = search (and-l, and-r);
         transfer = search (and-l, and-r);
         clear = search (and-l, and-r);
+        origins = legal-origins σ r t;
         typed = y;
       }
 
@@ -136,6 +138,7 @@ module _ (σ : Shape) (ok : σ .most ≤ 8 * σ .indexed) where
       let c = k .buffers in
       let d = k .transfer in
       let e = k .clear in
+      let f = fit-origins (r .guarded) (k .origins) in
       search (and-i)
 
   pub fine-of : (r : Reader) → Good r → Fine (σ .indexed) (r .guarded .index)
@@ -153,105 +156,21 @@ module _ (σ : Shape) (ok : σ .most ≤ 8 * σ .indexed) where
         buffers = k .buffers;
         transfer = fit-closed p (r .guarded) (p .transfer) z;
         clear = k .clear;
+        origins = k .origins;
         typed = record { password = w; address = a; index = k .typed .index };
-      }
-
-  -- another library of the same lengths, with no bit at or above the capacity
-  good-library : (r : Reader) (t x : List ℕ) → Good r → r .plain .transfer ≡ closed → length t ≡ length (r .guarded .templates) → Fine (σ .indexed) x
-      → ((q : ℕ) → capacity (r .guarded) ≤ q → q < bits x → stored x q ≡ false) → Good (reader (r .plain) (withLibrary t x (r .guarded)))
-  unfolding withLibrary capacity fitBuffers
-  good-library r t x k z e f h =
-      let c : length t / pageBytes ≡ capacity (r .guarded) = ap (λ (n : ℕ). n / pageBytes) e in
-      record {
-        settings = k .settings;
-        shelf =
-            record {
-              long = e ∙ k .shelf .long ∙ ap (λ (n : ℕ). pageBytes * n) (sym c);
-              low = rw c (k .shelf .low);
-              high = rw c (k .shelf .high);
-              wide = f .long;
-              notes = k .shelf .notes;
-            };
-        buffers = k .buffers;
-        transfer = fit-closed (r .plain) (withLibrary t x (r .guarded)) (r .plain .transfer) z;
-        clear = rw c (clear-to x (capacity (r .guarded)) h);
-        typed = record { password = k .typed .password; address = k .typed .address; index = f .bytes };
       }
 
   -- a buffer anew, and a transfer
   pub good-buffer : (r : Reader) (t : Transfer) (w : Bool) (b : Buffer) → Good r → length (b .bytes) ≡ pageBytes
-      → T (fitTransfer (withTransfer t (r .plain)) (withBuffer w b (r .guarded)) t) → Good (reader (withTransfer t (r .plain)) (withBuffer w b (r .guarded)))
+      → Rooted (capacity (r .guarded)) (r .guarded .index) b → T (fitTransfer (withTransfer t (r .plain)) (withBuffer w b (r .guarded)) t) → Good (reader (withTransfer t (r .plain)) (withBuffer w b (r .guarded)))
   unfolding withTransfer withBuffer fitPlain capacity
-  good-buffer r t w b k e f =
+  good-buffer r t w b k e o f =
       record {
         settings = k .settings;
         shelf = record { long = k .shelf .long; low = k .shelf .low; high = k .shelf .high; wide = k .shelf .wide; notes = k .shelf .notes };
         buffers = fit-buffer w b (r .guarded) e (k .buffers);
         transfer = f;
         clear = k .clear;
+        origins = each-buffer (Rooted (capacity (r .guarded)) (r .guarded .index)) w b (r .guarded) o (k .origins (not w));
         typed = record { password = k .typed .password; address = k .typed .address; index = k .typed .index };
       }
-
-  -- ---- an effect
-
-  -- what a row's tests see to before its effect
-  abbrev pub Proper : Reader → Effect → Type 0
-  Proper r keep = Unit {0}
-  Proper r (fillPage w p) = p < capacity (r .guarded)
-  Proper r (erase p n) = p + n ≤ capacity (r .guarded)
-  Proper r eraseAll = Unit {0}
-  Proper r (fillBuffer w p) = p < capacity (r .guarded)
-  Proper r (await w) = locked (r .plain) ≡ false
-  Proper r (note i b) = i + length b ≤ length (r .guarded .notepad)
-  Proper r (settle p) = T (fitPlain p) × ((p .transfer ≡ closed) × ((length (p .password) ≡ fourBytes) × (length (p .address) ≡ fourBytes)))
-
-  pub effect-good : (e : Effect) (r : Reader) → Proper r e → r .plain .transfer ≡ closed → Good r → Good (apply e r)
-  unfolding apply emptied filledWith withTransfer withNotepad capacity fitBuffers locked keyed
-  effect-good keep r m z k = k
-  effect-good (fillPage w p) r m z k =
-      let g : Guarded = r .guarded in
-      let c : ℕ = capacity g in
-      let b : List ℕ = bufferOf w g .bytes in
-      good-library r (lay (pageBytes * p) b (g .templates)) (setBit (g .index) p) k z
-      (length-lay (pageBytes * p) b (g .templates) (omega (arith, k .shelf .long, buffer-long w g (k .buffers)))) (fine-with (g .index) p (fine-of r k))
-      (λ q l u. stored-with (g .index) (k .typed .index) p (omega (arith, k .shelf .wide, k .shelf .high)) q
-      ∙ or-false (eqb p q) (stored (g .index) q) (ne-eqb p q (λ e. omega arith))
-      (clear-from (g .index) c (k .clear) q l (omega (arith, fine-with (g .index) p (fine-of r k) .long, k .shelf .wide))))
-  effect-good (erase p n) r m z k =
-      let g : Guarded = r .guarded in
-      let zs : List ℕ = zeros (pageBytes * n) in
-      let long : length zs ≡ pageBytes * n = length-replicate (pageBytes * n) 0 in
-      good-library r (lay (pageBytes * p) zs (g .templates)) (clearBits (g .index) p n) k z
-      (length-lay (pageBytes * p) zs (g .templates) (omega (arith, k .shelf .long))) (fine-span (g .index) p n (fine-of r k))
-      (λ q l u. stored-span (g .index) p n (fine-of r k) (omega (arith, k .shelf .high)) q
-      ∙ and-false (not (among p n q)) (stored (g .index) q)
-      (clear-from (g .index) (capacity g) (k .clear) q l (omega (arith, fine-span (g .index) p n (fine-of r k) .long, k .shelf .wide))))
-  effect-good eraseAll r m z k =
-      let g : Guarded = r .guarded in
-      good-library r (zeros (length (g .templates))) (zeros (length (g .index))) k z (length-replicate (length (g .templates)) 0)
-      (subst (λ (n : ℕ). Fine n (zeros (length (g .index)))) (k .shelf .wide) (fine-zeros (length (g .index)))) (λ q l u. stored-zeros (length (g .index)) q)
-  effect-good (fillBuffer w p) r m z k =
-      let b : List ℕ = part (pageBytes * p) pageBytes (r .guarded .templates) in
-      let long : length b ≡ pageBytes = simp (length-take, length-drop) (omega (arith, k .shelf .long)) in
-      good-buffer r (r .plain .transfer) w (filledWith b) k long (fit-closed (r .plain) (withBuffer w (filledWith b) (r .guarded)) (r .plain .transfer) z)
-  effect-good (await w) r m z k =
-      good-buffer r (opened w 0) w emptied k refl
-      (fit-opened (withTransfer (opened w 0) (r .plain)) (withBuffer w emptied (r .guarded)) w 0 (zero-mod (sizeOf (r .plain .size))) (omega arith)
-      (ap (λ (b : Buffer). b .filled) (buffer-same w emptied (r .guarded))) m)
-  effect-good (note i b) r m z k =
-      record {
-        settings = k .settings;
-        shelf =
-            record {
-              long = k .shelf .long;
-              low = k .shelf .low;
-              high = k .shelf .high;
-              wide = k .shelf .wide;
-              notes = length-lay i b (r .guarded .notepad) m ∙ k .shelf .notes;
-            };
-        buffers = k .buffers;
-        transfer = fit-closed (r .plain) (withNotepad (lay i b (r .guarded .notepad)) (r .guarded)) (r .plain .transfer) z;
-        clear = k .clear;
-        typed = record { password = k .typed .password; address = k .typed .address; index = k .typed .index };
-      }
-  effect-good (settle p) r m z k = good-plain r p k (m .0) (m .1 .0) (m .1 .1 .0) (m .1 .1 .1)

@@ -13,7 +13,7 @@ use Rattle.protocol.specs.Commands.{verifyPassword, handShake, free, bar
 use Rattle.protocol.specs.Data.{acknowledge}
 use Rattle.protocol.specs.Table.{rule, Public, freeRule, publicOf}
 use Rattle.protocol.specs.Step.{Heard, nothing, order, piece, hear, Said, silence, says, carry, carryFree, obey, heed, ended, rested, takeIn, answer, stepOf, wiped, switched}
-use Rattle.protocol.specs.Call.{Shape, Lent, fitBuffers, fitLent, fitTransfer, fitLibrary, fitLengths, sound, legal, Told, Ended, refused, carried, callOf, switchRefusal, switchAs, switchOf}
+use Rattle.protocol.specs.Call.{Shape, Lent, fitBuffers, fitLent, fitTransfer, fitOrigin, fitOrigins, fitLibrary, fitLengths, sound, legal, Told, Ended, refused, carried, callOf, switchRefusal, switchAs, switchOf}
 use Rattle.protocol.proofs.Laws.Logic.{T→true, T→false, and-l, and-r, and-i}
 use Rattle.protocol.proofs.Laws.Answers.{call-legal, call-short}
 use Rattle.protocol.proofs.Laws.Legal.{fit-closed}
@@ -135,9 +135,14 @@ fit-wiped : (g : Guarded) → T (fitBuffers (wiped g))
 unfolding fitBuffers wiped emptied
 fit-wiped g = tt
 
+wiped-origins : (g : Guarded) → T (fitOrigins (wiped g))
+unfolding fitOrigins fitOrigin wiped emptied
+wiped-origins g = tt
+
 pub wiped-legal : (σ : Shape) (r : Reader) → T (legal σ r) → T (locked (r .plain)) → T (legal σ (reader (r .plain) (wiped (r .guarded))))
 unfolding legal sound fitLengths fitLibrary wiped capacity
 wiped-legal σ r f l =
     let m = fit-closed (r .plain) (wiped (r .guarded)) (r .plain .transfer) (shut-of σ r f l .still) in
     let w = fit-wiped (r .guarded) in
+    let o = wiped-origins (r .guarded) in
     search (and-i, and-l, and-r) depth 9

@@ -50,6 +50,10 @@ and-true false b q = refl
 pub or-false : (a b : Bool) → a ≡ false → b ≡ false → (a || b) ≡ false
 or-false a b p q = rw (p, q) refl
 
+pub or-true : (a b : Bool) → b ≡ true → (a || b) ≡ true
+or-true true b q = refl
+or-true false b q = q
+
 -- ---- tests of numbers
 
 pub eqb-same : (n : ℕ) → eqb n n ≡ true

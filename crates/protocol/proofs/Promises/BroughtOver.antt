@@ -15,7 +15,7 @@ use Rattle.protocol.specs.Bytes.{zeros, byteAt}
 use Rattle.protocol.specs.Tests.{countBelow, verdict}
 use Rattle.protocol.specs.Index.{bit, stored, setBits, bits, setBit, clearBit, clearBits}
 use Rattle.protocol.specs.BringOver.{bringOver}
-use Rattle.protocol.specs.Reader.{Transfer, closed, opened, unfit, Plain, Guarded, Reader, capacity, bufferOf, locked, withLibrary, withBuffer, withNotepad, contents, reader}
+use Rattle.protocol.specs.Reader.{Transfer, closed, opened, unfit, Plain, Guarded, Reader, capacity, bufferOf, locked, withLibrary, withBuffer, withoutPages, withNotepad, contents, reader}
 use Rattle.protocol.specs.Commands.{readIndexTable, barred, command, Barred, store, loadChar, upChar, downChar, deletChar, empty, setSysPara, readSysPara, setPassword, setAddress, writeNotepad, readNotepad, templeteNum, Command, free, Order, damaged, unknown, misfit}
 use Rattle.protocol.specs.Table.{Effect, keep, fillPage, erase, eraseAll, fillBuffer, await, note, settle, apply, Row, rule, publicOf}
 use Rattle.protocol.specs.Step.{order, hear, stepOf, wiped, switched, Heard, nothing, piece, Said, silence, says, carryAs, carry, carryFree, obey, heed, ended, rested, fits, takeAs, takeIn, answer}
@@ -90,7 +90,7 @@ module _ (n : ℕ) where
   Inside r (settle p) = Unit {0}
 
   apply-longer : (e : Effect) (r : Reader) → Inside r e → apply e (longer r) ≡ longer (apply e r)
-  unfolding apply withLibrary withBuffer withNotepad bufferOf
+  unfolding apply withLibrary withBuffer withNotepad withoutPages bufferOf capacity
   apply-longer keep r i = refl
   apply-longer (fillPage w p) r i = rw (with-over (r .guarded .index) n p i)
   apply-longer (erase p m) r i = rw (span-over (r .guarded .index) n p m)
@@ -237,7 +237,7 @@ transfer-fits p g t x (unfit b k) h = h
 
 -- it was legal, and it is legal
 pub brings-legal : (r : Reader) → Legal before before-holds r → Legal core core-holds (brought r)
-unfolding core capacity fitBuffers
+unfolding core capacity fitBuffers bufferOf
 brings-legal r l =
     let x : List ℕ = r .guarded .index in
     let k : Good before before-holds r = good-of before before-holds r (l .typed) (l .legal) in
@@ -253,6 +253,7 @@ brings-legal r l =
             buffers = k .buffers;
             transfer = transfer-fits (r .plain) (r .guarded) (r .guarded .templates) (x ++ zeros 96) (r .plain .transfer) (k .transfer);
             clear = clear-to (x ++ zeros 96) (capacity (r .guarded)) (λ q m h. stored-over x 96 q ∙ clear-above x (capacity (r .guarded)) (k .clear) q m);
+            origins = λ w q e. let o = k .origins w q e in record { below = o .below; there = stored-over x 96 q ∙ o .there; filled = o .filled };
             typed = y;
           };
     }
@@ -338,7 +339,7 @@ pub record Grown (k : ℕ) (r : Reader) : Type 0 where
   pub vacant : (q : ℕ) → pages r ≤ q → has (grown k r) q ≡ false
 
 pub grows : (k : ℕ) (r : Reader) → Legal core core-holds r → pages r + k ≤ 1000 → Grown k r
-unfolding core capacity fitBuffers stored bit
+unfolding core capacity fitBuffers bufferOf stored bit
 grows k r l few =
     let t : List ℕ = r .guarded .templates in
     let x : List ℕ = r .guarded .index in
@@ -359,6 +360,7 @@ grows k r l few =
                   buffers = g .buffers;
                   transfer = transfer-fits (r .plain) (r .guarded) (t ++ replicate (512 * k) 0) x (r .plain .transfer) (g .transfer);
                   clear = clear-to x (capacity (grown k r .guarded)) (λ q m h. clear-above x (capacity (r .guarded)) (g .clear) q (omega (arith, c, m)));
+                  origins = λ w q e. let o = g .origins w q e in record { below = omega (arith, c, o .below); there = o .there; filled = o .filled };
                   typed = y;
                 };
           };

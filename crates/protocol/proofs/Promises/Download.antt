@@ -11,16 +11,17 @@ use lib.Seq.{take-all, length-take-le}
 use Rattle.protocol.specs.Numbers.{pageBytes, fourBytes, dataPacket, lastPacket}
 use Rattle.protocol.specs.Bytes.{lay}
 use Rattle.protocol.specs.Packet.{packet, lengthOf, accepts}
-use Rattle.protocol.specs.Reader.{Transfer, closed, opened, Plain, Buffer, Guarded, Reader, sizeOf, bufferOf, filledWith, locked, withTransfer, withBuffer, contents, reader}
+use Rattle.protocol.specs.Reader.{Transfer, closed, opened, Plain, Origin, noOrigin, Buffer, Guarded, Reader, sizeOf, bufferOf, locked, withTransfer, withBuffer, reader}
 use Rattle.protocol.specs.Commands.{barred, downChar, command}
 use Rattle.protocol.specs.Data.{acknowledge, packets}
-use Rattle.protocol.specs.Step.{order, hearAs, hearAt, hear, silence, rested, fits, takeAs, takeIn, answer, stepOf}
+use Rattle.protocol.specs.Step.{order, hearAs, hearAt, hear, silence, rested, fits, laidIn, takeAs, takeIn, answer, stepOf}
 use Rattle.protocol.specs.Call.{Shape, Lent, fitLent, fitTransfer, replyOf, carried, callOf, Ended}
 use Rattle.protocol.specs.Dialogue.{Event, received, on, finally, Exchange, exchanges}
 use Rattle.protocol.proofs.Laws.Logic.{eqb-same}
 use Rattle.protocol.proofs.Laws.Lists.{length-lay, head-lay, last-lay}
 use Rattle.protocol.proofs.Laws.Finder.{heard-at}
-use Rattle.protocol.proofs.Laws.Effects.{buffer-same}
+use Rattle.protocol.proofs.Laws.Effects.{buffer-same, buffer-own}
+use Rattle.protocol.proofs.Laws.Origins.{unfilled-none}
 use Rattle.protocol.proofs.Laws.Answers.{call-legal}
 use Rattle.protocol.proofs.Laws.Legal.{buffer-long, Good, Moving, moving}
 use Rattle.protocol.proofs.Laws.Sizes.{Size}
@@ -43,8 +44,12 @@ unfolding withBuffer
 buffer-twice true a b g = refl
 buffer-twice false a b g = refl
 
+-- a buffer without an origin, not filled and filled
 abbrev unfilled : List ℕ → Buffer
-unfilled b = record { bytes = b; filled = false }
+unfilled b = record { bytes = b; filled = false; origin = noOrigin }
+
+abbrev filled : List ℕ → Buffer
+filled b = record { bytes = b; filled = true; origin = noOrigin }
 
 -- packets sent one to a call, each with a reply room of its own
 unfoldable pub deliver : (ℕ → Lent) → List (List ℕ) → List Event
@@ -62,28 +67,26 @@ module _ (p : Plain) (g : Guarded) (w : Bool) (h : length (p .address) ≡ fourB
   under got b = reader (withTransfer (opened w got) p) (withBuffer w (unfilled b) g)
 
   abbrev through : List ℕ → Reader
-  through b = reader (withTransfer closed p) (withBuffer w (filledWith b) g)
+  through b = reader (withTransfer closed p) (withBuffer w (filled b) g)
 
   -- ---- one data packet
 
   module _ (c : List ℕ) (one : length c ≡ sizeOf (p .size)) (got : ℕ) (b : List ℕ) where
-    laid : Bool → Buffer
-    laid f = record { bytes = lay got c (bufferOf w (withBuffer w (unfilled b) g) .bytes); filled = f }
+    abbrev now : Buffer
+    now = bufferOf w (withBuffer w (unfilled b) g)
 
-    again : (f : Bool) → withBuffer w (laid f) (withBuffer w (unfilled b) g) ≡ withBuffer w record { bytes = lay got c b; filled = f } g
-    unfolding laid
+    -- the buffer under way, with the bytes laid in and a mark that goes by it
+    again : (f : Bool → Bool) → withBuffer w (laidIn got c (f (now .filled)) now) (withBuffer w (unfilled b) g) ≡ withBuffer w (laidIn got c (f false) (unfilled b)) g
     again f =
-        buffer-twice w (unfilled b) (laid f) g
-        ∙ ap (λ (x : Buffer). withBuffer w record { bytes = lay got c (x .bytes); filled = f } g) (buffer-same w (unfilled b) g)
+        buffer-twice w (unfilled b) (laidIn got c (f (now .filled)) now) g
+        ∙ ap (λ (x : Buffer). withBuffer w (laidIn got c (f (x .filled)) x) g) (buffer-same w (unfilled b) g)
 
     more : T (accepts dataPacket (sizeOf (p .size) + 2)) → got + sizeOf (p .size) < pageBytes
         → stepOf (under got b) (packet (p .address) dataPacket c) .after ≡ under (got + sizeOf (p .size)) (lay got c b)
-    unfolding stepOf answer hearAs takeIn takeAs silence fits withTransfer laid
+    unfolding stepOf answer hearAs takeIn takeAs silence fits withTransfer
     more t l =
-        let mark : bufferOf w (withBuffer w (unfilled b) g) .filled ≡ false = ap (λ (x : Buffer). x .filled) (buffer-same w (unfilled b) g) in
         rw (heard-packet (p .address) dataPacket c h (rw one t), one, eqb-same (sizeOf (p .size)), lt-ltb (got + sizeOf (p .size)) pageBytes l)
-        (ap (λ (f : Bool). reader (withTransfer (opened w (got + sizeOf (p .size))) p) (withBuffer w (laid f) (withBuffer w (unfilled b) g))) mark
-        ∙ ap (reader (withTransfer (opened w (got + sizeOf (p .size))) p)) (again false))
+        (ap (reader (withTransfer (opened w (got + sizeOf (p .size))) p)) (again (λ m. m)))
 
     more-silent : T (accepts dataPacket (sizeOf (p .size) + 2)) → got + sizeOf (p .size) < pageBytes → stepOf (under got b) (packet (p .address) dataPacket c) .reply ≡ []
     unfolding stepOf answer hearAs takeIn takeAs silence fits withTransfer
@@ -92,9 +95,9 @@ module _ (p : Plain) (g : Guarded) (w : Bool) (h : length (p .address) ≡ fourB
 
     last : T (accepts lastPacket (sizeOf (p .size) + 2)) → got + sizeOf (p .size) ≡ pageBytes
         → stepOf (under got b) (packet (p .address) lastPacket c) .after ≡ through (lay got c b)
-    unfolding stepOf answer hearAs takeIn takeAs silence fits filledWith withTransfer laid
+    unfolding stepOf answer hearAs takeIn takeAs silence fits withTransfer
     last t l =
-        rw (heard-packet (p .address) lastPacket c h (rw one t), one, eqb-same (sizeOf (p .size)), l) (ap (reader (withTransfer closed p)) (again true))
+        rw (heard-packet (p .address) lastPacket c h (rw one t), one, eqb-same (sizeOf (p .size)), l) (ap (reader (withTransfer closed p)) (again (λ m. true)))
 
     last-silent : T (accepts lastPacket (sizeOf (p .size) + 2)) → got + sizeOf (p .size) ≡ pageBytes → stepOf (under got b) (packet (p .address) lastPacket c) .reply ≡ []
     unfolding stepOf answer hearAs takeIn takeAs silence fits withTransfer
@@ -170,23 +173,20 @@ transfer-own : (p : Plain) (t : Transfer) → p .transfer ≡ t → withTransfer
 unfolding withTransfer
 transfer-own p t e = rw (← e) refl
 
-buffer-own : (w : Bool) (g : Guarded) → bufferOf w g .filled ≡ false → withBuffer w (unfilled (bufferOf w g .bytes)) g ≡ g
-unfolding bufferOf withBuffer
-buffer-own true g e = ap (λ (f : Bool). contents (g .templates) (g .index) (g .notepad) (g .buffer1) record { bytes = g .buffer2 .bytes; filled = f }) (sym e)
-buffer-own false g e = ap (λ (f : Bool). contents (g .templates) (g .index) (g .notepad) record { bytes = g .buffer1 .bytes; filled = f } (g .buffer2)) (sym e)
+unfilled-own : (w : Bool) (g : Guarded) → bufferOf w g .filled ≡ false → bufferOf w g .origin ≡ noOrigin → withBuffer w (unfilled (bufferOf w g .bytes)) g ≡ g
+unfilled-own w g e o = ap₂ (λ (m : Bool) (x : Origin). withBuffer w record { bytes = bufferOf w g .bytes; filled = m; origin = x } g) (sym e) (sym o) ∙ buffer-own w g
 
 module _ (σ : Shape) (ok : σ .most ≤ 8 * σ .indexed) (lent : ℕ → Lent) (f : (n : ℕ) → T (fitLent (lent n))) where
   -- the data packets of s in the size in force, to the reader r
   abbrev pub template : Reader → List ℕ → List Event
   template r s = deliver lent (packets (r .plain .address) (pageBytes / sizeOf (r .plain .size)) (sizeOf (r .plain .size)) s)
 
-  -- the buffer has the template and its mark, the transfer is closed, all else is as it was; and no packet was answered
+  -- the buffer has the template and its mark and no origin, the transfer is closed, all else is as it was; and no packet was answered
   pub record Downloads (r : Reader) (b : ℕ) (s : List ℕ) : Type 0 where
-    pub ends : WithBuffer b record { bytes = s; filled = true } closed r (finally σ r (template r s))
+    pub ends : WithBuffer b record { bytes = s; filled = true; origin = noOrigin } closed r (finally σ r (template r s))
     pub silent : Silent (exchanges σ r (template r s))
 
   pub downloaded : (r : Reader) → Legal σ ok r → (w : Bool) → r .plain .transfer ≡ opened w 0 → (s : List ℕ) → length s ≡ 512 → Downloads r (number w) s
-  unfolding filledWith
   downloaded r l w e s m =
       let p : Plain = r .plain in
       let g : Guarded = r .guarded in
@@ -195,16 +195,16 @@ module _ (σ : Shape) (ok : σ .most ≤ 8 * σ .indexed) (lent : ℕ → Lent) 
       let b : List ℕ = bufferOf w g .bytes in
       let moves : Moving p g w 0 = moving p g w 0 (subst (λ (t : Transfer). T (fitTransfer p g t)) e (k .transfer)) in
       let now : Reader = reader (withTransfer (opened w 0) p) (withBuffer w (unfilled b) g) in
-      let own : now ≡ r = ap₂ reader (transfer-own p (opened w 0) e) (buffer-own w g (moves .unfilled)) in
+      let own : now ≡ r = ap₂ reader (transfer-own p (opened w 0) e) (unfilled-own w g (moves .unfilled) (unfilled-none _ _ _ (k .origins w) (moves .unfilled))) in
       let legal : Legal σ ok now = subst (Legal σ ok) (sym own) l in
       let sent : ℕ → List Event = λ n. deliver lent (packets (p .address) n (sizeOf (p .size)) s) in
-      let last : finally σ r (template r s) ≡ reader (withTransfer closed p) (withBuffer w (filledWith s) g) =
+      let last : finally σ r (template r s) ≡ reader (withTransfer closed p) (withBuffer w (filled s) g) =
       ap (λ (x : Reader). finally σ x (template r s)) (sym own)
       ∙ ap (λ (n : ℕ). finally σ now (sent n)) (z .count)
       ∙ feeding p g w (k .typed .address) σ ok z lent f (z .more) 0 s b (omega (arith, z .whole)) (m ∙ sym (z .whole)) (buffer-long w g (k .buffers)) legal
       in
       record {
-        ends = subst (WithBuffer (number w) (filledWith s) closed r) (sym last) (with-buffer w (filledWith s) closed r);
+        ends = subst (WithBuffer (number w) (filled s) closed r) (sym last) (with-buffer w (filled s) closed r);
         silent =
             subst (λ (x : Reader). Silent (exchanges σ x (template r s))) own
             (rw (z .count)

@@ -11,12 +11,12 @@ use Rattle.protocol.specs.Bytes.{zeros, two, four, wordAt, total, same, 
 use Rattle.protocol.specs.Packet.{sumOf, packet, isIdentifier, limit, accepts}
 use Rattle.protocol.specs.Finder.{marksAt, later, startOf, allBut, findFrom, findOf, usedOf}
 use Rattle.protocol.specs.Index.{bit, stored, setBit, clearBit, clearBits, setBits, clearFrom}
-use Rattle.protocol.specs.Reader.{Reader, reader, capacity, sizeOf, keyed, locked, bufferOf, emptied, filledWith, withMark, withTransfer, withPassword, withAddress, withTuning, withLibrary, withNotepad, withBuffer, fresh, zeroed}
+use Rattle.protocol.specs.Reader.{Reader, reader, capacity, sizeOf, keyed, locked, bufferOf, emptied, loadedFrom, storedOn, isOneOf, without, withMark, withTransfer, withPassword, withAddress, withTuning, withLibrary, withNotepad, withBuffer, withoutPages, fresh, zeroed}
 use Rattle.protocol.specs.Commands.{commands, rowOf, orderAs, orderOf}
 use Rattle.protocol.specs.Data.{acknowledge, packets, dataPackets}
 use Rattle.protocol.specs.Table.{apply, isBuffer, inRange, withParameter, statusOf, rule, publicOf, freeRule}
 use Rattle.protocol.specs.Step.{Outcome, hearAs, hearAt, hear, silence, says, carryAs, carry, carryFree, obey, heed, ended, rested, fits, takeAs, takeIn, answer, stepOf, wiped, switched}
-use Rattle.protocol.specs.Call.{Lent, Ended, fitLent, carried, callOf, core, fitLibrary, fitBuffers, fitLengths, fitPlain, fitTransfer, sound, legal}
+use Rattle.protocol.specs.Call.{Lent, Ended, fitLent, carried, callOf, core, fitLibrary, fitBuffers, fitLengths, fitPlain, fitTransfer, fitOrigin, fitOrigins, sound, legal}
 use Rattle.protocol.proofs.Laws.Lists.{take-lay, drop-lay}
 use Rattle.protocol.proofs.Laws.Answers.{call-legal}
 
@@ -60,7 +60,7 @@ pub stored0 : Reader
 stored0 = reader fresh (withLibrary (fresh10 .guarded .templates) (0x01 ∷ zeros 127) (fresh10 .guarded))
 
 pub index-begins : stored09 .guarded .index ≡ setBit (setBit (fresh10 .guarded .index) 0) 9
-unfolding highestSize longest verdict within every countBelow two four wordAt total same lay follow joined sumOf packet isIdentifier limit accepts marksAt later startOf allBut findFrom findOf usedOf bit stored setBit clearBit clearBits setBits clearFrom capacity sizeOf keyed locked bufferOf emptied filledWith withMark withTransfer withPassword withAddress withTuning withLibrary withNotepad withBuffer fresh zeroed commands rowOf orderAs orderOf acknowledge packets dataPackets apply isBuffer inRange withParameter statusOf rule publicOf freeRule hearAs hearAt hear silence says carryAs carry carryFree obey heed ended rested fits takeAs takeIn answer stepOf wiped switched core fitLibrary fitBuffers fitLengths fitPlain fitTransfer sound legal fresh10 stored09
+unfolding highestSize longest verdict within every countBelow two four wordAt total same lay follow joined sumOf packet isIdentifier limit accepts marksAt later startOf allBut findFrom findOf usedOf bit stored setBit clearBit clearBits setBits clearFrom capacity sizeOf keyed locked bufferOf emptied loadedFrom storedOn isOneOf without withMark withTransfer withPassword withAddress withTuning withLibrary withNotepad withBuffer withoutPages fresh zeroed commands rowOf orderAs orderOf acknowledge packets dataPackets apply isBuffer inRange withParameter statusOf rule publicOf freeRule hearAs hearAt hear silence says carryAs carry carryFree obey heed ended rested fits takeAs takeIn answer stepOf wiped switched core fitLibrary fitBuffers fitLengths fitPlain fitTransfer fitOrigin fitOrigins sound legal fresh10 stored09
 index-begins = refl
 
 -- ---- the table
@@ -122,6 +122,6 @@ holds x t e lent f =
     record { refusal = refl; used = refl; long = refl; reply = take-lay (x .outcome .reply) (lent .room); behind = drop-lay (x .outcome .reply) (lent .room); after = refl }
 
 pub examples-hold : All table
-unfolding highestSize longest verdict within every countBelow two four wordAt total same lay follow joined sumOf packet isIdentifier limit accepts marksAt later startOf allBut findFrom findOf usedOf bit stored setBit clearBit clearBits setBits clearFrom capacity sizeOf keyed locked bufferOf emptied filledWith withMark withTransfer withPassword withAddress withTuning withLibrary withNotepad withBuffer fresh zeroed commands rowOf orderAs orderOf acknowledge packets dataPackets apply isBuffer inRange withParameter statusOf rule publicOf freeRule hearAs hearAt hear silence says carryAs carry carryFree obey heed ended rested fits takeAs takeIn answer stepOf wiped switched core fitLibrary fitBuffers fitLengths fitPlain fitTransfer sound legal fresh10 keyed10 stored09 stored0 toA p1 p8 yes00 gives table
+unfolding highestSize longest verdict within every countBelow two four wordAt total same lay follow joined sumOf packet isIdentifier limit accepts marksAt later startOf allBut findFrom findOf usedOf bit stored setBit clearBit clearBits setBits clearFrom capacity sizeOf keyed locked bufferOf emptied loadedFrom storedOn isOneOf without withMark withTransfer withPassword withAddress withTuning withLibrary withNotepad withBuffer withoutPages fresh zeroed commands rowOf orderAs orderOf acknowledge packets dataPackets apply isBuffer inRange withParameter statusOf rule publicOf freeRule hearAs hearAt hear silence says carryAs carry carryFree obey heed ended rested fits takeAs takeIn answer stepOf wiped switched core fitLibrary fitBuffers fitLengths fitPlain fitTransfer fitOrigin fitOrigins sound legal fresh10 keyed10 stored09 stored0 toA p1 p8 yes00 gives table
 examples-hold =
     (holds _ tt refl, (holds _ tt refl, (holds _ tt refl, (holds _ tt refl, (holds _ tt refl, (holds _ tt refl, (holds _ tt refl, (holds _ tt refl, (holds _ tt refl, (holds _ tt refl, (holds _ tt refl, (holds _ tt refl, (holds _ tt refl, (holds _ tt refl, (holds _ tt refl, (holds _ tt refl, tt))))))))))))))))

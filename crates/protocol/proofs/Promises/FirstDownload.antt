@@ -13,7 +13,7 @@ use lib.Seq.{length-take-le, take-append-seam}
 use Rattle.protocol.specs.Numbers.{dataPacket, lastPacket, longest}
 use Rattle.protocol.specs.Bytes.{four, same}
 use Rattle.protocol.specs.Packet.{packet, accepts, limit, isIdentifier}
-use Rattle.protocol.specs.Reader.{Transfer, closed, opened, Plain, Buffer, Guarded, Reader, fresh, sizeOf, keyed, locked, withTransfer}
+use Rattle.protocol.specs.Reader.{Transfer, closed, opened, Plain, noOrigin, Buffer, Guarded, Reader, fresh, sizeOf, keyed, locked, withTransfer}
 use Rattle.protocol.specs.Commands.{downChar, setSysPara, barred, command}
 use Rattle.protocol.specs.Data.{acknowledge, packets}
 use Rattle.protocol.specs.Step.{order, piece, hearAs, hear, ended, rested}
@@ -41,9 +41,9 @@ downPacket b = packet A 0x01 (0x09 ∷ b ∷ [])
 abbrev pub sizePacket : ℕ → List ℕ
 sizePacket v = packet A 0x01 (0x0e ∷ 6 ∷ v ∷ [])
 
--- a buffer with a template and its mark
+-- a buffer with a template and its mark, and no origin
 abbrev pub full : List ℕ → Buffer
-full s = record { bytes = s; filled = true }
+full s = record { bytes = s; filled = true; origin = noOrigin }
 
 -- fresh settings, but for the size code v
 abbrev pub withCode : ℕ → Guarded → Reader

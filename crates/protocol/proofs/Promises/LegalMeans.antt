@@ -1,4 +1,4 @@
--- What legal means, in plain numbers: document 01's "Lent memory and settings" and "Legal transfer".
+-- What legal means, in plain numbers: document 01's "Lent memory and settings" and "Legal transfer", and request [7]'s origins.
 use mathlib.Core.Bool.{Bool, true, false, true≢false}
 use mathlib.Core.Path.{_≡_, refl, sym, ap, _∙_}
 use mathlib.Core.Logic.{_⊎_, inl, inr, _↔_}
@@ -12,13 +12,15 @@ use Rattle.protocol.specs.Numbers.{highestSize}
 use Rattle.protocol.specs.Bytes.{four, same}
 use Rattle.protocol.specs.Tests.{within}
 use Rattle.protocol.specs.Index.{bit, stored}
-use Rattle.protocol.specs.Reader.{Transfer, closed, opened, unfit, Plain, Guarded, Reader, capacity, sizeOf, keyed, locked, bufferOf}
+use Rattle.protocol.specs.Reader.{Transfer, closed, opened, unfit, Plain, fromPage, Buffer, Guarded, Reader, capacity, sizeOf, keyed, locked, bufferOf}
 use Rattle.protocol.specs.Records.{transferOf}
 use Rattle.protocol.specs.Call.{core, fitBuffers, fitPlain, fitTransfer, sound, fitLengths, legal}
 use Rattle.protocol.proofs.Laws.Logic.{and-l, and-r, and-i, and-false, eq→eqb}
 use Rattle.protocol.proofs.Laws.Lists.{same-refl, same-eq}
 use Rattle.protocol.proofs.Laws.Index.{clear-above, clear-to}
+use Rattle.protocol.proofs.Laws.Origins.{Rooted, rooted, fit-origins}
 use Rattle.protocol.proofs.Laws.Legal.{buffer-long, moving, Moving, fit-opened, Shelf, shelf, unshelf}
+use Rattle.protocol.proofs.Promises.Words.{memory}
 
 -- document 01's own reader has a bit for every page
 pub core-holds : core .most ≤ 8 * core .indexed
@@ -54,8 +56,15 @@ LegalTransfer p g (opened false got) = Into p (g .buffer1 .filled) got
 LegalTransfer p g (opened true got) = Into p (g .buffer2 .filled) got
 LegalTransfer p g (unfit b k) = ⊥
 
--- "security level 1 to 5; size code 0 to 2; baud factor 1 to 12; sensor type, any 16-bit number", by request [3] size code 0 to 3; the transfer; and no
--- index bit at or above C
+-- "3 for an origin at or above C, on a vacant page, or on a buffer not filled": page p of a library, and the buffer b whose origin it is
+pub record LegalOrigin (templates index : List ℕ) (b : Buffer) (p : ℕ) : Type 0 where
+  pub below : (c : ℕ) → length templates ≡ 512 * c → p < c
+  -- the bit of weight 2^(p mod 8) in byte p / 8
+  pub there : getD index (p / 8) 0 / 2 ^ (p % 8) % 2 ≡ 1
+  pub filled : b .filled ≡ true
+
+-- "security level 1 to 5; size code 0 to 2; baud factor 1 to 12; sensor type, any 16-bit number", by request [3] size code 0 to 3; the transfer; no
+-- index bit at or above C; and the origins of both buffers, where they have one
 pub record Settled (r : Reader) : Type 0 where
   pub level : (1 ≤ r .plain .level) × (r .plain .level ≤ 5)
   pub size : r .plain .size ≤ 3
@@ -64,6 +73,8 @@ pub record Settled (r : Reader) : Type 0 where
   pub transfer : LegalTransfer (r .plain) (r .guarded) (r .plain .transfer)
   -- page q is the bit of weight 2^(q mod 8) in byte q / 8
   pub clear : (c q : ℕ) → length (r .guarded .templates) ≡ 512 * c → c ≤ q → getD (r .guarded .index) (q / 8) 0 / 2 ^ (q % 8) % 2 ≡ 0
+  pub origin1 : (p : ℕ) → r .guarded .buffer1 .origin ≡ fromPage p → LegalOrigin (r .guarded .templates) (r .guarded .index) (r .guarded .buffer1) p
+  pub origin2 : (p : ℕ) → r .guarded .buffer2 .origin ≡ fromPage p → LegalOrigin (r .guarded .templates) (r .guarded .index) (r .guarded .buffer2) p
 
 -- ---- the lent lengths
 
@@ -170,24 +181,40 @@ bit-clear x q =
     let n : ℕ = getD x (q / 8) 0 / 2 ^ (q % 8) in
     (λ e. let d : n % 2 ≡ 1 → ⊥ = eqb-false (n % 2) 1 e in omega (arith, d), λ e. rw e refl)
 
+-- a buffer's origin, of a library whose length is a whole number of pages
+origin-means : (t x : List ℕ) (b : Buffer) → length t ≡ 512 * (length t / 512) → Rooted (length t / 512) x b ↔ ((p : ℕ) → b .origin ≡ fromPage p → LegalOrigin t x b p)
+origin-means t x b m = (
+  λ h p e. let k = h p e in record { below = λ c l. omega (arith, k .below); there = memory .bit-stored x p .0 (k .there); filled = k .filled },
+  λ h p e. let k = h p e in record { below = k .below (length t / 512) m; there = memory .bit-stored x p .1 (k .there); filled = k .filled },
+)
+
 -- what refusal 3 tests is this
 pub settings-mean : (r : Reader) → Lengths (r .guarded) → T (sound r) ↔ Settled r
-unfolding core sound fitPlain within highestSize capacity
+unfolding core sound fitPlain within highestSize capacity bufferOf
 settings-mean r m = (to, from)
   where
     x : List ℕ
     x = r .guarded .index
 
+    whole : length (r .guarded .templates) ≡ 512 * capacity (r .guarded)
+    whole = omega (arith, m .templates)
+
+    roots : (b : Buffer) → Rooted (capacity (r .guarded)) x b ↔ ((p : ℕ) → b .origin ≡ fromPage p → LegalOrigin (r .guarded .templates) x b p)
+    roots b = origin-means (r .guarded .templates) x b whole
+
     to : T (sound r) → Settled r
     to t =
         let z : r .plain .size ≤ 3 = leb→le (r .plain .size) 3 (search (and-l, and-r) depth 9) in
+        let o : (w : Bool) → Rooted (capacity (r .guarded)) x (bufferOf w (r .guarded)) = rooted (r .guarded) (search (and-r)) in
         record {
           level = (leb→le 1 (r .plain .level) (search (and-l, and-r) depth 9), leb→le (r .plain .level) 5 (search (and-l, and-r) depth 9));
           size = z;
           baud = (leb→le 1 (r .plain .baud) (search (and-l, and-r) depth 9), leb→le (r .plain .baud) 12 (search (and-l, and-r) depth 9));
           sensor = ltb→lt (r .plain .sensor) 65536 (search (and-l, and-r) depth 9);
           transfer = transfer-means (r .plain) (r .guarded) z (r .plain .transfer) .0 (search (and-l, and-r));
-          clear = λ c q e l. bit-clear x q .0 (clear-above x (capacity (r .guarded)) (search (and-r)) q (omega arith));
+          clear = λ c q e l. bit-clear x q .0 (clear-above x (capacity (r .guarded)) (search (and-l, and-r)) q (omega arith));
+          origin1 = roots (r .guarded .buffer1) .0 (o false);
+          origin2 = roots (r .guarded .buffer2) .0 (o true);
         }
 
     from : Settled r → T (sound r)
@@ -200,7 +227,12 @@ settings-mean r m = (to, from)
         let k = lt→ltb (r .plain .sensor) 65536 (s .sensor) in
         let t = transfer-means (r .plain) (r .guarded) (s .size) (r .plain .transfer) .1 (s .transfer) in
         let c = clear-to x (capacity (r .guarded)) (λ q l h. bit-clear x q .1 (s .clear (capacity (r .guarded)) q (omega (arith, m .templates)) l)) in
+        let o = fit-origins (r .guarded) each in
         search (and-i) depth 9
+      where
+        each : (w : Bool) → Rooted (capacity (r .guarded)) x (bufferOf w (r .guarded))
+        each false = roots (r .guarded .buffer1) .1 (s .origin1)
+        each true = roots (r .guarded .buffer2) .1 (s .origin2)
 
 -- ---- "Legal reader: one that gets none of refusals 1 to 3", both ways
 

@@ -2,7 +2,8 @@
 -- run, the locked one answers 21h and changes nothing, or both answer the same bytes and end alike but for that mark. Further, two legal
 -- locked readers of equal capacity and, but for the filled marks, equal settings, whose templates, index, notepad, buffers and filled marks
 -- differ at will, answer any sequence of runs alike, line switches among them, up to and including the first accepted password. Until then
--- these contents stay as they were, save that a line switch wipes the two buffers and clears their filled marks."
+-- these contents stay as they were, save that a line switch wipes the two buffers and clears their filled marks." Request [7]: the origin is "guarded in demand 3,
+-- but for the line switch", so the two may differ in their buffers' origins too, which stay as well, save that a line switch makes them none (Switch).
 use mathlib.Core.Bool.{Bool, true, false, true≢false, cond}
 use mathlib.Core.Path.{_≡_, refl, sym, ap, _∙_, subst}
 use mathlib.Core.Logic.{_⊎_, inl, inr}
@@ -182,7 +183,7 @@ module _ (σ : Shape) (p : Plain) (l : T (locked p)) where
             kept-other = i .kept-other;
           }
 
--- legal locked readers of equal capacity and equal settings but for the filled marks
+-- legal locked readers of equal capacity and equal settings but for the filled marks and the origins
 pub second-half : (σ : Shape) (r t : Reader) → T (legal σ r) → T (legal σ t) → T (locked (r .plain)) → r .plain ≡ t .plain → capacity (r .guarded) ≡ capacity (t .guarded)
     → (es : List Event) → Blind (r .guarded) (t .guarded) (dialogue σ r es) (dialogue σ t es)
 unfolding publicOf

@@ -1,34 +1,37 @@
 -- The premises of the promises can be met: of demand 3's by two legal locked readers of ten pages, one empty and one full, with the same settings but for the
--- filled marks; of request [5]'s by the full one without a password; of request [6]'s by an old one; of others by every new vault.
+-- filled marks and the origins; of request [5]'s and [7]'s by the full one without a password; of request [6]'s by an old one; of others by every new vault.
 use mathlib.Core.Bool.{true, false}
-use mathlib.Core.Path.{_≡_, refl, ap, _∙_}
-use mathlib.Core.List.{[], _∷_}
+use mathlib.Core.Path.{_≡_, refl, ap, _∙_, subst}
+use mathlib.Core.List.{List, [], _∷_}
 use Prim.Native.Nat.{ℕ, zero, suc, _*_, _/_, _%_, _^_, _≤_}
 use native.Mathlib.Omega.{arith}
 use lib.Dec.{T, lit≤, lit<}
 use lib.ListN.{replicate, length-replicate}
 use Rattle.protocol.specs.Numbers.{pageBytes, highestSize, longest, holds}
-use Rattle.protocol.specs.Bytes.{Bytes, zeros, four, same, lay}
+use Rattle.protocol.specs.Bytes.{Bytes, part, zeros, four, same, lay}
 use Rattle.protocol.specs.Tests.{within, every}
 use Rattle.protocol.specs.Index.{bit, stored, clearFrom}
-use Rattle.protocol.specs.Reader.{closed, Reader, capacity, keyed, locked, bufferOf, emptied, filledWith, withPassword, fresh, zeroed, contents, reader}
+use Rattle.protocol.specs.Reader.{closed, noOrigin, fromPage, Reader, capacity, keyed, locked, bufferOf, emptied, loadedFrom, withPassword, fresh, zeroed, contents, reader}
 use Rattle.protocol.specs.Step.{ended, rested}
-use Rattle.protocol.specs.Call.{core, fitLibrary, fitBuffers, fitLengths, fitPlain, fitTransfer, sound, legal}
-use Rattle.protocol.specs.Records.{freshOf}
+use Rattle.protocol.specs.Call.{core, fitLibrary, fitBuffers, fitLengths, fitPlain, fitTransfer, fitOrigin, fitOrigins, sound, legal}
+use Rattle.protocol.specs.Records.{originOf, freshOf}
 use Rattle.protocol.specs.Receiver.{holding, line}
 use Rattle.protocol.proofs.Laws.Index.{byte-zeros, bit-zero, fine-zeros}
+use Rattle.protocol.proofs.Laws.Origins.{no-page, same-page}
 use Rattle.protocol.proofs.Promises.Told.{pages, has}
 use Rattle.protocol.proofs.Promises.Examples.{keyed10, fresh10}
 use Rattle.protocol.proofs.Promises.LegalMeans.{core-holds, means-legal}
 use Rattle.protocol.proofs.Promises.StaysLegal.{Legal}
 use Rattle.protocol.proofs.Promises.BroughtOver.{before, before-holds}
+use Rattle.protocol.proofs.Promises.Faithful.{Faithful, faithful-start}
 use Rattle.protocol.proofs.Promises.ComesToRest.{Ready}
 
--- P9's reader with every page stored and both buffers filled
+-- P9's reader with every page stored and both buffers filled, the first from page 3
 pub full10 : Reader
 full10 =
     reader (keyed10 .plain)
-    (contents (replicate 5120 0x11) (0xff ∷ 0x03 ∷ zeros 126) (replicate 512 0x22) (filledWith (replicate pageBytes 0x33)) (filledWith (replicate pageBytes 0x44)))
+    (contents (replicate 5120 0x11) (0xff ∷ 0x03 ∷ zeros 126) (replicate 512 0x22) (loadedFrom 3 (replicate pageBytes 0x11))
+    record { bytes = replicate pageBytes 0x44; filled = true; origin = noOrigin })
 
 pub record Met (r t : Reader) : Type 0 where
   pub one : T (legal core r)
@@ -40,7 +43,7 @@ pub record Met (r t : Reader) : Type 0 where
   pub pages : capacity (r .guarded) ≡ capacity (t .guarded)
 
 pub premises-met : Met keyed10 full10
-unfolding keyed10 fresh10 full10 fresh zeroed withPassword emptied filledWith four same within every bit stored clearFrom capacity keyed locked bufferOf core fitLibrary fitBuffers fitLengths fitPlain fitTransfer sound legal highestSize
+unfolding keyed10 fresh10 full10 fresh zeroed withPassword emptied loadedFrom four same within every bit stored clearFrom capacity keyed locked bufferOf core fitLibrary fitBuffers fitLengths fitPlain fitTransfer fitOrigin fitOrigins sound legal highestSize
 premises-met = record { one = tt; other = tt; locks = tt; keys = tt; still = refl; settings = refl; pages = refl }
 
 -- of request [5]'s by the full reader without a password: it is not locked, and each of its pages is stored
@@ -56,12 +59,27 @@ pub record AllStored (r : Reader) : Type 0 where
   pub filled2 : rested r .guarded .buffer2 .filled ≡ true
 
 pub stored-met : AllStored open10
-unfolding fresh10 full10 open10 fresh zeroed emptied filledWith four same within every bit stored clearFrom capacity keyed locked bufferOf core fitLibrary fitBuffers fitLengths fitPlain fitTransfer sound legal highestSize rested ended
+unfolding fresh10 full10 open10 fresh zeroed emptied loadedFrom four same within every bit stored clearFrom capacity keyed locked bufferOf core fitLibrary fitBuffers fitLengths fitPlain fitTransfer fitOrigin fitOrigins sound legal highestSize rested ended
 stored-met = record { one = tt; unlocked = refl; ten = refl; all = tt; filled1 = refl; filled2 = refl }
+
+-- and of request [7]'s too: its first buffer is a copy of page 3, and its second has no origin
+pub record OneCopy (r : Reader) : Type 0 where
+  pub faithful : Faithful r
+  pub first : r .guarded .buffer1 .origin ≡ fromPage 3
+  pub other : r .guarded .buffer2 .origin ≡ noOrigin
+
+pub copy-met : OneCopy open10
+unfolding fresh10 full10 open10 loadedFrom
+copy-met =
+    record {
+      faithful = record { buffer1 = λ p e. subst (λ (q : ℕ). replicate 512 0x11 ≡ part (512 * q) 512 (replicate 5120 0x11)) (same-page 3 p e) refl; buffer2 = λ p e. no-page p e };
+      first = refl;
+      other = refl;
+    }
 
 -- fresh settings and zeroed memory are legal: every new vault, of 1 to 1000 pages
 pub new-vault : (c : ℕ) → 1 ≤ c → c ≤ 1000 → Legal core core-holds (freshOf (replicate (512 * c) 0) (replicate 128 0) (replicate 512 0) (replicate 512 0) (replicate 512 0))
-unfolding fresh four bit
+unfolding fresh four bit originOf
 new-vault c low high =
     record {
       typed = record { password = refl; address = refl; index = fine-zeros 128 .bytes };
@@ -86,14 +104,21 @@ new-vault c low high =
                   baud = (lit≤ tt, lit≤ tt);
                   sensor = lit< tt;
                   transfer = tt;
+                  origin1 = λ p e. no-page p e;
+                  origin2 = λ p e. no-page p e;
                   clear = λ k q e l. ap (λ (b : ℕ). b / 2 ^ (q % 8) % 2) (byte-zeros 128 (q / 8)) ∙ bit-zero (q % 8);
                 };
           };
     }
 
+-- and its buffers have no origin
+pub new-faithful : (t i n b d : List ℕ) → Faithful (freshOf t i n b d)
+unfolding originOf
+new-faithful t i n b d = faithful-start (freshOf t i n b d) refl refl
+
 -- P1's too
 pub fresh-legal : Legal core core-holds fresh10
-unfolding fresh10 zeroed emptied core
+unfolding fresh10 zeroed emptied core originOf
 fresh-legal = new-vault 10 (lit≤ tt) (lit≤ tt)
 
 -- and with an empty receiver it is ready for pieces
@@ -112,5 +137,5 @@ old-bytes (suc zero) = lit< tt
 old-bytes (suc (suc i)) = fine-zeros 30 .bytes i
 
 pub old-met : Legal before before-holds old10
-unfolding old10 full10 fresh10 fresh filledWith four same within every bit stored clearFrom capacity keyed locked fitLibrary fitBuffers fitLengths fitPlain fitTransfer sound legal highestSize
+unfolding old10 full10 fresh10 fresh loadedFrom four same within every bit stored clearFrom capacity keyed locked fitLibrary fitBuffers fitLengths fitPlain fitTransfer fitOrigin fitOrigins sound legal highestSize
 old-met = record { typed = record { password = refl; address = refl; index = old-bytes }; legal = tt }

@@ -1,21 +1,24 @@
 -- Document 01: "Show that the statement admits only one result" A contract pins the code's records and lent memory by an equation to the
 -- definitions; two results of one such equation are the same.
-use mathlib.Core.Bool.{true, false}
+use mathlib.Core.Bool.{Bool, true, false, cond}
 use mathlib.Core.Path.{_≡_, refl, sym, ap, _∙_}
 use mathlib.Core.List.{List}
 use Prim.Native.Nat.{ℕ, zero, suc}
+use lib.Dec.{eqb}
+use borrow.Author.Tests.{eqb-true}
 use Rattle.protocol.specs.declared.Settings.{Settings}
 use Rattle.protocol.specs.declared.Called.{Called}
 use Rattle.protocol.specs.declared.Switched.{Switched}
 use Rattle.protocol.specs.declared.Built.{Built}
 use Rattle.protocol.specs.declared.Received.{Received}
 use Rattle.protocol.specs.declared.Emptied.{Emptied}
+use Rattle.protocol.specs.Numbers.{noPage}
 use Rattle.protocol.specs.Packet.{Made}
 use Rattle.protocol.specs.BringOver.{Brought}
-use Rattle.protocol.specs.Reader.{Transfer, closed, opened, unfit, Reader}
+use Rattle.protocol.specs.Reader.{Transfer, closed, opened, unfit, Origin, noOrigin, fromPage, Reader}
 use Rattle.protocol.specs.Call.{Ended}
 use Rattle.protocol.specs.Receiver.{Handed}
-use Rattle.protocol.specs.Records.{transferOf, readerOf, endedOf, switchedOf, receivedOf, emptiedOf, madeOf, broughtOf}
+use Rattle.protocol.specs.Records.{transferOf, originOf, readerOf, endedOf, switchedOf, receivedOf, emptiedOf, madeOf, broughtOf}
 
 -- a transfer's two numbers
 numbers : Transfer → ℕ × ℕ
@@ -31,6 +34,22 @@ numbered zero (suc k) = refl
 numbered (suc zero) k = refl
 numbered (suc (suc zero)) k = refl
 numbered (suc (suc (suc b))) k = refl
+
+-- an origin's number
+page-number : Origin → ℕ
+page-number noOrigin = noPage
+page-number (fromPage p) = p
+
+origin-numbered : (n : ℕ) → page-number (originOf n) ≡ n
+unfolding page-number originOf
+origin-numbered n = go (eqb n noPage) refl
+  where
+    go : (b : Bool) → eqb n noPage ≡ b → page-number (cond b noOrigin (fromPage n)) ≡ n
+    go true e = sym (eqb-true n noPage e)
+    go false e = refl
+
+same-origin : (n m : ℕ) → originOf n ≡ originOf m → n ≡ m
+same-origin n m e = sym (origin-numbered n) ∙ ap page-number e ∙ origin-numbered m
 
 -- one reader comes of one settings record and one lent memory
 pub record OneReader (s z : Settings) (t i n b c t′ i′ n′ b′ c′ : List ℕ) : Type 0 where
@@ -61,6 +80,8 @@ one-reader s z t i n b c t′ i′ n′ b′ c′ e =
             verified = e j .plain .verified;
             filled1 = e j .guarded .buffer1 .filled;
             filled2 = e j .guarded .buffer2 .filled;
+            origin1 = same-origin (s .origin1) (z .origin1) (ap (λ (r : Reader). r .guarded .buffer1 .origin) e) j;
+            origin2 = same-origin (s .origin2) (z .origin2) (ap (λ (r : Reader). r .guarded .buffer2 .origin) e) j;
           };
       templates = ap (λ (r : Reader). r .guarded .templates) e;
       index = ap (λ (r : Reader). r .guarded .index) e;

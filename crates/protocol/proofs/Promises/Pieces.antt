@@ -7,12 +7,13 @@ use lib.Dec.{T, eqb, ltb, eqb→eq, ltb→lt}
 use borrow.Author.Tests.{eq-eqb, lt-ltb}
 use lib.ListN.{length, take, drop}
 use Rattle.protocol.specs.Bytes.{lay}
-use Rattle.protocol.specs.Reader.{Transfer, closed, opened, Plain, Reader, sizeOf, bufferOf, emptied, filledWith, withTransfer, withBuffer, reader}
+use Rattle.protocol.specs.Reader.{Transfer, closed, opened, Plain, Origin, noOrigin, Reader, sizeOf, bufferOf, emptied, withTransfer, withBuffer, reader}
 use Rattle.protocol.specs.Data.{acknowledge}
 use Rattle.protocol.specs.Step.{piece, hear, silence, says, ended, rested, fits, takeAs, takeIn, answer}
 use Rattle.protocol.specs.Call.{Shape, Lent, fitTransfer, fitLent, legal, callOf}
 use Rattle.protocol.proofs.Laws.Logic.{T→true, and-l, eqb-same}
-use Rattle.protocol.proofs.Laws.Legal.{fitting, Moving, moving, legal-transfer}
+use Rattle.protocol.proofs.Laws.Origins.{unfilled-none}
+use Rattle.protocol.proofs.Laws.Legal.{fitting, Moving, moving, legal-transfer, legal-origins}
 use Rattle.protocol.proofs.Promises.Told.{Replies, Leaves, Gives, answered, buffer, number, blank, WithBuffer, with-buffer}
 
 -- ---- an open transfer ended
@@ -61,28 +62,32 @@ fits-in p got last right content g = rw (g .sum, g .long, eqb-same (sizeOf (p .s
     go true x = eq-eqb (got + sizeOf (p .size)) 512 x
     go false x = lt-ltb (got + sizeOf (p .size)) 512 x
 
--- "Then the bytes go in at the place reached, silently; 8 also sets the filled mark and closes." All else stays
+-- "Then the bytes go in at the place reached, silently; 8 also sets the filled mark and closes." The buffer has no origin; all else stays
 abbrev pub Taken : Bool → ℕ → Bool → List ℕ → Reader → Reader → Type 0
 Taken w got last content r x =
     let b = buffer (number w) (r .guarded) .bytes in
-    WithBuffer (number w) record { bytes = take got b ++ (content ++ drop (got + length content) b); filled = last } (cond last closed (opened w (got + length content))) r x
+    WithBuffer (number w) record { bytes = take got b ++ (content ++ drop (got + length content) b); filled = last; origin = noOrigin } (cond last closed (opened w (got + length content))) r x
 
 taken : (r : Reader) (w : Bool) (got : ℕ) (content : List ℕ) (last : Bool) → length content ≡ sizeOf (r .plain .size) → bufferOf w (r .guarded) .filled ≡ false
-    → Taken w got last content r (takeAs r w got content true last .after)
-unfolding takeAs silence filledWith lay bufferOf
-taken r true got content true o f = with-buffer true _ closed r
-taken r false got content true o f = with-buffer false _ closed r
-taken r w got content false o f = subst (Taken w got false content r) (sym same) (go w)
+    → bufferOf w (r .guarded) .origin ≡ noOrigin → Taken w got last content r (takeAs r w got content true last .after)
+unfolding takeAs silence lay bufferOf
+taken r w got content last o f a = subst (Taken w got last content r) (sym (same last)) (go w)
   where
-    put : Bool → ℕ → Bool → Reader
-    put x n b = reader (withTransfer (opened x n) (r .plain)) (withBuffer x record { bytes = lay got content (bufferOf x (r .guarded) .bytes); filled = b } (r .guarded))
+    put : Bool → Transfer → Bool → Origin → Reader
+    put x m b e = reader (withTransfer m (r .plain)) (withBuffer x record { bytes = lay got content (bufferOf x (r .guarded) .bytes); filled = b; origin = e } (r .guarded))
 
-    same : takeAs r w got content true false .after ≡ put w (got + length content) false
-    same = ap₂ (put w) (ap (λ (n : ℕ). got + n) (sym o)) f
+    left : Bool → Bool → Transfer
+    left x b = cond b closed (opened x (got + length content))
 
-    go : (x : Bool) → Taken x got false content r (put x (got + length content) false)
-    go true = with-buffer true _ (opened true (got + length content)) r
-    go false = with-buffer false _ (opened false (got + length content)) r
+    same : (b : Bool) → takeAs r w got content true b .after ≡ put w (left w b) b noOrigin
+    same true = ap (put w closed true) a
+    same false =
+        ap₂ (λ (n : ℕ) (b : Bool). put w (opened w (got + n)) b (bufferOf w (r .guarded) .origin)) (sym o) f
+        ∙ ap (put w (opened w (got + length content)) false) a
+
+    go : (x : Bool) → Taken x got last content r (put x (left x last) last noOrigin)
+    go true = with-buffer true _ (left true last) r
+    go false = with-buffer false _ (left false last) r
 
 module _ (σ : Shape) (r : Reader) (s : List ℕ) (lent : Lent) (f : T (legal σ r)) (u : T (fitLent lent)) (last right : Bool) (content : List ℕ)
     (h : hear (r .plain .address) s ≡ piece last right content) where
@@ -97,7 +102,7 @@ module _ (σ : Shape) (r : Reader) (s : List ℕ) (lent : Lent) (f : T (legal σ
     piece-goes-in g =
         let a = answered σ r s lent f u (takeAs r w got content true last) (takes true (fits-in (r .plain) got last right content g)) in
         let m : Moving (r .plain) (r .guarded) w got = moving (r .plain) (r .guarded) w got (subst (λ (x : Transfer). T (fitTransfer (r .plain) (r .guarded) x)) e (legal-transfer σ r f)) in
-        record { told = subst (λ (x : List ℕ). Replies x s lent (callOf σ r s lent)) (quiet last) (a .told); after = subst (Taken w got last content r) (sym (a .after)) (taken r w got content last (g .long) (m .unfilled)) }
+        record { told = subst (λ (x : List ℕ). Replies x s lent (callOf σ r s lent)) (quiet last) (a .told); after = subst (Taken w got last content r) (sym (a .after)) (taken r w got content last (g .long) (m .unfilled) (unfilled-none _ _ _ (legal-origins σ r f w) (m .unfilled))) }
       where
         quiet : (b : Bool) → takeAs r w got content true b .reply ≡ []
         quiet true = refl

@@ -253,7 +253,7 @@ module _ (σ : Shape) (p : Plain) (l : T (locked p)) where
             kept-other = i .kept-other;
           }
 
--- legal locked readers of equal capacity and equal settings but for the filled marks, with equal held bytes
+-- legal locked readers of equal capacity and equal settings but for the filled marks and the origins, with equal held bytes
 pub receiver-second-half : (σ : Shape) (r t : Reader) (y z : Receiver) → T (legal σ r) → T (legal σ t) → T (locked (r .plain)) → r .plain ≡ t .plain → capacity (r .guarded) ≡ capacity (t .guarded)
     → SameHeld y z → (es : List Event) → ReceiverBlind (r .guarded) (t .guarded) (talk σ (line r y) es) (talk σ (line t z) es)
 unfolding publicOf

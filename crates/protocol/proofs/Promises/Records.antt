@@ -9,9 +9,9 @@ use Rattle.protocol.specs.declared.Switched.{Switched}
 use Rattle.protocol.specs.declared.Built.{Built}
 use Rattle.protocol.specs.declared.Received.{Received}
 use Rattle.protocol.specs.declared.Emptied.{Emptied}
-use Rattle.protocol.specs.Records.{transferOf, readerOf, endedOf, switchedOf, receivedOf, emptiedOf, madeOf}
+use Rattle.protocol.specs.Records.{transferOf, originOf, readerOf, endedOf, switchedOf, receivedOf, emptiedOf, madeOf}
 
--- settings; templates, index, notepad, buffers 1 and 2. `transferOf` is in Words
+-- settings; templates, index, notepad, buffers 1 and 2. `transferOf` and `originOf` are in Words
 pub reader-is : (s : Settings) (t i n b d : List ℕ) → readerOf s t i n b d
     ≡ record {
       plain =
@@ -25,7 +25,7 @@ pub reader-is : (s : Settings) (t i n b d : List ℕ) → readerOf s t i n b d
             verified = s .verified;
             transfer = transferOf (s .transfer) (s .got);
           };
-      guarded = record { templates = t; index = i; notepad = n; buffer1 = record { bytes = b; filled = s .filled1 }; buffer2 = record { bytes = d; filled = s .filled2 } };
+      guarded = record { templates = t; index = i; notepad = n; buffer1 = record { bytes = b; filled = s .filled1; origin = originOf (s .origin1) }; buffer2 = record { bytes = d; filled = s .filled2; origin = originOf (s .origin2) } };
     }
 reader-is s t i n b d = refl
 

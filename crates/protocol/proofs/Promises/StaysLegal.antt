@@ -10,18 +10,21 @@ use lib.ListN.{length}
 use Rattle.protocol.specs.Numbers.{pageBytes, noteBytes, highestSize, lowestBaud, highestBaud, lowestLevel, highestLevel, baudParameter, levelParameter}
 use Rattle.protocol.specs.Bytes.{lay}
 use Rattle.protocol.specs.Tests.{within}
-use Rattle.protocol.specs.Reader.{Transfer, closed, opened, unfit, Plain, Buffer, Reader, capacity, sizeOf, keyed, locked, bufferOf, emptied, filledWith, withMark, withTransfer, withPassword, withAddress, withTuning, withBuffer}
+use Rattle.protocol.specs.Index.{stored}
+use Rattle.protocol.specs.Reader.{Transfer, closed, opened, unfit, Plain, noOrigin, Buffer, Reader, capacity, sizeOf, keyed, locked, bufferOf, emptied, withMark, withTransfer, withPassword, withAddress, withTuning, withBuffer}
 use Rattle.protocol.specs.Commands.{Free, verifyPassword, handShake, Barred, store, loadChar, upChar, downChar, deletChar, empty, setSysPara, readSysPara, setPassword, setAddress, writeNotepad, readNotepad, templeteNum, readIndexTable, free}
-use Rattle.protocol.specs.Table.{inRange, withParameter, rule, apply, freeRule, publicOf}
-use Rattle.protocol.specs.Step.{Heard, hear, Said, silence, says, carryAs, carryFree, ended, rested, takeAs, answer, stepOf, wiped, switched}
+use Rattle.protocol.specs.Table.{second, inRange, withParameter, rule, apply, freeRule, publicOf}
+use Rattle.protocol.specs.Step.{Heard, hear, Said, silence, says, carryAs, carryFree, ended, rested, laidIn, takeAs, answer, stepOf, wiped, switched}
 use Rattle.protocol.specs.Call.{Shape, Lent, fitBuffers, fitPlain, fitTransfer, legal, Typed, Ended, refused, carried, callOf, switchRefusal, switchAs, switchOf}
 use Rattle.protocol.specs.Dialogue.{Event, received, switch, on, finally}
-use Rattle.protocol.proofs.Laws.Logic.{and-l, and-r, and-i, passed}
+use Rattle.protocol.proofs.Laws.Logic.{T→true, T→false, and-l, and-r, and-i, passed}
 use Rattle.protocol.proofs.Laws.Lists.{length-lay}
 use Rattle.protocol.proofs.Laws.Commands.{Long, LongHeard, long-heard}
 use Rattle.protocol.proofs.Laws.Effects.{buffer-same}
+use Rattle.protocol.proofs.Laws.Origins.{Rooted, rooted-none, unfilled-none}
 use Rattle.protocol.proofs.Laws.Answers.{answer-kinds, call-kinds}
-use Rattle.protocol.proofs.Laws.Legal.{buffer-long, fit-closed, fit-opened, Moving, moving, Fitting, fitting, Good, good-of, legal-of, good-plain, good-buffer, Proper, effect-good}
+use Rattle.protocol.proofs.Laws.Legal.{buffer-long, fit-closed, fit-opened, Moving, moving, Fitting, fitting, Good, good-of, legal-of, good-plain, good-buffer}
+use Rattle.protocol.proofs.Laws.Proper.{Proper, effect-good}
 
 -- ---- SetSysPara
 
@@ -55,10 +58,13 @@ module _ (σ : Shape) (ok : σ .most ≤ 8 * σ .indexed) where
 
   -- where a row's tests pass, its effect is proper
   module _ (r : Reader) (z : r .plain .transfer ≡ closed) (k : Good σ ok r) (u : locked (r .plain) ≡ false) where
-    row-proper : (c : Barred) → Long c → T (passed (rule r c .tests)) → Proper σ ok r (rule r c .effect)
+    pub row-proper : (c : Barred) → Long c → T (passed (rule r c .tests)) → Proper σ ok r (rule r c .effect)
     unfolding rule withPassword withAddress fitPlain
-    row-proper (store b p) l t = ltb→lt p (capacity (r .guarded)) (search (and-l, and-r))
-    row-proper (loadChar b p) l t = ltb→lt p (capacity (r .guarded)) (search (and-l, and-r))
+    row-proper (store b p) l t = (
+      ltb→lt p (capacity (r .guarded)) (search (and-l, and-r)),
+      (T→true (bufferOf (second b) (r .guarded) .filled) (search (and-l, and-r)), T→false (stored (r .guarded .index) p) (search (and-l, and-r))),
+    )
+    row-proper (loadChar b p) l t = (ltb→lt p (capacity (r .guarded)) (search (and-l, and-r)), T→true (stored (r .guarded .index) p) (search (and-l, and-r)))
     row-proper (upChar b) l t = tt
     row-proper (downChar b) l t = u
     row-proper (deletChar p n) l t = leb→le (p + n) (capacity (r .guarded)) (search (and-l, and-r))
@@ -86,7 +92,9 @@ module _ (σ : Shape) (ok : σ .most ≤ 8 * σ .indexed) where
   pub good-ended : (r : Reader) (t : Transfer) → r .plain .transfer ≡ t → Good σ ok r → Good σ ok (ended r t)
   unfolding ended emptied withTransfer
   good-ended r closed z k = k
-  good-ended r (opened w got) z k = good-buffer σ ok r closed w emptied k refl (fit-closed (withTransfer closed (r .plain)) (withBuffer w emptied (r .guarded)) closed refl)
+  good-ended r (opened w got) z k =
+      good-buffer σ ok r closed w emptied k refl (rooted-none (capacity (r .guarded)) (r .guarded .index) emptied refl)
+      (fit-closed (withTransfer closed (r .plain)) (withBuffer w emptied (r .guarded)) closed refl)
   good-ended r (unfit b j) z k = k
 
   pub good-rested : (r : Reader) → Good σ ok r → Good σ ok (rested r)
@@ -107,20 +115,25 @@ module _ (σ : Shape) (ok : σ .most ≤ 8 * σ .indexed) where
     laid : got + length content ≤ pageBytes → length (lay got content (bufferOf w (r .guarded) .bytes)) ≡ pageBytes
     laid l = let b = buffer-long w (r .guarded) (k .buffers) in length-lay got content (bufferOf w (r .guarded) .bytes) (omega arith) ∙ b
 
+    -- the transfer's buffer is not filled, so it has no origin
+    origin : bufferOf w (r .guarded) .origin ≡ noOrigin
+    origin = unfilled-none (capacity (r .guarded)) (r .guarded .index) (bufferOf w (r .guarded)) (k .origins w) (m .unfilled)
+
     taken-good : (last : Bool) → Fitting (r .plain) got last content → Good σ ok (takeAs r w got content true last .after)
-    unfolding takeAs silence filledWith withTransfer locked keyed
+    unfolding takeAs silence withTransfer locked keyed
     taken-good false f =
         let z : ℕ = sizeOf (r .plain .size) in
         let below : got + z < pageBytes = ltb→lt (got + z) pageBytes (f .total) in
-        let b : Buffer = record { bytes = lay got content (bufferOf w (r .guarded) .bytes); filled = bufferOf w (r .guarded) .filled } in
-        good-buffer σ ok r (opened w (got + z)) w b k (laid (omega (arith, f .one)))
+        let b : Buffer = laidIn got content (bufferOf w (r .guarded) .filled) (bufferOf w (r .guarded)) in
+        good-buffer σ ok r (opened w (got + z)) w b k (laid (omega (arith, f .one))) (rooted-none (capacity (r .guarded)) (r .guarded .index) b origin)
         (fit-opened (withTransfer (opened w (got + z)) (r .plain)) (withBuffer w b (r .guarded)) w (got + z) (add-mod-right got z ∙ m .whole) below
         (ap (λ (x : Buffer). x .filled) (buffer-same w b (r .guarded)) ∙ m .unfilled) (m .free))
     taken-good true f =
         let z : ℕ = sizeOf (r .plain .size) in
         let all : got + z ≡ pageBytes = eqb→eq (got + z) pageBytes (f .total) in
-        let b : Buffer = filledWith (lay got content (bufferOf w (r .guarded) .bytes)) in
-        good-buffer σ ok r closed w b k (laid (omega (arith, f .one))) (fit-closed (withTransfer closed (r .plain)) (withBuffer w b (r .guarded)) closed refl)
+        let b : Buffer = laidIn got content true (bufferOf w (r .guarded)) in
+        good-buffer σ ok r closed w b k (laid (omega (arith, f .one))) (rooted-none (capacity (r .guarded)) (r .guarded .index) b origin)
+        (fit-closed (withTransfer closed (r .plain)) (withBuffer w b (r .guarded)) closed refl)
 
   -- ---- an answer
 
@@ -169,9 +182,13 @@ module _ (σ : Shape) (ok : σ .most ≤ 8 * σ .indexed) where
       (λ t u. answer-good r k (hear (r .plain .address) s) (long-heard (r .plain .address) s))
 
   switch-good : (r : Reader) → Good σ ok r → Good σ ok (switchOf r .after)
-  unfolding switchOf switchAs refused switched wiped withMark withTransfer emptied fitPlain capacity fitBuffers
+  unfolding switchOf switchAs refused switched wiped withMark withTransfer emptied fitPlain capacity fitBuffers bufferOf
   switch-good r k = go (switchRefusal (r .guarded))
     where
+      origins : (w : Bool) → Rooted (capacity (r .guarded)) (r .guarded .index) (bufferOf w (switched r .guarded))
+      origins true = rooted-none (capacity (r .guarded)) (r .guarded .index) emptied refl
+      origins false = rooted-none (capacity (r .guarded)) (r .guarded .index) emptied refl
+
       go : (n : ℕ) → Good σ ok (switchAs r n .after)
       go zero =
           record {
@@ -180,6 +197,7 @@ module _ (σ : Shape) (ok : σ .most ≤ 8 * σ .indexed) where
             buffers = tt;
             transfer = fit-closed (switched r .plain) (switched r .guarded) closed refl;
             clear = k .clear;
+            origins = origins;
             typed = record { password = k .typed .password; address = k .typed .address; index = k .typed .index };
           }
       go (suc n) = k

@@ -1,11 +1,12 @@
--- Document 01: "Line switch: verified mark and filled marks cleared, transfer closed, both buffers zeroed." Whatever the settings were.
+-- Document 01: "Line switch: verified mark and filled marks cleared, transfer closed, both buffers zeroed." Request [7]: it makes both origins none.
+-- Whatever the settings were.
 use mathlib.Core.Bool.{true, false}
 use mathlib.Core.Path.{_≡_, refl}
 use mathlib.Core.List.{[]}
 use lib.Dec.{T}
 use lib.ListN.{length, replicate}
 use Rattle.protocol.specs.Tests.{verdict}
-use Rattle.protocol.specs.Reader.{closed, Reader, keyed, locked, emptied, withMark, withTransfer}
+use Rattle.protocol.specs.Reader.{closed, noOrigin, Reader, keyed, locked, emptied, withMark, withTransfer}
 use Rattle.protocol.specs.Step.{wiped, switched}
 use Rattle.protocol.specs.Call.{fitBuffers, Ended, switchRefusal, switchAs, switchOf}
 use Rattle.protocol.proofs.Laws.Logic.{and-i}
@@ -16,6 +17,8 @@ pub record Wiped (r : Reader) (e : Ended) : Type 0 where
   pub transfer : e .after .plain .transfer ≡ closed
   pub filled1 : e .after .guarded .buffer1 .filled ≡ false
   pub filled2 : e .after .guarded .buffer2 .filled ≡ false
+  pub origin1 : e .after .guarded .buffer1 .origin ≡ noOrigin
+  pub origin2 : e .after .guarded .buffer2 .origin ≡ noOrigin
   pub buffer1 : e .after .guarded .buffer1 .bytes ≡ replicate 512 0
   pub buffer2 : e .after .guarded .buffer2 .bytes ≡ replicate 512 0
   -- the rest stays
@@ -41,6 +44,8 @@ switch-wipes r b c =
       transfer = refl;
       filled1 = refl;
       filled2 = refl;
+      origin1 = refl;
+      origin2 = refl;
       buffer1 = refl;
       buffer2 = refl;
       templates = refl;

@@ -11,7 +11,7 @@ use lib.ListN.{length, take, drop, getD, replicate}
 use Rattle.protocol.specs.declared.Found.the-variants.{Whole}
 use Rattle.protocol.specs.Finder.{findOf, usedOf}
 use Rattle.protocol.specs.Bytes.{lay}
-use Rattle.protocol.specs.Reader.{Transfer, Buffer, Guarded, Reader, bufferOf, withTransfer, withBuffer, reader}
+use Rattle.protocol.specs.Reader.{Transfer, noOrigin, Buffer, Guarded, Reader, bufferOf, withTransfer, withBuffer, reader}
 use Rattle.protocol.specs.Data.{acknowledge}
 use Rattle.protocol.specs.Table.{isBuffer, second}
 use Rattle.protocol.specs.Step.{hear, Said, answer, stepOf}
@@ -93,9 +93,9 @@ abbrev pub number : Bool → ℕ
 number false = 1
 number true = 2
 
--- zeroed, its mark clear
+-- zeroed, its mark clear, its origin none
 abbrev pub blank : Buffer
-blank = record { bytes = replicate 512 0; filled = false }
+blank = record { bytes = replicate 512 0; filled = false; origin = noOrigin }
 
 -- the reader x is t with this transfer, and c in the place of its buffer b
 pub record WithBuffer (b : ℕ) (c : Buffer) (m : Transfer) (t x : Reader) : Type 0 where

@@ -13,7 +13,7 @@ use borrow.Author.Tests.{ne-eqb, le-leb, lt-ltb}
 use Rattle.protocol.specs.Bytes.{Bytes, part, zeros, lay}
 use Rattle.protocol.specs.Finder.{findOf}
 use Rattle.protocol.specs.Index.{bit, stored, setBit, clearBits}
-use Rattle.protocol.specs.Reader.{Plain, Buffer, Reader, locked}
+use Rattle.protocol.specs.Reader.{Plain, fromPage, Buffer, Reader, locked}
 use Rattle.protocol.specs.Commands.{Barred, store, loadChar, upChar, downChar, deletChar, empty, setSysPara, readSysPara, setPassword, setAddress, writeNotepad, readNotepad, templeteNum, readIndexTable, free, barred, damaged, unknown, misfit, command}
 use Rattle.protocol.specs.Data.{acknowledge}
 use Rattle.protocol.specs.Step.{Heard, nothing, order, piece, hear, rested}
@@ -26,9 +26,9 @@ use Rattle.protocol.proofs.Laws.Effects.{away}
 use Rattle.protocol.proofs.Laws.Answers.{spared}
 use Rattle.protocol.proofs.Laws.Locked.{rested-still}
 use Rattle.protocol.proofs.Laws.History.{Library, Keeps, events-keep}
-use Rattle.protocol.proofs.Promises.Told.{Replies, Says, pages, page, has, Numbered, buffer}
+use Rattle.protocol.proofs.Promises.Told.{Replies, Says, pages, page, has, Numbered, buffer, other}
 use Rattle.protocol.proofs.Promises.StaysLegal.{Legal, good, rested-closed, stays-legal}
-use Rattle.protocol.proofs.Promises.Moves.{Stored, store-moves, Deleted, delete-moves}
+use Rattle.protocol.proofs.Promises.Moves.{Forgets, Stored, store-moves, Deleted, delete-moves}
 use Rattle.protocol.proofs.Promises.Rows.{rows}
 
 -- ---- "Store to a page whose bit is set must now answer 22h and change nothing", "after 01h, 0Bh and 0Ch"
@@ -43,7 +43,7 @@ answers-22 r s lent f u l b p h i m e o =
 -- ---- "the host deletes first"
 
 -- a page of 512 bytes is there
-whole-page : (t : List ℕ) (p : ℕ) → length (part (512 * p) 512 t) ≡ 512 → p < length t / 512
+pub whole-page : (t : List ℕ) (p : ℕ) → length (part (512 * p) 512 t) ≡ 512 → p < length t / 512
 whole-page t p e = let f = length-take 512 (drop (512 * p) t) in let g = length-drop (512 * p) t in omega arith
 
 module _ (σ : Shape) (ok : σ .most ≤ 8 * σ .indexed) (r : Reader) (l : Legal σ ok r) (u : locked (r .plain) ≡ false) (s : List ℕ) (lent : Lent) (v : T (fitLent lent))
@@ -55,7 +55,8 @@ module _ (σ : Shape) (ok : σ .most ≤ 8 * σ .indexed) (r : Reader) (l : Lega
   abbrev replaced : Ended
   replaced = callOf σ (cleared .after) s′ lent′
 
-  -- both are answered 00h; page p has the buffer's bytes and its bit, every other page keeps both, and all else stays
+  -- both are answered 00h; page p has the buffer's bytes and its bit, and is its origin; every other page keeps both; the other buffer is wiped where page p
+  -- was its origin; and all else stays
   pub record Replaced (b p : ℕ) : Type 0 where
     pub first : Replies (acknowledge (r .plain .address) 0x00 []) s lent cleared
     pub next : Replies (acknowledge (r .plain .address) 0x00 []) s′ lent′ replaced
@@ -64,13 +65,15 @@ module _ (σ : Shape) (ok : σ .most ≤ 8 * σ .indexed) (r : Reader) (l : Lega
     pub bits : (q : ℕ) → has (replaced .after) q ≡ (eqb p q || has r q)
     pub settings : replaced .after .plain ≡ rested r .plain
     pub notepad : replaced .after .guarded .notepad ≡ r .guarded .notepad
-    pub buffer1 : replaced .after .guarded .buffer1 ≡ rested r .guarded .buffer1
-    pub buffer2 : replaced .after .guarded .buffer2 ≡ rested r .guarded .buffer2
+    pub chosen : buffer b (replaced .after .guarded) ≡ record { bytes = buffer b (rested r .guarded) .bytes; filled = true; origin = fromPage p }
+    pub spare : Forgets p 1 (other b (rested r .guarded)) (other b (replaced .after .guarded))
 
+  -- of a buffer that is no copy of page p itself: by request [7] such a one is wiped first, and `store-after-delete` says what its Store answers
   pub delete-then-store : (b p : ℕ) → hear (r .plain .address) s ≡ order (command (barred (deletChar p 1)))
-      → hear (r .plain .address) s′ ≡ order (command (barred (store b p))) → Numbered b → p < pages r → buffer b (rested r .guarded) .filled ≡ true → Replaced b p
+      → hear (r .plain .address) s′ ≡ order (command (barred (store b p))) → Numbered b → p < pages r → buffer b (rested r .guarded) .filled ≡ true
+      → buffer b (rested r .guarded) .origin ≢ fromPage p → Replaced b p
   unfolding on
-  delete-then-store b p h h′ i m e =
+  delete-then-store b p h h′ i m e n =
       record {
         first = subst (λ (a : List ℕ). Replies (acknowledge a 0x00 []) s lent cleared) (spared r .address) (d .quiet .told);
         next = subst (λ (a : List ℕ). Replies (acknowledge a 0x00 []) s′ lent′ replaced) (spared (cleared .after) .address ∙ address) (w .quiet .told);
@@ -79,8 +82,8 @@ module _ (σ : Shape) (ok : σ .most ≤ 8 * σ .indexed) (r : Reader) (l : Lega
         bits = λ q. w .bits q ∙ ap (λ (c : Bool). eqb p q || c) (d .bits q) ∙ bits q (ℕ-discrete p q);
         settings = w .quiet .settings ∙ ap (λ (x : Reader). x .plain) still ∙ d .quiet .settings;
         notepad = w .quiet .notepad ∙ ap (λ (x : Reader). x .guarded .notepad) still ∙ d .quiet .notepad ∙ spared r .notepad;
-        buffer1 = w .quiet .buffer1 ∙ ap (λ (x : Reader). x .guarded .buffer1) still ∙ d .quiet .buffer1;
-        buffer2 = w .quiet .buffer2 ∙ ap (λ (x : Reader). x .guarded .buffer2) still ∙ d .quiet .buffer2;
+        chosen = w .chosen ∙ ap (λ (c : Buffer). record { bytes = c .bytes; filled = true; origin = fromPage p }) buffers;
+        spare = subst (Forgets p 1 (other b (rested r .guarded))) (sym (w .spare ∙ ap (λ (x : Reader). other b (x .guarded)) still)) (forgot-other b);
       }
     where
       d : Deleted σ ok r l u s lent v p 1
@@ -92,14 +95,21 @@ module _ (σ : Shape) (ok : σ .most ≤ 8 * σ .indexed) (r : Reader) (l : Lega
       still : rested (cleared .after) ≡ cleared .after
       still = rested-still (cleared .after) (ap (λ (x : Plain). x .transfer) (d .quiet .settings) ∙ rested-closed σ ok r (good σ ok r l))
 
-      -- the buffer is what it was
-      kept : (n : ℕ) → buffer n (cleared .after .guarded) ≡ buffer n (rested r .guarded)
-      kept zero = d .quiet .buffer1
-      kept (suc zero) = d .quiet .buffer1
-      kept (suc (suc n)) = d .quiet .buffer2
+      forgot : (k : ℕ) → Forgets p 1 (buffer k (rested r .guarded)) (buffer k (cleared .after .guarded))
+      forgot zero = d .buffer1
+      forgot (suc zero) = d .buffer1
+      forgot (suc (suc k)) = d .buffer2
 
+      forgot-other : (k : ℕ) → Forgets p 1 (other k (rested r .guarded)) (other k (cleared .after .guarded))
+      forgot-other zero = d .buffer2
+      forgot-other (suc zero) = d .buffer2
+      forgot-other (suc (suc k)) = d .buffer1
+
+      -- the buffer is what it was
       buffers : buffer b (rested (cleared .after) .guarded) ≡ buffer b (rested r .guarded)
-      buffers = ap (λ (x : Reader). buffer b (x .guarded)) still ∙ kept b
+      buffers =
+          ap (λ (x : Reader). buffer b (x .guarded)) still
+          ∙ forgot b .stays (λ q o j k. let same : q ≡ p = omega arith in n (o ∙ ap fromPage same))
 
       there : p < pages (cleared .after)
       there = whole-page (cleared .after .guarded .templates) p (ap length (d .bytes p (omega arith) (omega arith)) ∙ length-replicate {A = ℕ} 512 0)

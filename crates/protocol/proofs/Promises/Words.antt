@@ -6,17 +6,17 @@ use mathlib.Core.List.{List, [], _∷_, _++_, foldr}
 use Prim.Native.Nat.{ℕ, zero, suc, _+_, _*_, _/_, _%_, _^_, _≤_, _<_}
 use native.Mathlib.Omega.{arith}
 use lib.Dec.{T, eqb, T-not, not-T}
-use borrow.Author.Tests.{eqb-true, eq-eqb}
+use borrow.Author.Tests.{eqb-true, eq-eqb, ne-eqb}
 use lib.ListN.{length, getD, take, replicate}
-use Rattle.protocol.specs.Numbers.{pageBytes, leastPages, mostPages, indexBytes, indexPageBytes, oldIndexBytes, addedBytes, notepadBytes, noteBytes, replyRoom, fourBytes, lowestLevel, highestLevel, lowestBaud, highestBaud, highestSize, baudParameter, levelParameter, sizeParameter, verifiedStatus, firstMark, secondMark, headBytes, frameBytes, commandPacket, dataPacket, acknowledgePacket, lastPacket, shortest, longest, longestOther, holds, done, badPacket, badPage, nothingThere, nothingToSend, transferFailed, badRange, wrongPassword, unknownCommand, badParameter, badValue, badNotePage, passwordFirst, pageTaken, badLength, badRoom, badSetting, badContent, noCount}
+use Rattle.protocol.specs.Numbers.{pageBytes, leastPages, mostPages, indexBytes, indexPageBytes, oldIndexBytes, addedBytes, notepadBytes, noteBytes, replyRoom, fourBytes, lowestLevel, highestLevel, lowestBaud, highestBaud, highestSize, baudParameter, levelParameter, sizeParameter, verifiedStatus, firstMark, secondMark, headBytes, frameBytes, commandPacket, dataPacket, acknowledgePacket, lastPacket, shortest, longest, longestOther, holds, done, badPacket, badPage, nothingThere, nothingToSend, transferFailed, badRange, wrongPassword, unknownCommand, badParameter, badValue, badNotePage, passwordFirst, pageTaken, badLength, badRoom, badSetting, badContent, noCount, noPage}
 use Rattle.protocol.specs.Bytes.{Bytes, two, four, same, lay, joined}
 use Rattle.protocol.specs.Tests.{countBelow}
 use Rattle.protocol.specs.Index.{bit, stored, setBits}
-use Rattle.protocol.specs.Reader.{closed, opened, unfit, Plain, Guarded, Reader, capacity, sizeOf, keyed, locked, bufferOf, emptied, filledWith, fresh, zeroed}
+use Rattle.protocol.specs.Reader.{closed, opened, unfit, Plain, noOrigin, fromPage, Buffer, Guarded, Reader, capacity, sizeOf, keyed, locked, bufferOf, emptied, loadedFrom, storedOn, fresh, zeroed}
 use Rattle.protocol.specs.Table.{isBuffer, second, statusOf}
 use Rattle.protocol.specs.Call.{Shape, core, Lent, Told, replyOf, callOf, switchOf}
 use Rattle.protocol.specs.Dialogue.{Event, received, switch, on, finally, exchanges}
-use Rattle.protocol.specs.Records.{transferOf, freshOf}
+use Rattle.protocol.specs.Records.{transferOf, originOf, freshOf}
 use Rattle.protocol.proofs.Laws.Logic.{T→true, T→false, and-l, and-r, and-i}
 use Rattle.protocol.proofs.Laws.Lists.{same-refl, same-eq, length-lay, at-before, at-inside, at-behind}
 use Rattle.protocol.proofs.Laws.Count.{set-weights}
@@ -34,6 +34,8 @@ pub record Numbers : Type 0 where
   pub ranges : (lowestLevel ∷ highestLevel ∷ lowestBaud ∷ highestBaud ∷ highestSize ∷ []) ≡ (1 ∷ 5 ∷ 1 ∷ 12 ∷ 3 ∷ [])
   pub parameters : (baudParameter ∷ levelParameter ∷ sizeParameter ∷ verifiedStatus ∷ []) ≡ (4 ∷ 5 ∷ 6 ∷ 4 ∷ [])
   pub refusals : (badLength ∷ badRoom ∷ badSetting ∷ badContent ∷ noCount ∷ []) ≡ (1 ∷ 2 ∷ 3 ∷ 4 ∷ 0xffff ∷ [])
+  -- request [7]: no origin, in a settings record
+  pub originless : noPage ≡ 0xffff
   -- the length field's limits, 3, 258 for identifiers 2 and 8, 256 for 1 and 7; the last is what a receiver holds
   pub packets : (firstMark ∷ secondMark ∷ headBytes ∷ frameBytes ∷ shortest ∷ longest ∷ longestOther ∷ holds ∷ []) ≡ (0xef ∷ 0x01 ∷ 9 ∷ 11 ∷ 3 ∷ 258 ∷ 256 ∷ 267 ∷ [])
   pub identifiers : (commandPacket ∷ dataPacket ∷ acknowledgePacket ∷ lastPacket ∷ []) ≡ (1 ∷ 2 ∷ 7 ∷ 8 ∷ [])
@@ -43,7 +45,7 @@ pub record Numbers : Type 0 where
 
 pub numbers : Numbers
 unfolding highestSize longest holds
-numbers = record { memory = refl; added = refl; ranges = refl; parameters = refl; refusals = refl; packets = refl; identifiers = refl; codes = refl }
+numbers = record { memory = refl; added = refl; ranges = refl; parameters = refl; refusals = refl; originless = refl; packets = refl; identifiers = refl; codes = refl }
 
 -- ---- lent memory
 
@@ -54,9 +56,10 @@ pub record Memory : Type 0 where
   pub bit-stored : (x : List ℕ) (p : ℕ) → (stored x p ≡ true) ↔ (getD x (p / 8) 0 / 2 ^ (p % 8) % 2 ≡ 1)
   -- the number of set bits: those of weight 1, 2, 4, ... 128 in every byte
   pub bits-set : (x : List ℕ) → setBits x ≡ foldr (λ b n. b % 2 + b / 2 % 2 + b / 4 % 2 + b / 8 % 2 + b / 16 % 2 + b / 32 % 2 + b / 64 % 2 + b / 128 % 2 + n) 0 x
-  -- a buffer zeroed, its filled mark clear; and one with these bytes and its mark
-  pub emptied-is : emptied ≡ record { bytes = replicate 512 0; filled = false }
-  pub filled-is : (b : List ℕ) → filledWith b ≡ record { bytes = b; filled = true }
+  -- a buffer zeroed, its filled mark clear, its origin none; one filled from page p; and one stored on it
+  pub emptied-is : emptied ≡ record { bytes = replicate 512 0; filled = false; origin = noOrigin }
+  pub loaded-is : (p : ℕ) (b : List ℕ) → loadedFrom p b ≡ record { bytes = b; filled = true; origin = fromPage p }
+  pub stored-is : (p : ℕ) (b : Buffer) → storedOn p b ≡ record { bytes = b .bytes; filled = b .filled; origin = fromPage p }
   -- C from 1 to 1000, index 128 bytes, notepad 512
   pub core-is : core ≡ record { least = 1; most = 1000; indexed = 128; noted = 512 }
   -- zeroed memory of c pages
@@ -65,19 +68,20 @@ pub record Memory : Type 0 where
         templates = replicate (512 * c) 0;
         index = replicate i 0;
         notepad = replicate n 0;
-        buffer1 = record { bytes = replicate 512 0; filled = false };
-        buffer2 = record { bytes = replicate 512 0; filled = false };
+        buffer1 = record { bytes = replicate 512 0; filled = false; origin = noOrigin };
+        buffer2 = record { bytes = replicate 512 0; filled = false; origin = noOrigin };
       }
 
 pub memory : Memory
-unfolding capacity stored bit emptied filledWith core zeroed
+unfolding capacity stored bit emptied loadedFrom storedOn core zeroed
 memory =
     record {
       pages = λ g. refl;
       bit-stored = λ x p. (eqb-true (getD x (p / 8) 0 / 2 ^ (p % 8) % 2) 1, eq-eqb (getD x (p / 8) 0 / 2 ^ (p % 8) % 2) 1);
       bits-set = set-weights;
       emptied-is = refl;
-      filled-is = λ b. refl;
+      loaded-is = λ p b. refl;
+      stored-is = λ p b. refl;
       core-is = refl;
       zeroed-is = λ c i n. refl;
     }
@@ -85,7 +89,8 @@ memory =
 -- ---- settings
 
 pub record Kept : Type 0 where
-  -- fresh: password 0, address FFFFFFFFh, level 3, size code 2, baud factor 6, type 0, marks clear, no transfer
+  -- fresh: password 0, address FFFFFFFFh, level 3, size code 2, baud factor 6, type 0, marks clear, no transfer; by request [7]
+  -- no origins
   pub fresh-is : (t i n b d : List ℕ) → freshOf t i n b d
       ≡ record {
         plain =
@@ -99,7 +104,7 @@ pub record Kept : Type 0 where
               verified = false;
               transfer = closed;
             };
-        guarded = record { templates = t; index = i; notepad = n; buffer1 = record { bytes = b; filled = false }; buffer2 = record { bytes = d; filled = false } };
+        guarded = record { templates = t; index = i; notepad = n; buffer1 = record { bytes = b; filled = false; origin = noOrigin }; buffer2 = record { bytes = d; filled = false; origin = noOrigin } };
       }
   -- size codes 0, 1, 2, 3 mean 32, 64, 128, 256 data bytes
   pub sizes : (sizeOf 0 ∷ sizeOf 1 ∷ sizeOf 2 ∷ sizeOf 3 ∷ []) ≡ (32 ∷ 64 ∷ 128 ∷ 256 ∷ [])
@@ -118,6 +123,9 @@ pub record Kept : Type 0 where
   pub transfer-one : (k : ℕ) → transferOf 1 k ≡ opened (second 1) k
   pub transfer-two : (k : ℕ) → transferOf 2 k ≡ opened (second 2) k
   pub transfer-unfit : (b k : ℕ) → (b ≡ 0 → k ≢ 0) → b ≢ 1 → b ≢ 2 → transferOf b k ≡ unfit b k
+  -- origin: none, which is FFFFh, or a page
+  pub origin-none : originOf 0xffff ≡ noOrigin
+  pub origin-page : (p : ℕ) → p ≢ 0xffff → originOf p ≡ fromPage p
 
 keyed-iff : (p : Plain) → T (keyed p) ↔ (p .password ≢ 0 ∷ 0 ∷ 0 ∷ 0 ∷ [])
 unfolding keyed four
@@ -151,7 +159,7 @@ no-transfer (suc (suc zero)) k h d e = absurd (e refl)
 no-transfer (suc (suc (suc b))) k h d e = refl
 
 pub kept : Kept
-unfolding fresh four sizeOf statusOf bufferOf transferOf
+unfolding fresh four sizeOf statusOf bufferOf transferOf originOf
 kept =
     record {
       fresh-is = λ t i n b d. refl;
@@ -167,6 +175,8 @@ kept =
       transfer-one = λ k. refl;
       transfer-two = λ k. refl;
       transfer-unfit = no-transfer;
+      origin-none = refl;
+      origin-page = λ p d. rw (ne-eqb p 0xffff d) refl;
     }
 
 -- ---- lists of bytes

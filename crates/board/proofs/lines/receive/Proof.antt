@@ -4,6 +4,10 @@ use Rattle.board.proofs.Receiving.{received}
 use Rattle.board.proofs.lines.receive.Statement.{statement}
 use Rattle.board.proofs.lines.receive.Tie as tie
 
+-- where the level is known, from the receiver's call
+unfoldable levelled : tie.After-receive → tie.After-level-of
+levelled c = search
+
 level-of-requires : tie.Need-level-of-requires
 level-of-requires c κs = search needs
 
@@ -35,10 +39,11 @@ same-length-6 : tie.Need-same-length-6
 same-length-6 c = search needs
 
 returns : tie.Need-returns
+unfolding levelled
 returns c =
     let e = (let p : tie.After-receive = search in p .receive .ensures) in
     let r = (let p : tie.After-read = search in p .read .ensures) in
-    let l = (let p : tie.After-level-of = search in p .level-of .ensures) in
+    let l = (let p : tie.After-level-of = search levelled in p .level-of .ensures) in
     received _ _ _ _ _ _ _ _ _ _ _ _ _ _ _ _ _ _ l r e (c .keep .ensures)
 
 pub receive-spec : {M : Type 1} → statement M

@@ -61,11 +61,25 @@ shared-slice-read-t35 c = search needs
 shared-slice-read-t37 : tie.Need-shared-slice-read-t37
 shared-slice-read-t37 c = search needs
 
+word-at-requires-3 : tie.Need-word-at-requires-3
+word-at-requires-3 c κs = search needs
+
+cast-t39 : tie.Need-cast-t39
+cast-t39 c = search needs
+
+word-at-requires-4 : tie.Need-word-at-requires-4
+word-at-requires-4 c κs = search needs
+
+cast-t41 : tie.Need-cast-t41
+cast-t41 c = search needs
+
 returns : tie.Need-returns
 returns c =
+    let v = (let p : tie.After-word-at4 = search in p .word-at4 .ensures .0) in
+    let u = (let p : tie.After-word-at3 = search in p .word-at3 .ensures .0) in
     let g = (let p : tie.After-word-at2 = search in p .word-at2 .ensures .0) in
     let s = (let p : tie.After-word-at = search in p .word-at .ensures .0) in
-    rw (g, s) refl
+    rw (v, u, g, s) refl
 
 pub settings-of-spec : {M : Type 1} → statement M
 settings-of-spec =
@@ -90,4 +104,8 @@ settings-of-spec =
     shared-slice-read-t33
     shared-slice-read-t35
     shared-slice-read-t37
+    word-at-requires-3
+    cast-t39
+    word-at-requires-4
+    cast-t41
     returns)

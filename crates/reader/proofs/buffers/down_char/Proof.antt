@@ -1,4 +1,4 @@
--- A number that names no buffer; otherwise its buffer is wiped, its mark cleared, and a transfer into it opened.
+-- A number that names no buffer; otherwise its buffer is wiped, its mark cleared, its origin none, and a transfer into it opened.
 use mathlib.Core.Path.{_≡_, sym, ap, _∙_}
 use mathlib.Core.Bool.{Bool, false, not}
 use mathlib.Core.List.{List, []}
@@ -6,7 +6,7 @@ use Prim.Native.Nat.{ℕ}
 use lib.Dec.{eqb}
 use lib.ListN.{length}
 use Rattle.protocol.specs.declared.Settings.{Settings}
-use Rattle.protocol.specs.Numbers.{pageBytes, done}
+use Rattle.protocol.specs.Numbers.{pageBytes, noPage, done}
 use Rattle.protocol.specs.Tests.{verdict}
 use Rattle.protocol.specs.Bytes.{zeros, follow}
 use Rattle.protocol.specs.Reader.{opened, Reader}
@@ -18,17 +18,17 @@ use Rattle.protocol.specs.Records.{transferOf}
 use Rattle.protocol.proofs.Laws.Logic.{not-false}
 use Rattle.reader.specs.declared.answers.Answer.{Answer}
 use Rattle.reader.specs.Answers.{codeAlone, sent, saidOf}
-use Rattle.reader.specs.Buffers.{buffers, changed, withFill}
+use Rattle.reader.specs.Buffers.{buffers, changed, withHeld}
 use Rattle.reader.specs.Commands.{obeyed}
 use Rattle.rules.specs.Settings.{withTransfer}
-use Rattle.reader.proofs.Ready.{ready-alone, size-filled, size-moved}
+use Rattle.reader.proofs.Ready.{ready-alone, size-held, size-moved}
 use Rattle.reader.proofs.ByNumber.{no-buffer, opened-at, wiped}
 use borrow.Author.Needs.{needs}
 use Rattle.reader.proofs.buffers.down_char.Statement.{statement}
 use Rattle.reader.proofs.buffers.down_char.Tie as tie
 
 module _ (s : Settings) (t i m b d : List ℕ) (n : ℕ) (a : Answer) (known : Bool) (k : known ≡ isBuffer n) where
-  awaits : (q o : Settings) (x y : List ℕ) → a ≡ codeAlone done q → q ≡ withTransfer n 0 o → o ≡ withFill n false s
+  awaits : (q o : Settings) (x y : List ℕ) → a ≡ codeAlone done q → q ≡ withTransfer n 0 o → o ≡ withHeld n false noPage s
       → buffers x y ≡ changed n (λ (z : List ℕ). zeros (length z)) b d → length b ≡ pageBytes → length d ≡ pageBytes → not known ≡ false
       → saidOf a t i m x y ≡ obeyed s t i m b d (downChar n)
   unfolding carry carryAs rule verdict follow sent apply
@@ -57,8 +57,8 @@ returns c = record { said = λ t i m. search no-buffer; ready = search ready-alo
 wipe-requires : tie.Need-wipe-requires
 wipe-requires c κs = search needs
 
-mark-requires : tie.Need-mark-requires
-mark-requires c κs = search needs
+hold-requires : tie.Need-hold-requires
+hold-requires c κs = search needs
 
 moved-requires : tie.Need-moved-requires
 moved-requires c κs = search needs
@@ -77,7 +77,7 @@ unfolding start asked
 returns-2 c =
     let p = (let s : tie.Start = search start in s .pre) in
     let k = (let a : tie.After-is-buffer = search asked in a .is-buffer .ensures) in
-    record { said = λ t i m. search awaits; ready = search (ready-alone, size-moved, size-filled) }
+    record { said = λ t i m. search awaits; ready = search (ready-alone, size-moved, size-held) }
 
 pub down-char-spec : {M : Type 1} → statement M
 down-char-spec =
@@ -87,7 +87,7 @@ down-char-spec =
     plain-requires
     returns
     wipe-requires
-    mark-requires
+    hold-requires
     moved-requires
     plain-requires-2
     same-length

@@ -1,6 +1,5 @@
--- A buffer of another length is refused with nothing changed; otherwise both are zeroed, the marks cleared and the transfer closed.
+-- A buffer of another length is refused with nothing changed; otherwise both are zeroed, the marks cleared, the origins none and the transfer closed.
 use mathlib.Core.Path.{_≡_}
-use mathlib.Core.Bool.{false}
 use mathlib.Core.List.{List}
 use Prim.Native.Nat.{ℕ}
 use lib.ListN.{length}
@@ -14,8 +13,8 @@ use Rattle.protocol.specs.Tests.{verdict}
 use Rattle.protocol.specs.Reader as reader
 use Rattle.protocol.specs.Step as step
 use Rattle.protocol.specs.Call.{switchOf, switchAs, switchRefusal, refused, fitBuffers}
-use Rattle.protocol.specs.Records.{transferOf, readerOf, switchedOf}
-use Rattle.rules.specs.Settings.{withMark, withTransfer, withFilled}
+use Rattle.protocol.specs.Records.{transferOf, originOf, readerOf, switchedOf}
+use Rattle.rules.specs.Settings.{withSwitch}
 use Rattle.reader.specs.Calls.{switched}
 use Rattle.reader.proofs.call.line_switch.Statement.{statement}
 use Rattle.reader.proofs.call.line_switch.Tie as tie
@@ -31,13 +30,13 @@ module _ (s : Settings) (t i n b d : List ℕ) (r : Switched) where
     unfolding switchOf switchAs switchRefusal verdict fitBuffers refused
     second e g = rw (e, eq-eqb (length b) pageBytes f, ne-eqb (length d) pageBytes g)
 
-    wipes : (g : length d ≡ pageBytes) (u v : List ℕ) → u ≡ zeros (length b) → v ≡ zeros (length d) → (q w x : Settings) → r ≡ switched 0 x → x ≡ withTransfer 0 0 w
-        → w ≡ withFilled false false q → q ≡ withMark false s → switchedOf r t i n u v ≡ switchOf (readerOf s t i n b d)
-    unfolding switchOf switchAs switchRefusal verdict fitBuffers step.switched step.wiped reader.emptied reader.withMark reader.withTransfer transferOf
-    wipes g u v a c q w x e h k l = rw (e, h, k, l, a, c, f, g)
+    wipes : (g : length d ≡ pageBytes) (u v : List ℕ) → u ≡ zeros (length b) → v ≡ zeros (length d) → (x : Settings) → r ≡ switched 0 x → x ≡ withSwitch s
+        → switchedOf r t i n u v ≡ switchOf (readerOf s t i n b d)
+    unfolding switchOf switchAs switchRefusal verdict fitBuffers step.switched step.wiped reader.emptied reader.withMark reader.withTransfer transferOf originOf
+    wipes g u v a c x e h = rw (e, h, a, c, f, g)
 
 -- places that are far back from the last return
-unfoldable zeroed : tie.After-marked → tie.After-zero2
+unfoldable zeroed : tie.After-switched → tie.After-zero2
 zeroed c = search
 
 unfoldable first-zeroed : tie.After-zero2 → tie.After-zero
@@ -67,14 +66,8 @@ zero-requires c κs = search needs
 zero-requires-2 : tie.Need-zero-requires-2
 zero-requires-2 c κs = search needs
 
-marked-requires : tie.Need-marked-requires
-marked-requires c κs = search needs
-
-filled-requires : tie.Need-filled-requires
-filled-requires c κs = search needs
-
-moved-requires : tie.Need-moved-requires
-moved-requires c κs = search needs
+switched-requires : tie.Need-switched-requires
+switched-requires c κs = search needs
 
 switched-of-requires-3 : tie.Need-switched-of-requires-3
 switched-of-requires-3 c κs = search needs
@@ -92,11 +85,9 @@ returns-3 c =
     let g = (let p : tie.Else2 = search (zeroed, passed-both) in p .if2 .left) in
     let a = (let p : tie.After-zero = search (zeroed, first-zeroed) in p .zero .ensures) in
     let d = (let p : tie.After-zero2 = search zeroed in p .zero2 .ensures) in
-    let l = (let p : tie.After-marked = search in p .marked .ensures) in
-    let k = (let p : tie.After-filled = search in p .filled .ensures) in
-    let h = (let p : tie.After-moved = search in p .moved .ensures) in
+    let h = (let p : tie.After-switched = search in p .switched .ensures) in
     let e = (let p : tie.After-switched-of3 = search in p .switched-of3 .ensures) in
-    λ t i n. wipes _ t i n _ _ _ f g _ _ a d _ _ _ e h k l
+    λ t i n. wipes _ t i n _ _ _ f g _ _ a d _ e h
 
 pub line-switch-spec : {M : Type 1} → statement M
 line-switch-spec =
@@ -108,9 +99,7 @@ line-switch-spec =
     returns-2
     zero-requires
     zero-requires-2
-    marked-requires
-    filled-requires
-    moved-requires
+    switched-requires
     switched-of-requires-3
     same-length
     same-length-2

@@ -1,6 +1,6 @@
 -- The refusals stand in document 01's order; what passes them is a legal reader, which hears a whole packet or uses up bytes in silence.
 use mathlib.Core.Path.{_≡_, sym, _∙_}
-use mathlib.Core.Bool.{Bool, true, false, not, _&&_}
+use mathlib.Core.Bool.{Bool, true, false, not}
 use mathlib.Core.List.{List, [], _∷_}
 use Prim.Native.Nat.{ℕ, _+_, _/_, _%_, _<_, _≤_}
 use lib.ListN.{length}
@@ -13,18 +13,17 @@ use Rattle.protocol.specs.declared.Called.{Called}
 use Rattle.protocol.specs.declared.Found.{Found}
 use Rattle.protocol.specs.declared.Found.the-variants.{Whole}
 use Rattle.protocol.proofs.Found.{the-type}
-use Rattle.protocol.specs.Numbers.{pageBytes, replyRoom, headBytes}
-use Rattle.protocol.specs.Index.{clearFrom}
+use Rattle.protocol.specs.Numbers.{pageBytes, mostPages, replyRoom, headBytes}
 use Rattle.protocol.specs.Finder.{findOf, usedOf}
 use Rattle.protocol.specs.Step.{hearAt, answer}
 use Rattle.protocol.specs.Call.{core, fitLengths, sound, refused, Ended, callOf}
 use Rattle.protocol.specs.Records.{readerOf, lentOf, endedOf}
 use Rattle.protocol.proofs.Laws.Logic.{not-true, not-false}
 use Rattle.reader.specs.Commands.{Fit}
-use Rattle.rules.specs.Settings.{legalOf, Legal}
+use Rattle.rules.specs.Settings.{soundOf, Legal}
 use Rattle.rules.proofs.Transfers.{sound-legal}
 use Rattle.reader.specs.Calls.{Lies, called, lengthsFit, carriedOf}
-use Rattle.reader.proofs.Calls.{unheard, step-silent, step-whole, whole-lies, lengths-are, fit-says, legal-passed, call-bad-length, call-bad-room, call-bad-setting, call-goes}
+use Rattle.reader.proofs.Calls.{unheard, step-silent, step-whole, whole-lies, lengths-are, few-pages, fit-says, legal-passed, call-bad-length, call-bad-room, call-bad-setting, call-goes}
 use Rattle.reader.proofs.call.step.Statement.{statement}
 use Rattle.reader.proofs.call.step.Tie as tie
 
@@ -42,7 +41,7 @@ module _ (s : Settings) (t i m b d : List ℕ) (fit : Bool) (l : fit ≡ lengths
     unfolding refused
     bad-room e f h = rw e (call-bad-room (readerOf s t i m b d) x y (are true (not-false fit f)) h)
 
-  module _ (f : not fit ≡ false) (legal : Bool) (k : legal ≡ (legalOf s && clearFrom i (length t / pageBytes))) where
+  module _ (f : not fit ≡ false) (legal : Bool) (k : legal ≡ soundOf (length t / pageBytes) i s) where
     legal-is : legal ≡ sound (readerOf s t i m b d)
     legal-is = k ∙ sym (sound-legal s t i m b d)
 
@@ -68,7 +67,10 @@ module _ (s : Settings) (t i m b d : List ℕ) (fit : Bool) (l : fit ≡ lengths
   fits : not fit ≡ false → Legal s → Fit s t i m b d
   fits f = fit-says s t i m b d (sym l ∙ not-false fit f)
 
-moves : (s : Settings) (i : List ℕ) (n : ℕ) (legal : Bool) → legal ≡ (legalOf s && clearFrom i n) → not legal ≡ false → Legal s
+few : (t i n b c : ℕ) (fit : Bool) → fit ≡ lengthsFit t i n b c → not fit ≡ false → t / pageBytes ≤ mostPages
+few t i n b c fit l f = few-pages t i n b c (sym l ∙ not-false fit f)
+
+moves : (s : Settings) (i : List ℕ) (n : ℕ) (legal : Bool) → legal ≡ soundOf n i s → not legal ≡ false → Legal s
 moves s i n legal k g = legal-passed s i n (sym k ∙ not-false legal g)
 
 module _ (x : List ℕ) (o : Found) (at len : ℕ) (w : o ≡ findOf x) (n : o ≡ Whole at len) where
@@ -113,7 +115,10 @@ returns-2 c =
     bad-room _ _ _ _ _ _ _ l _ _ _ e f h
 
 is-sound-requires : tie.Need-is-sound-requires
-is-sound-requires c κs = search needs
+is-sound-requires c κs =
+    let l = (let p : tie.After-is-fit = search in p .is-fit .ensures) in
+    let f = (let p : tie.Else1 = search in p .if1 .left) in
+    few _ _ _ _ _ _ l f
 
 called-of-requires-3 : tie.Need-called-of-requires-3
 called-of-requires-3 c κs = search needs

@@ -20,7 +20,7 @@ use Rattle.protocol.specs.Records.{plainOf, readerOf}
 use Rattle.protocol.proofs.Laws.Logic.{not-true}
 use Rattle.reader.specs.declared.answers.Answer.{Answer}
 use Rattle.reader.specs.Answers.{sent, saidOf, codeAlone}
-use Rattle.reader.specs.Commands.{obeyed, Obeyed, ObeyedPages, ObeyedIndex, ObeyedNotepad, ObeyedBuffers, ObeyedLibrary, ObeyedCopy, Freed}
+use Rattle.reader.specs.Commands.{obeyed, Obeyed, ObeyedPages, ObeyedIndex, ObeyedNotepad, ObeyedBuffers, ObeyedCopy, Freed}
 use Rattle.rules.specs.Commands.{lenOf, readOf, isFree}
 use Rattle.rules.proofs.Gates.{last-row}
 use Rattle.reader.proofs.Ready.{ready-alone}
@@ -62,9 +62,6 @@ module _ (s : Settings) (t i n b c x : List ℕ) (k j : ℕ) (e : k ≡ j) where
 
       buffers-row : (b′ c′ : List ℕ) → ObeyedBuffers a s d b c b′ c′ → saidOf a t i n b′ c′ ≡ obey (readerOf s t i n b c) (readOf (rowOf commands k) x)
       buffers-row b′ c′ h = h .said t i n ∙ row
-
-      library-row : (t′ i′ : List ℕ) → ObeyedLibrary a s d t i t′ i′ → saidOf a t′ i′ n b c ≡ obey (readerOf s t i n b c) (readOf (rowOf commands k) x)
-      library-row t′ i′ h = h .said n b c ∙ row
 
       copy-row : (t′ i′ b′ c′ : List ℕ) → ObeyedCopy a s d t i b c t′ i′ b′ c′ → saidOf a t′ i′ n b′ c′ ≡ obey (readerOf s t i n b c) (readOf (rowOf commands k) x)
       copy-row t′ i′ b′ c′ h = h .said n ∙ row
@@ -244,19 +241,41 @@ same-length-11 c = search needs
 same-length-12 : tie.Need-same-length-12
 same-length-12 c = search needs
 
-returns-5 : tie.Need-returns-5
-unfolding readOf rowOf commands isFree start
-returns-5 c = (search library-row, search)
-
 same-length-13 : tie.Need-same-length-13
 same-length-13 c = search needs
 
 same-length-14 : tie.Need-same-length-14
 same-length-14 c = search needs
 
+returns-5 : tie.Need-returns-5
+unfolding readOf rowOf commands isFree start
+returns-5 c =
+    let w = (let p : tie.After-word-at3 = search in p .word-at3 .ensures .0) in
+    let v = (let p : tie.After-word-at4 = search in p .word-at4 .ensures .0) in
+    let f = (let p : tie.After-delete-pages = search in rw (w, v) at (p .delete-pages .ensures)) in
+    let k = (let p : tie.At-match-keys5 = search in p .match .keys5) in
+    let o = (let s : tie.Start = search start in s .pre .admits .open′) in
+    (search copy-row, search)
+
+same-length-15 : tie.Need-same-length-15
+same-length-15 c = search needs
+
+same-length-16 : tie.Need-same-length-16
+same-length-16 c = search needs
+
+same-length-17 : tie.Need-same-length-17
+same-length-17 c = search needs
+
+same-length-18 : tie.Need-same-length-18
+same-length-18 c = search needs
+
 returns-6 : tie.Need-returns-6
 unfolding readOf rowOf commands isFree start
-returns-6 c = (search library-row, search)
+returns-6 c =
+    let f = (let p : tie.After-empty-all = search in p .empty-all .ensures) in
+    let k = (let p : tie.At-match-keys6 = search in p .match .keys6) in
+    let o = (let s : tie.Start = search start in s .pre .admits .open′) in
+    (search copy-row, search)
 
 returns-7 : tie.Need-returns-7
 unfolding readOf rowOf commands isFree start
@@ -278,29 +297,29 @@ returns-11 : tie.Need-returns-11
 unfolding readOf rowOf commands isFree start
 returns-11 c = (search settings-row, search)
 
-same-length-15 : tie.Need-same-length-15
-same-length-15 c = search needs
+same-length-19 : tie.Need-same-length-19
+same-length-19 c = search needs
 
 returns-12 : tie.Need-returns-12
 unfolding readOf rowOf commands isFree start
 returns-12 c = (search notepad-row, search)
 
-same-length-16 : tie.Need-same-length-16
-same-length-16 c = search needs
+same-length-20 : tie.Need-same-length-20
+same-length-20 c = search needs
 
 returns-13 : tie.Need-returns-13
 unfolding readOf rowOf commands isFree start
 returns-13 c = (search notepad-row, search)
 
-same-length-17 : tie.Need-same-length-17
-same-length-17 c = search needs
+same-length-21 : tie.Need-same-length-21
+same-length-21 c = search needs
 
 returns-14 : tie.Need-returns-14
 unfolding readOf rowOf commands isFree start
 returns-14 c = (search index-row, search)
 
-same-length-18 : tie.Need-same-length-18
-same-length-18 c = search needs
+same-length-22 : tie.Need-same-length-22
+same-length-22 c = search needs
 
 returns-15 : tie.Need-returns-15
 unfolding readOf rowOf commands isFree start
@@ -357,21 +376,25 @@ row-spec =
     returns-4
     same-length-11
     same-length-12
-    returns-5
     same-length-13
     same-length-14
+    returns-5
+    same-length-15
+    same-length-16
+    same-length-17
+    same-length-18
     returns-6
     returns-7
     returns-8
     returns-9
     returns-10
     returns-11
-    same-length-15
+    same-length-19
     returns-12
-    same-length-16
+    same-length-20
     returns-13
-    same-length-17
+    same-length-21
     returns-14
-    same-length-18
+    same-length-22
     returns-15
     returns-16)

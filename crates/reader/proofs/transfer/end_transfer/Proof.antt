@@ -1,15 +1,15 @@
--- No open transfer leaves all as it is; an open one leaves its buffer wiped, its mark clear, and no transfer.
+-- No open transfer leaves all as it is; an open one leaves its buffer wiped, its mark clear, its origin none, and no transfer.
 use mathlib.Core.Path.{_≡_, refl, sym, ap, _∙_}
 use mathlib.Core.Bool.{false}
 use mathlib.Core.List.{List}
 use Prim.Native.Nat.{ℕ, _≤_}
 use lib.ListN.{length}
 use Rattle.protocol.specs.declared.Settings.{Settings}
-use Rattle.protocol.specs.Numbers.{pageBytes}
+use Rattle.protocol.specs.Numbers.{pageBytes, noPage}
 use Rattle.protocol.specs.Bytes.{zeros}
 use Rattle.protocol.specs.Step.{ended}
 use Rattle.protocol.specs.Records.{transferOf, readerOf}
-use Rattle.reader.specs.Buffers.{buffers, changed, withFill}
+use Rattle.reader.specs.Buffers.{buffers, changed, withHeld}
 use Rattle.rules.specs.Settings.{withTransfer}
 use Rattle.reader.proofs.ByNumber.{wiped}
 use Rattle.rules.proofs.Transfers.{transfer-at}
@@ -21,7 +21,7 @@ use Rattle.reader.proofs.transfer.end_transfer.Tie as tie
 none-open : (s : Settings) (t i m b d : List ℕ) → s .transfer ≡ 0 → readerOf s t i m b d ≡ ended (readerOf s t i m b d) (transferOf (s .transfer) (s .got))
 none-open s t i m b d z = sym (ended-none _ _ _ z)
 
-module _ (s o q : Settings) (f : q ≡ withTransfer 0 0 o) (g : o ≡ withFill (s .transfer) false s) where
+module _ (s o q : Settings) (f : q ≡ withTransfer 0 0 o) (g : o ≡ withHeld (s .transfer) false noPage s) where
   given-up : (t i m b d x y : List ℕ) → buffers x y ≡ changed (s .transfer) (λ (z : List ℕ). zeros (length z)) b d → length b ≡ pageBytes → length d ≡ pageBytes
       → (s .transfer ≡ 0 → ⊥) → s .transfer ≤ 2 → readerOf q t i m x y ≡ ended (readerOf s t i m b d) (transferOf (s .transfer) (s .got))
   unfolding ended transferOf
@@ -41,8 +41,8 @@ returns c = (λ t i m. search none-open, refl)
 wipe-requires : tie.Need-wipe-requires
 wipe-requires c κs = search needs
 
-mark-requires : tie.Need-mark-requires
-mark-requires c κs = search needs
+hold-requires : tie.Need-hold-requires
+hold-requires c κs = search needs
 
 moved-requires : tie.Need-moved-requires
 moved-requires c κs = search needs
@@ -63,7 +63,7 @@ end-transfer-spec =
     (tie.spec
     returns
     wipe-requires
-    mark-requires
+    hold-requires
     moved-requires
     same-length
     same-length-2
