@@ -47,9 +47,11 @@
  *     as the last one left it, open and with its buffers. Drop also what is left of a piece and what the port has not handed
  *     over yet, which are the last host's bytes, and let no reply to it go on to the next. Do not call bystrodol_line_switch,
  *     which knows of no receiver: bytes of the last host would stay held, before those of the next.
- *   Your own writes. A firmware that fills a buffer itself sets its filled mark to 1 and its origin to BYSTRODOL_NO_PAGE; one that
- *     clears a mark makes the origin none, too. One that writes templates or index itself calls the line switch. An origin that is left
- *     behind makes every call be refused with 3, or what was put into the buffer be wiped with a page that it has nothing to do with.
+ *   Your own writes, between two calls. A buffer that you fill gets filled mark 1 and origin BYSTRODOL_NO_PAGE, or, if you copied a
+ *     stored page, that page, so that the copy goes with it. A buffer whose filled mark you clear gets no origin. If a transfer is open,
+ *     close it first: transfer and got 0, its buffer zeroed. After you have written templates or index, call bystrodol_receiver_switch,
+ *     as for another host. What is not done here shows later: every call is refused with 3, or a buffer is wiped with a page that it has
+ *     nothing to do with, or not wiped with its own.
  *   Saving. The table of commands below says what each one changes.
  *   Upgrade. Templates and notepad stay as they are.
  *     Versions 0.1 to 0.5 had an index of 32 bytes. Where such a one is stored, and not yet brought over, do that before all else of
@@ -58,8 +60,8 @@
  *     buffers no origin:
  *         memcpy(&line.settings, stored, BYSTRODOL_OLD_SETTINGS_BYTES);
  *         line.settings.origin1 = line.settings.origin2 = BYSTRODOL_NO_PAGE;
- *     This may be done at every power-on, since the line switch makes both none in any case. So a board may go on storing 20 bytes,
- *     and needs no mark for it; and an older version can read them. A struct of yours that was stored with settings inside has another
+ *     This may be done at every power-on, whether 20 or 24 bytes are stored, since the line switch makes both none in any case. So a
+ *     board may go on storing 20 bytes, and needs no mark for it; and an older version can read them. A struct of yours that was stored with settings inside has another
  *     layout today: what stood behind them, such as a sum, stands 4 bytes further. Of a stored struct bystrodol_line load the first 20
  *     bytes alone.
  */
@@ -125,12 +127,13 @@
  * A data packet changes a buffer and the settings, and only while a transfer is open.
  *
  * LoadChar and Store make a page a buffer's origin: the buffer holds that page's template. DeletChar and Empty also wipe every buffer
- * whose origin is among the pages deleted: its bytes are zeroed, its filled mark is 0, its origin none, and the next UpChar of it is
- * answered 0Dh. A buffer that came by DownChar and was not stored has no origin, and stays. Three things follow for hosts:
- *   - What was loaded from a page, or stored on it, cannot be stored there again: the DeletChar that makes room wipes the buffer, and
- *     Store is then answered 0Ch. To replace a page, download anew, before DeletChar or after it.
- *   - So where the reply to a Store was lost, and the next Store is answered 22h, do not delete and store: page and buffer would both be
- *     gone. Load the page into the other buffer, and compare.
+ * whose origin is among the pages deleted: its bytes are zeroed, its filled mark is 0, its origin none, and UpChar of it is answered 0Dh
+ * until it is filled anew. A buffer that came by DownChar and was not stored has no origin, and stays. Three things follow for hosts:
+ *   - A buffer cannot be stored again on the page that is its origin: the DeletChar that makes room wipes the buffer, and Store is then
+ *     answered 0Ch. To replace that page, download anew, before DeletChar or after it.
+ *   - So where the reply to a Store was lost, and the next Store is answered 22h, do not delete the page at once: if the first Store was
+ *     carried out, page and buffer would both be gone. Load the page into the other buffer, send UpChar, and compare. If the bytes are
+ *     the same, it was; if not, it was not, and DeletChar and Store replace the page.
  *   - A buffer has one origin, the last: loaded from page 3 and stored on page 5, it has 5. DeletChar of page 3 leaves it then.
  *
  * Over power-off nothing of a buffer, a mark, an origin or a transfer is worth keeping: the line switch clears them. So save templates
@@ -210,7 +213,7 @@ struct bystrodol_settings {
     uint16_t sensor;     /* sensor type, any number */
     uint16_t got;        /* bytes of the transfer received so far; 0 where there is none */
     uint8_t verified;    /* 1 once the right password was given */
-    uint8_t filled1;     /* 1 if character buffer 1 holds a template, received or put there by the firmware */
+    uint8_t filled1;     /* 1 if character buffer 1 holds a template: received, loaded, or put there by the firmware */
     uint8_t filled2;     /* the same of character buffer 2 */
     uint8_t spare;       /* any byte; no call changes it */
     uint16_t origin1;    /* origin of character buffer 1: the page that holds its template too, or BYSTRODOL_NO_PAGE */
@@ -285,7 +288,7 @@ uint8_t bystrodol_receiver_switch(struct bystrodol_line *line, uint8_t *buffer1,
  * one call is not enough for a piece: the loop above calls until there is nothing left to do.
  *
  *   line                          the reader's settings and its receiver; changed where they lie
- *   templates, templates_length   512 bytes for each page, 1 to 1000 pages; the length says how many
+ *   templates, templates_length   512 bytes for each page, 1 to 1000 pages; the length says how many, the capacity
  *   index, index_length           128 bytes; page p is the bit of weight 2^(p mod 8) in byte p / 8
  *   notepad, notepad_length       512 bytes
  *   buffer1, buffer1_length       512 bytes
