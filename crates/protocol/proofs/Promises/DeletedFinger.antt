@@ -1,5 +1,5 @@
 -- Document 02, request [7]: "We delete a leaver, and the next UpChar still sends his template, because it was loaded before." No more: a buffer whose origin
--- is among the pages deleted is zeroed, and the next UpChar of it answers 0Dh, the next Store 0Ch.
+-- is among the pages deleted is zeroed, and the next UpChar of it answers 0Dh, the next Store of it on that page 0Ch.
 use mathlib.Core.Bool.{true, false, true≢false}
 use mathlib.Core.Path.{_≡_, sym, ap, _∙_, subst}
 use mathlib.Core.List.{List, []}
