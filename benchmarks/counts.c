@@ -15,7 +15,7 @@ static const size_t piece_lengths[PIECES] = {1, 16, 60, BYSTRODOL_HELD_MOST};
 struct row {
     const char *name, *trouble;
     size_t bytes; /* of the run, where the counts are told by the byte; else 0 */
-    int is_bound[COLUMNS_MOST]; /* by request [4] or [6]: at most 1.1 times plain C */
+    int is_bound[COLUMNS_MOST]; /* by request [4], [6] or [8]: at most 1.1 times plain C */
     int may_grow;               /* with the pages; by request [6] no other row may */
     size_t carried;             /* calls that were not refused, in each column */
     size_t ours[COLUMNS_MOST], plain[COLUMNS_MOST];
@@ -30,7 +30,8 @@ static struct table calls, received, services;
 static struct row *row;
 static size_t column;
 
-/* A new row, for a reader of so many pages. Its password is given, its buffers are filled, its last page is stored. */
+/* A new row, for a reader of so many pages. Its password is given, its buffers are filled, its last page is stored, every score reaches
+ * its threshold. */
 static void begin(struct table *table, const char *name, size_t capacity) {
     if (table->length == ROWS_MOST) fail("a table has too many rows");
     row = &table->rows[table->length++];
@@ -40,6 +41,7 @@ static void begin(struct table *table, const char *name, size_t capacity) {
     /* What is drawn next is the same at every capacity. */
     restart_random();
     set_stored(&reader.memory, capacity - 1);
+    memset(reader.memory.thresholds, 0, sizeof reader.memory.thresholds);
     reader.line.settings.password[3] = 5;
     reader.line.settings.verified = reader.line.settings.filled1 = reader.line.settings.filled2 = 1;
     run_length = 0;
@@ -104,10 +106,43 @@ static void measure_command(int expected, const uint8_t *content, size_t n) {
     measure_call(expected);
 }
 
+static void store_all(void) {
+    for (size_t page = 0; page < pages; page++) set_stored(&reader.memory, page);
+}
+
+/* A new row of a Search of all pages. It grows with them, and request [8] bounds it. */
+static void begin_search(const char *name, size_t capacity) {
+    begin(&calls, name, capacity);
+    row->may_grow = row->is_bound[column] = 1;
+}
+
+/* Search is the first of the commands. A Search of one page may not grow. */
+static void search_rows(size_t capacity) {
+    const struct command all = command_of(0, capacity);
+    const uint8_t last[] = {0x04, 1, (uint8_t)((capacity - 1) >> 8), (uint8_t)(capacity - 1), 0, 1};
+    begin_search(all.name, capacity);
+    store_all();
+    measure_command(0x00, all.content, all.length);
+    begin_search("04h Search, half stored", capacity);
+    measure_command(0x00, all.content, all.length);
+    begin_search("04h Search, no match: 09h", capacity);
+    store_all();
+    memset(reader.memory.scores, 0, sizeof reader.memory.scores);
+    memset(reader.memory.thresholds, 0xFF, sizeof reader.memory.thresholds);
+    measure_command(0x09, all.content, all.length);
+    begin(&calls, "04h Search, none stored: 09h", capacity);
+    row->may_grow = 1;
+    for (size_t page = 0; page < pages; page++) clear_stored(&reader.memory, page);
+    measure_command(0x09, all.content, all.length);
+    begin(&calls, "04h Search, one page", capacity);
+    measure_command(0x00, last, sizeof last);
+}
+
 static void command_rows(size_t capacity) {
     const uint8_t delete_all[] = {0x0C, 0, 0, (uint8_t)(capacity >> 8), (uint8_t)capacity};
     const uint8_t delete_last[] = {0x0C, (uint8_t)((capacity - 1) >> 8), (uint8_t)(capacity - 1), 0, 1};
-    for (size_t i = 0; i < COMMANDS; i++) {
+    search_rows(capacity);
+    for (size_t i = 1; i < COMMANDS; i++) {
         const struct command command = command_of(i, capacity);
         begin(&calls, command.name, capacity);
         row->is_bound[column] = command.content[0] == 0x1D || (command.content[0] == 0x40 && capacity == 1);

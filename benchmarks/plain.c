@@ -10,15 +10,15 @@
 enum identifier { COMMAND = 1, DATA = 2, ACKNOWLEDGE = 7, LAST_DATA = 8 };
 
 enum command {
-    STORE = 0x06, LOAD_CHAR = 0x07, UP_CHAR = 0x08, DOWN_CHAR = 0x09, DELET_CHAR = 0x0C, EMPTY = 0x0D,
+    SEARCH = 0x04, STORE = 0x06, LOAD_CHAR = 0x07, UP_CHAR = 0x08, DOWN_CHAR = 0x09, DELET_CHAR = 0x0C, EMPTY = 0x0D,
     SET_SYS_PARA = 0x0E, READ_SYS_PARA = 0x0F, SET_PWD = 0x12, VFY_PWD = 0x13, SET_ADDER = 0x15, WRITE_NOTEPAD = 0x18,
     READ_NOTEPAD = 0x19, TEMPLETE_NUM = 0x1D, READ_INDEX_TABLE = 0x1F, HAND_SHAKE = 0x40
 };
 
 enum code {
-    DONE = 0x00, BAD_PACKET = 0x01, BAD_PAGE = 0x0B, NOT_THERE = 0x0C, NOT_FILLED = 0x0D, BAD_DATA = 0x0E,
-    NOT_DELETED = 0x10, WRONG_PASSWORD = 0x13, UNKNOWN_COMMAND = 0x19, BAD_PARAMETER = 0x1A, BAD_VALUE = 0x1B,
-    BAD_NOTEPAD_PAGE = 0x1C, PASSWORD_FIRST = 0x21, PAGE_STORED = 0x22
+    DONE = 0x00, BAD_PACKET = 0x01, NOT_FOUND = 0x09, BAD_PAGE = 0x0B, NOT_THERE = 0x0C, NOT_FILLED = 0x0D,
+    BAD_DATA = 0x0E, NOT_DELETED = 0x10, WRONG_PASSWORD = 0x13, UNKNOWN_COMMAND = 0x19, BAD_PARAMETER = 0x1A,
+    BAD_VALUE = 0x1B, BAD_NOTEPAD_PAGE = 0x1C, PASSWORD_FIRST = 0x21, PAGE_STORED = 0x22
 };
 
 /* Where the parts of a packet are. */
@@ -34,10 +34,14 @@ struct reader {
     uint8_t *notepad;
     uint8_t *buffer1;
     uint8_t *buffer2;
+    const uint16_t *scores;
+    const uint16_t *thresholds;
     uint8_t *reply;
 };
 
 /* ---- numbers, sums, packets */
+
+static size_t lesser(size_t a, size_t b) { return a < b ? a : b; }
 
 static unsigned get16(const uint8_t *at) { return (unsigned)at[0] << 8 | at[1]; }
 
@@ -169,7 +173,9 @@ static int is_baud(uint8_t baud) { return baud >= 1 && baud <= 12; }
 static int is_mark(uint8_t mark) { return mark <= 1; }
 
 static int is_legal(const struct bystrodol_settings *settings) {
-    if (!is_mark(settings->verified) || !is_mark(settings->filled1) || !is_mark(settings->filled2)) return 0;
+    if (!is_mark(settings->verified) || !is_mark(settings->filled1) || !is_mark(settings->filled2) ||
+        !is_mark(settings->found))
+        return 0;
     if (!is_level(settings->level) || !is_size(settings->size) || !is_baud(settings->baud)) return 0;
     if (settings->transfer == 0) return settings->got == 0;
     return settings->transfer <= 2 && settings->got < BYSTRODOL_PAGE_BYTES &&
@@ -274,7 +280,7 @@ static enum code set_parameter(struct bystrodol_settings *settings, uint8_t numb
 
 static void read_parameters(const struct reader *reader, uint8_t data[16]) {
     const struct bystrodol_settings *settings = reader->settings;
-    put16(data, settings->verified ? 4 : 0);
+    put16(data, (settings->verified ? 4 : 0) | (settings->found ? 2 : 0));
     put16(data + 2, settings->sensor);
     put16(data + 4, reader->pages);
     put16(data + 6, settings->level);
@@ -302,8 +308,8 @@ static enum code write_notepad(struct reader *reader, uint8_t page, const uint8_
 
 /* ---- replies: each gives its length */
 
-static size_t reply_data(struct reader *reader, const uint8_t *data, size_t n) {
-    uint8_t content[1 + DATA_MOST] = {DONE};
+static size_t reply_data(struct reader *reader, enum code code, const uint8_t *data, size_t n) {
+    uint8_t content[1 + DATA_MOST] = {(uint8_t)code};
     memcpy(content + 1, data, n);
     return put_packet(reader->reply, reader->settings->address, ACKNOWLEDGE, content, 1 + n);
 }
@@ -323,6 +329,26 @@ static size_t upload(struct reader *reader, uint8_t buffer) {
         length += put_packet(reader->reply + length, reader->settings->address, identifier, bytes + sent, size);
     }
     return length;
+}
+
+/* The highest score that reaches the threshold, of the stored pages in the range; the lowest page on a tie. */
+static size_t search(struct reader *reader, uint8_t buffer, size_t start, size_t count) {
+    struct bystrodol_settings *settings = reader->settings;
+    if (!is_buffer(buffer)) return reply_code(reader, BAD_PACKET);
+    if (start >= reader->pages) return reply_code(reader, BAD_PAGE);
+    if (!is_filled(settings, buffer)) return reply_code(reader, NOT_THERE);
+    const uint16_t *scores = reader->scores, threshold = reader->thresholds[settings->level - 1];
+    size_t end = lesser(start + count, reader->pages), best = end;
+    for (size_t page = start; page < end; page++)
+        if (is_stored(reader->index, page) && scores[page] >= threshold && (best == end || scores[page] > scores[best]))
+            best = page;
+    uint8_t data[4] = {0};
+    settings->found = best < end;
+    if (settings->found) {
+        put16(data, best);
+        put16(data + 2, scores[best]);
+    }
+    return reply_data(reader, settings->found ? DONE : NOT_FOUND, data, sizeof data);
 }
 
 /* ---- the call */
@@ -350,6 +376,8 @@ static size_t length_of(uint8_t command) {
     case VFY_PWD:
     case SET_ADDER:
         return 7;
+    case SEARCH:
+        return 8;
     case WRITE_NOTEPAD:
         return 36;
     default:
@@ -360,6 +388,8 @@ static size_t length_of(uint8_t command) {
 static size_t carry_out(struct reader *reader, uint8_t command, const uint8_t *parameters) {
     uint8_t data[16];
     switch (command) {
+    case SEARCH:
+        return search(reader, parameters[0], get16(parameters + 1), get16(parameters + 3));
     case STORE:
         return reply_code(reader, store(reader, parameters[0], get16(parameters + 1)));
     case LOAD_CHAR:
@@ -376,7 +406,7 @@ static size_t carry_out(struct reader *reader, uint8_t command, const uint8_t *p
         return reply_code(reader, set_parameter(reader->settings, parameters[0], parameters[1]));
     case READ_SYS_PARA:
         read_parameters(reader, data);
-        return reply_data(reader, data, 16);
+        return reply_data(reader, DONE, data, 16);
     case SET_PWD:
         return reply_code(reader, set_password(reader->settings, parameters));
     case VFY_PWD:
@@ -388,13 +418,13 @@ static size_t carry_out(struct reader *reader, uint8_t command, const uint8_t *p
         return reply_code(reader, write_notepad(reader, parameters[0], parameters + 1));
     case READ_NOTEPAD:
         if (parameters[0] >= NOTEPAD_PAGES) return reply_code(reader, BAD_NOTEPAD_PAGE);
-        return reply_data(reader, reader->notepad + NOTEPAD_PAGE_BYTES * parameters[0], NOTEPAD_PAGE_BYTES);
+        return reply_data(reader, DONE, reader->notepad + NOTEPAD_PAGE_BYTES * parameters[0], NOTEPAD_PAGE_BYTES);
     case TEMPLETE_NUM:
         put16(data, count_stored(reader->index));
-        return reply_data(reader, data, 2);
+        return reply_data(reader, DONE, data, 2);
     case READ_INDEX_TABLE:
         if (parameters[0] >= INDEX_PAGES) return reply_code(reader, BAD_PAGE);
-        return reply_data(reader, reader->index + INDEX_PAGE_BYTES * parameters[0], INDEX_PAGE_BYTES);
+        return reply_data(reader, DONE, reader->index + INDEX_PAGE_BYTES * parameters[0], INDEX_PAGE_BYTES);
     default: /* HAND_SHAKE */
         return reply_code(reader, DONE);
     }
@@ -460,19 +490,22 @@ static size_t take(struct reader *reader, const uint8_t *packet) {
 struct bystrodol_answer plain_step(struct bystrodol_settings *settings, uint8_t *templates, size_t templates_length,
                                    uint8_t *index, size_t index_length, uint8_t *notepad, size_t notepad_length,
                                    uint8_t *buffer1, size_t buffer1_length, uint8_t *buffer2, size_t buffer2_length,
-                                   const uint8_t *run, size_t run_length, uint8_t *reply, size_t reply_length) {
+                                   const uint16_t *scores, size_t scores_length, const uint16_t *thresholds,
+                                   size_t thresholds_length, const uint8_t *run, size_t run_length, uint8_t *reply,
+                                   size_t reply_length) {
     struct bystrodol_answer answer = {BYSTRODOL_ACCEPTED, 0, 0};
     size_t pages = templates_length / BYSTRODOL_PAGE_BYTES;
     if (templates_length % BYSTRODOL_PAGE_BYTES != 0 || pages < 1 || pages > BYSTRODOL_PAGES_MOST ||
         index_length != BYSTRODOL_INDEX_BYTES || notepad_length != BYSTRODOL_PAGE_BYTES ||
-        buffer1_length != BYSTRODOL_PAGE_BYTES || buffer2_length != BYSTRODOL_PAGE_BYTES)
+        buffer1_length != BYSTRODOL_PAGE_BYTES || buffer2_length != BYSTRODOL_PAGE_BYTES || scores_length != pages ||
+        thresholds_length != BYSTRODOL_THRESHOLDS)
         answer.refusal = BYSTRODOL_BAD_LENGTH;
     else if (reply_length < BYSTRODOL_REPLY_BYTES)
         answer.refusal = BYSTRODOL_BAD_ROOM;
     else if (!is_legal(settings) || !fits(index, pages) || !are_origins(settings, index, pages))
         answer.refusal = BYSTRODOL_BAD_SETTING;
     else {
-        struct reader reader = {settings, templates, pages, index, notepad, buffer1, buffer2, reply};
+        struct reader reader = {settings, templates, pages, index, notepad, buffer1, buffer2, scores, thresholds, reply};
         const uint8_t *packet;
         answer.used = find(run, run_length, &packet);
         if (packet != NULL) answer.length = take(&reader, packet);
@@ -491,6 +524,7 @@ uint8_t plain_line_switch(struct bystrodol_settings *settings, uint8_t *buffer1,
     settings->verified = 0;
     settings->filled1 = 0;
     settings->filled2 = 0;
+    settings->found = 0;
     settings->origin1 = BYSTRODOL_NO_PAGE;
     settings->origin2 = BYSTRODOL_NO_PAGE;
     close_transfer(settings);
@@ -501,8 +535,6 @@ uint8_t plain_line_switch(struct bystrodol_settings *settings, uint8_t *buffer1,
 
 /* ---- the receiver of request [1] */
 
-static size_t lesser(size_t a, size_t b) { return a < b ? a : b; }
-
 /*
  * The piece is put behind the held bytes, and the step gets both; a refused call puts the old cells back. Where the
  * count is bad the step gets no bytes, so that it changes nothing: it only has the refusals that come first.
@@ -510,8 +542,9 @@ static size_t lesser(size_t a, size_t b) { return a < b ? a : b; }
 struct bystrodol_received plain_receive(struct bystrodol_line *line, uint8_t *templates, size_t templates_length,
                                         uint8_t *index, size_t index_length, uint8_t *notepad, size_t notepad_length,
                                         uint8_t *buffer1, size_t buffer1_length, uint8_t *buffer2,
-                                        size_t buffer2_length, const uint8_t *piece, size_t piece_length,
-                                        uint8_t *reply, size_t reply_length) {
+                                        size_t buffer2_length, const uint16_t *scores, size_t scores_length,
+                                        const uint16_t *thresholds, size_t thresholds_length, const uint8_t *piece,
+                                        size_t piece_length, uint8_t *reply, size_t reply_length) {
     struct bystrodol_received received = {BYSTRODOL_ACCEPTED, 0, 0};
     uint8_t *held = line->receiver.held, cells[sizeof line->receiver.held];
     int is_bad = line->receiver.count > sizeof cells;
@@ -521,7 +554,8 @@ struct bystrodol_received plain_receive(struct bystrodol_line *line, uint8_t *te
     memcpy(held + count, piece, taken);
     struct bystrodol_answer answer =
         plain_step(&line->settings, templates, templates_length, index, index_length, notepad, notepad_length, buffer1,
-                   buffer1_length, buffer2, buffer2_length, held, count + taken, reply, reply_length);
+                   buffer1_length, buffer2, buffer2_length, scores, scores_length, thresholds, thresholds_length, held,
+                   count + taken, reply, reply_length);
     received.refusal = answer.refusal == BYSTRODOL_ACCEPTED && is_bad ? BYSTRODOL_BAD_SETTING : answer.refusal;
     if (received.refusal != BYSTRODOL_ACCEPTED) {
         memcpy(held + count, cells, taken);

@@ -71,6 +71,7 @@ void append_packet(enum identifier identifier, const uint8_t *content, size_t n)
 struct command command_of(size_t number, size_t capacity) {
     const uint8_t high = (uint8_t)((capacity - 1) >> 8), low = (uint8_t)(capacity - 1);
     const struct command commands[COMMANDS] = {
+        {"04h Search, all stored", 6, {0x04, 1, 0, 0, (uint8_t)(capacity >> 8), (uint8_t)capacity}},
         {"06h Store", 4, {0x06, 1, high, low}},
         {"07h LoadChar", 4, {0x07, 1, high, low}},
         {"08h UpChar", 2, {0x08, 1}},
@@ -94,7 +95,8 @@ struct command command_of(size_t number, size_t capacity) {
 /* The lent memory of the reader, as arguments. */
 #define LENT(part) reader.memory.part, sizeof reader.memory.part
 #define BUFFERS LENT(buffer1), LENT(buffer2)
-#define MEMORY reader.memory.templates, BYSTRODOL_PAGE_BYTES * pages, LENT(index), LENT(notepad), BUFFERS
+#define NUMBERS reader.memory.scores, pages, reader.memory.thresholds, BYSTRODOL_THRESHOLDS
+#define MEMORY reader.memory.templates, BYSTRODOL_PAGE_BYTES * pages, LENT(index), LENT(notepad), BUFFERS, NUMBERS
 
 struct bystrodol_answer call_stepped(__typeof__(bystrodol_step) *step) {
     return STEPPED(step, step(&reader.line.settings, MEMORY, run, run_length, reader.reply, reply_length));

@@ -8,6 +8,8 @@
 enum { REPLY_ROOM = BYSTRODOL_REPLY_BYTES + 68, RUN_MOST = 2048 };
 
 struct memory {
+    uint16_t scores[BYSTRODOL_PAGES_MOST];
+    uint16_t thresholds[BYSTRODOL_THRESHOLDS];
     uint8_t index[BYSTRODOL_INDEX_BYTES];
     uint8_t notepad[BYSTRODOL_PAGE_BYTES];
     uint8_t buffer1[BYSTRODOL_PAGE_BYTES];
@@ -58,14 +60,15 @@ void append(const uint8_t *bytes, size_t n);
 void append_noise(size_t n);
 void append_packet(enum identifier identifier, const uint8_t *content, size_t n);
 
-/* ---- the sixteen commands, with parameters for a reader that does them all, if its last page is stored or, for Store, vacant */
+/* ---- the seventeen commands, with parameters for a reader that does them all, if its last page is stored, with a score that reaches the
+ * threshold, or, for Store, vacant */
 
 struct command {
     const char *name;
     uint8_t length, content[36];
 };
 
-enum { COMMANDS = 16 };
+enum { COMMANDS = 17 };
 struct command command_of(size_t number, size_t capacity);
 
 /* ---- calls of the reader, ours or plain C's, that are stepped through */

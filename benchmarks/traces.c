@@ -15,7 +15,8 @@ enum { CAPACITIES = sizeof capacities / sizeof *capacities };
 
 static struct reader pair[2];
 
-enum { KINDS = 5 };
+/* What differs in a pair: everything; nothing and all that there can be; and each of the others alone. */
+enum kind { EVERYTHING, EXTREMES, FILLED_MARKS, INDEX, ORIGINS, FOUND_MARK, SCORES, THRESHOLDS, KINDS };
 
 static void set_marks(struct bystrodol_settings *settings, uint8_t marks) {
     settings->filled1 = marks & 1;
@@ -30,6 +31,7 @@ static void make_locked_settings(struct bystrodol_settings *settings) {
     settings->baud = (uint8_t)(1 + random_byte() % 12);
     settings->sensor = random_byte();
     set_marks(settings, random_byte());
+    settings->found = random_byte() & 1;
 }
 
 /* A filled buffer's origin is a page that is stored, if one is found, or none. */
@@ -47,42 +49,53 @@ static void set_origins(struct reader *reader, size_t capacity) {
     settings->origin2 = random_origin(&reader->memory, capacity, settings->filled2);
 }
 
-static void make_pair(size_t capacity, size_t number) {
+static void make_pair(size_t capacity, enum kind kind, size_t number) {
+    struct bystrodol_settings *first = &pair[0].line.settings, *second = &pair[1].line.settings;
     make_reader(capacity);
     make_locked_settings(&reader.line.settings);
     copy_reader(&pair[0], &reader);
     copy_reader(&pair[1], &reader);
-    switch (number % KINDS) {
-    case 0: /* everything differs */
+    switch (kind) {
+    case EVERYTHING:
         fill_memory(&pair[1].memory);
-        set_marks(&pair[1].line.settings, random_byte());
+        set_marks(second, random_byte());
+        second->found = !first->found;
         break;
-    case 1: /* nothing, and all that there can be */
+    case EXTREMES:
         memset(&pair[0].memory, 0x00, sizeof pair[0].memory);
         memset(&pair[1].memory, 0xFF, sizeof pair[1].memory);
-        set_marks(&pair[0].line.settings, 0);
-        set_marks(&pair[1].line.settings, 3);
+        set_marks(first, 0), first->found = 0;
+        set_marks(second, 3), second->found = 1;
         break;
-    case 2: /* the filled marks alone */
-        set_marks(&pair[0].line.settings, 0);
-        set_marks(&pair[1].line.settings, (uint8_t)(1 + random_byte() % 3));
+    case FILLED_MARKS:
+        set_marks(first, 0);
+        set_marks(second, (uint8_t)(1 + random_byte() % 3));
         break;
-    case 3: /* one page of the index alone */
+    case INDEX: /* one page of it */
         clear_stored(&pair[0].memory, number % capacity);
         set_stored(&pair[1].memory, number % capacity);
         break;
-    default: /* the origins alone: none, and a page for each buffer */
+    case ORIGINS: /* none, and a page for each buffer */
         for (int i = 0; i < 2; i++) {
             set_stored(&pair[i].memory, 0);
             set_stored(&pair[i].memory, number % capacity);
             set_marks(&pair[i].line.settings, 3);
         }
+        break;
+    case FOUND_MARK:
+        second->found = !first->found;
+        break;
+    case SCORES:
+        fill_random(pair[1].memory.scores, sizeof pair[1].memory.scores);
+        break;
+    default: /* THRESHOLDS */
+        fill_random(pair[1].memory.thresholds, sizeof pair[1].memory.thresholds);
     }
     make_index_legal(&pair[0].memory);
     make_index_legal(&pair[1].memory);
-    if (number % KINDS == 4)
-        pair[1].line.settings.origin1 = 0, pair[1].line.settings.origin2 = (uint16_t)(number % capacity);
-    else if (number % KINDS != 3)
+    if (kind == ORIGINS)
+        second->origin1 = 0, second->origin2 = (uint16_t)(number % capacity);
+    else if (kind == EVERYTHING || kind == EXTREMES || kind == FILLED_MARKS)
         set_origins(&pair[0], capacity), set_origins(&pair[1], capacity);
 }
 
@@ -307,14 +320,15 @@ static void put_difference(const char *name, size_t capacity, size_t number, enu
 }
 
 /*
- * Compares so many pairs, and tells whether all is as it must be. The pairs of a round get the same calls. Kinds and
- * capacities have no common divisor, so that KINDS * CAPACITIES pairs in a row are of each kind at each capacity.
+ * Compares so many pairs, and tells whether all is as it must be. The pairs of a round get the same calls. KINDS pairs in
+ * a row are of each kind, and KINDS * CAPACITIES of each kind at each capacity.
  */
 static int compare_pairs(const char *name, size_t pairs, size_t round) {
     size_t differ = 0, unlocked_differ = 0;
     for (size_t i = 0; i < pairs; i++) {
-        size_t capacity = capacities[i % CAPACITIES];
-        make_pair(capacity, i);
+        enum kind kind = (enum kind)(i % KINDS);
+        size_t capacity = capacities[(i / KINDS + kind) % CAPACITIES];
+        make_pair(capacity, kind, i);
         enum call call = first_difference(i / round);
         if (call == NO_CALL)
             unlocked_differ += (size_t)unlocked_paths_differ();

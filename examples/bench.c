@@ -21,6 +21,11 @@ static uint8_t notepad[BYSTRODOL_PAGE_BYTES];
 static uint8_t buffer1[BYSTRODOL_PAGE_BYTES];
 static uint8_t buffer2[BYSTRODOL_PAGE_BYTES];
 
+/* No sensor chip is here. With scores and thresholds of 0 a Search finds the lowest stored page of its range, and identifies
+ * nobody. */
+static const uint16_t scores[PAGES];
+static const uint16_t thresholds[BYSTRODOL_THRESHOLDS];
+
 /* The settings and the receiver, which holds nothing at the start. */
 static struct bystrodol_line line;
 
@@ -44,7 +49,8 @@ static int take_piece(const uint8_t *piece, size_t length) {
     do {
         held = line.receiver.count;
         r = bystrodol_receive(&line, templates, sizeof templates, stored, sizeof stored, notepad, sizeof notepad, buffer1,
-                              sizeof buffer1, buffer2, sizeof buffer2, piece, length, reply, sizeof reply);
+                              sizeof buffer1, buffer2, sizeof buffer2, scores, PAGES, thresholds, BYSTRODOL_THRESHOLDS,
+                              piece, length, reply, sizeof reply);
         if (!send_all(reply, r.length)) {
             perror("write");
             return 0;

@@ -14,13 +14,16 @@
  * (crates/board/src, crates/step/src). What no proof can see is the caller's part:
  *   - A piece, a run, a content, a room or a lent memory is two arguments, a pointer and a length in bytes. The pointer leads
  *     to that many bytes, all of which the caller may read; where it is not const, also write. They need no alignment.
+ *   - Scores and thresholds are the same, save that their length counts 16-bit numbers, in the machine's byte order, and that their
+ *     pointer is aligned, as that to an array of uint16_t is.
  *   - Where the length is 0 nothing is read or written, and the pointer may be NULL. No other pointer may be NULL.
  *   - The pointer to the settings, or to the line, leads to a whole, aligned struct. Any bytes may lie in it.
  *   - No two arguments of a call share a byte, but two that are both const.
  *   - No other thread or interrupt handler changes the bytes during the call, nor reads those that are not const. Settings and
  *     line may be written with what they have, even when the call is refused.
  *
- * How a firmware uses it. The reader is a struct bystrodol_line, its settings and its receiver, and the memory that is lent.
+ * How a firmware uses it. The reader is a struct bystrodol_line, its settings and its receiver, and the memory that is lent. With
+ * the memory go the sensor chip's scores, which Search goes by.
  *   Power-on. Load settings and memory from where they are kept, or start with bystrodol_fresh and zeroed memory. The receiver
  *     starts as zeros: so it holds nothing. Then, first of all, bystrodol_receiver_switch: what was stored may say that a
  *     password was given. It takes any bytes. Then one bystrodol_receive with a piece of 0 bytes: it changes nothing, and its
@@ -29,7 +32,8 @@
  *     them at once: so such a memory always has its settings, and a later version's fresh settings never take their place.
  *   A loop. Read what the port has, a piece of any length, and offer it until a call takes nothing and leaves the held count:
  *     then, if it was not refused, all is taken, nothing was answered, and there is nothing left to do. How the bytes were cut
- *     makes no difference. MEMORY stands for the arguments from templates to buffer2_length; piece is not NULL here.
+ *     makes no difference, if scores and thresholds are the same at every call. MEMORY stands for the arguments from templates to
+ *     thresholds_length; piece is not NULL here.
  *         do {
  *             held = line.receiver.count;
  *             r = bystrodol_receive(&line, MEMORY, piece, length, reply, sizeof reply);
@@ -38,6 +42,13 @@
  *     At each call send r.length bytes of the reply room, and no more: behind them lie bytes of earlier replies, templates
  *     among them. The next call writes over them, so send ends only when they have left or are copied. A refused call ends
  *     the loop, too. If r.refusal is not 0, stop: the same call will be refused again.
+ *   Scores. The sensor chip gives a score for each page, stored or not, and a threshold for each security level. They are lent at every
+ *     call, whatever its packet, and may be new each time; no call writes them. A Search sees those of the call that deals with it. The
+ *     core cannot tell what the chip compared, nor when: scores of the other buffer, or of pages as they were, are answered as if they
+ *     were right. So make them anew when a buffer or a page has changed, before the next call.
+ *     A board without a chip that wants Search to find nothing lends scores of 0 and thresholds of 65535. If it lends zeros for both,
+ *     every stored page matches with score 0, and a Search finds the lowest stored page of its range: then 00h of Search identifies
+ *     nobody, and neither board nor host may take it for that.
  *   Silence. An unfinished packet stays held, and the rest of it is awaited: up to 266 bytes that come next are taken for it,
  *     commands among them. The core knows no time. After a pause of your own choosing, longer than a host ever makes inside a
  *     packet, go on with an empty receiver: memset(&line.receiver, 0, sizeof line.receiver). Nothing is called for that, and
@@ -64,6 +75,10 @@
  *     board may go on storing 20 bytes, and needs no mark for it; and an older version can read them. A struct of yours that was stored with settings inside has another
  *     layout today: what stood behind them, such as a sum, stands 4 bytes further. Of a stored struct bystrodol_line load the first 20
  *     bytes alone.
+ *     Versions 0.1 to 0.7 had no Search: today's bystrodol_receive and bystrodol_step take four arguments more, scores and thresholds
+ *     behind buffer 2. The found mark stands where those versions had spare, a byte that the board could use. It is 0 unless the board
+ *     wrote to it, and the line switch at power-on makes it 0 in any case. So settings that were stored are loaded as they are; but a
+ *     board that used the byte needs another place for what it kept there. An older version takes the found mark for its spare byte.
  */
 #ifndef BYSTRODOL_H
 #define BYSTRODOL_H
@@ -74,9 +89,9 @@
 /* The version of this header and of the archives. Another major number, or, while that is 0, another minor one, may need a
  * change of the caller. */
 #define BYSTRODOL_VERSION_MAJOR 0
-#define BYSTRODOL_VERSION_MINOR 7
+#define BYSTRODOL_VERSION_MINOR 8
 #define BYSTRODOL_VERSION_PATCH 0
-#define BYSTRODOL_VERSION "0.7.0"
+#define BYSTRODOL_VERSION "0.8.0"
 
 /* ---- lengths, in bytes */
 
@@ -90,6 +105,9 @@
 
 /* The settings that version 0.6 or an older one stored. */
 #define BYSTRODOL_OLD_SETTINGS_BYTES 20u
+
+/* The thresholds, in 16-bit numbers: one for each security level. There are as many scores as pages. */
+#define BYSTRODOL_THRESHOLDS 5u
 
 /* The least reply room. No reply is longer. */
 #define BYSTRODOL_REPLY_BYTES 700u
@@ -123,8 +141,8 @@
  * ---- commands, the first byte of the content; behind it the parameters, a page or a count as two bytes
  *
  * What a command changes where it is answered 00h. With any other code it changes nothing, but that a wrong password clears the
- * verified mark. A command, whatever it is answered, also ends an open transfer: settings, and its buffer is zeroed.
- * A data packet changes a buffer and the settings, and only while a transfer is open.
+ * verified mark, and 09h of Search the found mark. A command, whatever it is answered, also ends an open transfer: settings, and its
+ * buffer is zeroed. A data packet changes a buffer and the settings, and only while a transfer is open.
  *
  * LoadChar and Store make a page a buffer's origin: the buffer holds that page's template. DeletChar and Empty also wipe every buffer
  * whose origin is among the pages deleted: its bytes are zeroed, its filled mark is 0, its origin none, and UpChar of it is answered 0Dh
@@ -136,6 +154,12 @@
  *     the same, it was; if not, it was not, and DeletChar and Store replace the page.
  *   - A buffer has one origin, the last: loaded from page 3 and stored on page 5, it has 5. DeletChar of page 3 leaves it then.
  *
+ * Search looks at the stored pages from start to before start + count, as far as there are pages, whose score is at or above the
+ * threshold of the level in force. It finds the highest score, and of equal ones the lowest page: 00h, page, score, these two bytes each.
+ * If there is none, as with a count of 0, it is 09h and both are 0: the only code beside 00h with bytes behind it. 00h of Search sets the
+ * found mark, 09h clears it; Search's other codes and every other command keep it, and the line switch clears it. Of the buffer that is
+ * named only the filled mark is looked at: the board sees to it that the scores are that buffer's.
+ *
  * Over power-off nothing of a buffer, a mark, an origin or a transfer is worth keeping: the line switch clears them. So save templates
  * and index after Store, DeletChar and Empty, settings after SetSysPara, SetPwd and SetAdder, and the notepad after
  * WriteNotepad; or compare them with what was saved. After Store save the template before the index, and after DeletChar and Empty
@@ -145,6 +169,7 @@
  * byte 9 of the reply room. A receiver's run is what it held before the call, and behind that what the call took; the call drops
  * it, so look before, or compare what is stored.
  */
+#define BYSTRODOL_COMMAND_SEARCH 0x04u           /* buffer, start (a page), count: settings (found mark) */
 #define BYSTRODOL_COMMAND_STORE 0x06u            /* buffer, page that is not stored: templates and index; settings (its origin) */
 #define BYSTRODOL_COMMAND_LOAD_CHAR 0x07u        /* buffer, page: that buffer; settings (its filled mark and origin) */
 #define BYSTRODOL_COMMAND_UP_CHAR 0x08u          /* buffer: nothing */
@@ -162,6 +187,10 @@
 #define BYSTRODOL_COMMAND_READ_INDEX_TABLE 0x1Fu /* index page n, one byte, 0 to 3, pages 256 n to 256 n + 255: nothing */
 #define BYSTRODOL_COMMAND_HAND_SHAKE 0x40u       /* nothing */
 
+/* The bits of the status word, which is the first number that ReadSysPara tells: found mark and verified mark. The others are 0. */
+#define BYSTRODOL_STATUS_FOUND 2u
+#define BYSTRODOL_STATUS_VERIFIED 4u
+
 /* The parameters of SetSysPara. */
 #define BYSTRODOL_PARAMETER_BAUD 4u
 #define BYSTRODOL_PARAMETER_LEVEL 5u
@@ -171,6 +200,7 @@
 
 #define BYSTRODOL_CODE_DONE 0x00u
 #define BYSTRODOL_CODE_BAD_PACKET 0x01u      /* a wrong sum, a length that is not the command's, or a buffer that is not 1 or 2 */
+#define BYSTRODOL_CODE_NOT_FOUND 0x09u       /* Search: no stored page in the range has a score that reaches the threshold */
 #define BYSTRODOL_CODE_BAD_PAGE 0x0Bu        /* no such page, or no such index page */
 #define BYSTRODOL_CODE_NOTHING_THERE 0x0Cu   /* a buffer that is not filled, or a page that is not stored */
 #define BYSTRODOL_CODE_NOTHING_TO_SEND 0x0Du /* UpChar of a buffer that is not filled */
@@ -215,7 +245,7 @@ struct bystrodol_settings {
     uint8_t verified;    /* 1 once the right password was given */
     uint8_t filled1;     /* 1 if character buffer 1 holds a template: received, loaded, or put there by the firmware */
     uint8_t filled2;     /* the same of character buffer 2 */
-    uint8_t spare;       /* any byte; no call changes it */
+    uint8_t found;       /* 1 after a Search that found a page, 0 after one that did not (09h) and after the line switch */
     uint16_t origin1;    /* origin of character buffer 1: the page that holds its template too, or BYSTRODOL_NO_PAGE */
     uint16_t origin2;    /* the same of character buffer 2 */
 };
@@ -265,7 +295,7 @@ extern "C" {
 
 /*
  * Fresh settings: password 0, address FFFFFFFFh, level 3, size code 2, baud factor 6, sensor type 0, marks clear, no
- * transfer, no origins, spare 0. With zeroed memory they are a fresh reader.
+ * transfer, no origins. With zeroed memory they are a fresh reader.
  *
  * So a fresh reader takes and sends data packets of 128 bytes. A host that sends 64 sets size code 1 first (SetSysPara, parameter
  * 6), and one that sends 256 code 3; otherwise its first data packet is answered 0Eh. Settings that were stored keep their own
@@ -275,9 +305,9 @@ extern "C" {
 struct bystrodol_settings bystrodol_fresh(void);
 
 /*
- * The line switch: verified mark and filled marks 0, no origins, transfer closed, both buffers and the bytes that are held zeroed,
- * count 0. It takes any line, whatever bytes it has. Returns 0, or BYSTRODOL_BAD_LENGTH if a buffer is not 512 bytes long; then nothing
- * changes.
+ * The line switch: verified mark, filled marks and found mark 0, no origins, transfer closed, both buffers and the bytes that are held
+ * zeroed, count 0. It takes any line, whatever bytes it has. Returns 0, or BYSTRODOL_BAD_LENGTH if a buffer is not 512 bytes long; then
+ * nothing changes.
  */
 uint8_t bystrodol_receiver_switch(struct bystrodol_line *line, uint8_t *buffer1, size_t buffer1_length,
                                   uint8_t *buffer2, size_t buffer2_length);
@@ -287,26 +317,30 @@ uint8_t bystrodol_receiver_switch(struct bystrodol_line *line, uint8_t *buffer1,
  * of them, carries it out, and writes the reply; and drops the bytes that are dealt with. It deals with at most one packet, so
  * one call is not enough for a piece: the loop above calls until there is nothing left to do.
  *
- *   line                          the reader's settings and its receiver; changed where they lie
- *   templates, templates_length   512 bytes for each page, 1 to 1000 pages; the length says how many, the capacity
- *   index, index_length           128 bytes; page p is the bit of weight 2^(p mod 8) in byte p / 8
- *   notepad, notepad_length       512 bytes
- *   buffer1, buffer1_length       512 bytes
- *   buffer2, buffer2_length       512 bytes
- *   piece, piece_length           the bytes that came and are not taken yet, any number of them
- *   reply, reply_length           at least 700 bytes; past the reply they keep what they have
+ *   line                           the reader's settings and its receiver; changed where they lie
+ *   templates, templates_length    512 bytes for each page, 1 to 1000 pages; the length says how many, the capacity
+ *   index, index_length            128 bytes; page p is the bit of weight 2^(p mod 8) in byte p / 8
+ *   notepad, notepad_length        512 bytes
+ *   buffer1, buffer1_length        512 bytes
+ *   buffer2, buffer2_length        512 bytes
+ *   scores, scores_length          16-bit numbers, one for each page: as many as the capacity
+ *   thresholds, thresholds_length  five 16-bit numbers; the n-th is level n's
+ *   piece, piece_length            the bytes that came and are not taken yet, any number of them
+ *   reply, reply_length            at least 700 bytes; past the reply they keep what they have
  */
 struct bystrodol_received bystrodol_receive(struct bystrodol_line *line, uint8_t *templates, size_t templates_length,
                                             uint8_t *index, size_t index_length, uint8_t *notepad,
                                             size_t notepad_length, uint8_t *buffer1, size_t buffer1_length,
-                                            uint8_t *buffer2, size_t buffer2_length, const uint8_t *piece,
-                                            size_t piece_length, uint8_t *reply, size_t reply_length);
+                                            uint8_t *buffer2, size_t buffer2_length, const uint16_t *scores,
+                                            size_t scores_length, const uint16_t *thresholds, size_t thresholds_length,
+                                            const uint8_t *piece, size_t piece_length, uint8_t *reply,
+                                            size_t reply_length);
 
 /* ---- the same without a receiver, for a caller that holds the bytes itself; these two are in libstep.a */
 
 /*
- * The line switch: verified mark and filled marks 0, no origins, transfer closed, both buffers zeroed. It takes any settings, whatever
- * bytes they are. Returns 0, or BYSTRODOL_BAD_LENGTH if a buffer is not 512 bytes long; then nothing changes. The caller
+ * The line switch: verified mark, filled marks and found mark 0, no origins, transfer closed, both buffers zeroed. It takes any settings,
+ * whatever bytes they are. Returns 0, or BYSTRODOL_BAD_LENGTH if a buffer is not 512 bytes long; then nothing changes. The caller
  * drops the bytes that it holds.
  */
 uint8_t bystrodol_line_switch(struct bystrodol_settings *settings, uint8_t *buffer1, size_t buffer1_length,
@@ -318,15 +352,16 @@ uint8_t bystrodol_line_switch(struct bystrodol_settings *settings, uint8_t *buff
  * at most 266 bytes: a caller that can hold 267 never stands still. The caller sends the reply, drops used bytes from the front,
  * and while used is not 0 calls again with what is left.
  *
- *   settings                      the reader's; changed where they lie
- *   run, run_length               the bytes received and not yet dropped
- *   the others                    as for bystrodol_receive
+ *   settings                       the reader's; changed where they lie
+ *   run, run_length                the bytes received and not yet dropped
+ *   the others                     as for bystrodol_receive
  */
 struct bystrodol_answer bystrodol_step(struct bystrodol_settings *settings, uint8_t *templates, size_t templates_length,
                                        uint8_t *index, size_t index_length, uint8_t *notepad, size_t notepad_length,
                                        uint8_t *buffer1, size_t buffer1_length, uint8_t *buffer2,
-                                       size_t buffer2_length, const uint8_t *run, size_t run_length, uint8_t *reply,
-                                       size_t reply_length);
+                                       size_t buffer2_length, const uint16_t *scores, size_t scores_length,
+                                       const uint16_t *thresholds, size_t thresholds_length, const uint8_t *run,
+                                       size_t run_length, uint8_t *reply, size_t reply_length);
 
 /* ---- four plain services */
 

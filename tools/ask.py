@@ -64,8 +64,8 @@ def baud_factor_of(text):
     return factor
 
 
-BUFFER, PAGE, COUNT, PART, NOTE_PAGE, LEVEL = [(name, number_of(length)) for name, length in (
-    ("BUFFER", 1), ("PAGE", 2), ("COUNT", 2), ("PART", 1), ("PAGE", 1), ("LEVEL", 1))]
+BUFFER, PAGE, START, COUNT, PART, NOTE_PAGE, LEVEL = [(name, number_of(length)) for name, length in (
+    ("BUFFER", 1), ("PAGE", 2), ("START", 2), ("COUNT", 2), ("PART", 1), ("PAGE", 1), ("LEVEL", 1))]
 PASSWORD, ADDRESS, TEXT = ("PASSWORD", four_bytes), ("ADDRESS", four_bytes), ("TEXT", note_of)
 SIZE, SPEED, FILE = ("SIZE", size_code_of), ("BAUD", baud_factor_of), ("FILE", str)
 
@@ -90,6 +90,7 @@ FORMS = (
     Form("empty", (), "Empty", "deletes all pages; asks first, unless --yes is given"),
     Form("store", (BUFFER, PAGE), "Store", "from buffer 1 or 2 to a page that is not stored"),
     Form("load", (BUFFER, PAGE), "LoadChar", "from a page to a buffer"),
+    Form("search", (BUFFER, START, COUNT), "Search", "which of so many pages from START on has the finger in a buffer"),
     Form("upload", (BUFFER, FILE), "UpChar", "from a buffer to a new file, in the size that the reader has"),
     Form("download", (BUFFER, FILE), "DownChar", "from a file of 512 bytes to a buffer, in that size; reads it back and compares"),
 )

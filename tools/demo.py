@@ -3,7 +3,8 @@
 
     demo.py READER ARGS...
 
-READER ARGS... starts a fresh reader of 64 pages: packets in on standard input, replies out on standard output.
+READER ARGS... starts a fresh reader of 64 pages, whose scores and thresholds are 0: packets in on standard input, replies out on
+standard output.
 Every answer is held to document 01. Ends 0 if all are as it says, 1 if one is not, 2 if it cannot be shown.
 """
 
@@ -13,7 +14,7 @@ import sys
 
 from program import TROUBLE, end
 from protocol import (ACKNOWLEDGE, COMMAND, DAMAGED, FRESH_ADDRESS, FRESH_BAUD_FACTOR, FRESH_SIZE_CODE, HEAD,
-                      NOTE, SIZES, TEMPLATE, Packet, content_of, data_packets, number, packet, two_bytes)
+                      NOTE, NOT_FOUND, SIZES, TEMPLATE, Packet, content_of, data_packets, number, packet, two_bytes)
 from words import show, show_data
 
 SECONDS = 10                        # the longest wait for an answer
@@ -108,6 +109,8 @@ def dialogue(reader):
     reader.download(template)
     reader.ask("Buffer 1 is stored on page 7.", "Store", 1, 7)
     reader.ask("How many templates are stored?", "TempleteNum", listed=two_bytes(1))
+    reader.ask("Whose finger is in buffer 1? No sensor chip is here, and all scores are 0: so it is the lowest page stored.",
+               "Search", 1, 0, CAPACITY, listed=two_bytes(7) + two_bytes(0))
     reader.ask("Another template goes into buffer 1.", "DownChar", 1)
     reader.download(other)
     reader.ask("Page 7 is stored already, and is not written over.", "Store", 1, 7, code=0x22)
@@ -124,6 +127,8 @@ def dialogue(reader):
     reader.ask("Page 7 is deleted.", "DeletChar", 7, 1)
     reader.ask("How many templates are stored?", "TempleteNum", listed=two_bytes(0))
     reader.ask("Buffer 2 was loaded from page 7, and is wiped with it.", "UpChar", 2, code=0x0D)
+    reader.ask("Whose finger is in buffer 1? No page is stored that could have it.", "Search", 1, 0, CAPACITY, code=NOT_FOUND,
+               listed=two_bytes(0) + two_bytes(0))
     reader.ask("Buffer 1 was never stored, and stays: now it can be.", "Store", 1, 7)
     reader.end()
 

@@ -30,9 +30,15 @@ NO_PASSWORD = bytes(4)
 # SetSysPara's numbers.
 BAUD_FACTOR, SECURITY_LEVEL, SIZE_CODE = 4, 5, 6
 
-# Parameters, and what a reply of 00h lists: each name with its length in bytes.
-Command = collections.namedtuple("Command", "code name parameters listed")
+# Bits of the status word, by weight: the last Search found a page; a password is verified.
+FOUND, VERIFIED = 2, 4
+
+DONE, DAMAGED, NOT_FOUND, TRANSFER_FAILED, UNKNOWN = 0x00, 0x01, 0x09, 0x0E, 0x19
+
+# Parameters, and what a reply lists: each name with its length in bytes; and the codes of such a reply.
+Command = collections.namedtuple("Command", "code name parameters listed listing", defaults=((DONE,),))
 COMMANDS = (
+    Command(0x04, "Search", {"buffer": 1, "start": 2, "count": 2}, {"page": 2, "score": 2}, (DONE, NOT_FOUND)),
     Command(0x06, "Store", {"buffer": 1, "page": 2}, {}),
     Command(0x07, "LoadChar", {"buffer": 1, "page": 2}, {}),
     Command(0x08, "UpChar", {"buffer": 1}, {}),
@@ -54,10 +60,10 @@ COMMANDS = (
 BY_CODE = {command.code: command for command in COMMANDS}
 BY_NAME = {command.name: command for command in COMMANDS}
 
-DONE, DAMAGED, TRANSFER_FAILED, UNKNOWN = 0x00, 0x01, 0x0E, 0x19
 ACKNOWLEDGES = {
     DONE: "done",
     DAMAGED: "damaged packet or bad parameter",
+    NOT_FOUND: "no page found",
     0x0B: "no such page",
     0x0C: "nothing is there: a buffer that is not filled, or was wiped with a deleted page; or a page that is not stored",
     0x0D: "the buffer is not filled, or was wiped with a deleted page",

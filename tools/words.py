@@ -1,7 +1,7 @@
 """A packet in words: what it is, its fields, and what is wrong with it by document 01."""
 
-from protocol import (ACKNOWLEDGE, ACKNOWLEDGES, BAUD, BY_CODE, COMMAND, COMMANDS, DATA, DONE, IDENTIFIERS, INDEXED, LAST_DATA, MOST_PAGES, SIZES,
-                      Packet, fields_of, number, sum_of)
+from protocol import (ACKNOWLEDGE, ACKNOWLEDGES, BAUD, BY_CODE, COMMAND, COMMANDS, DATA, DONE, FOUND, IDENTIFIERS, INDEXED, LAST_DATA, MOST_PAGES,
+                      NOT_FOUND, SIZES, VERIFIED, Packet, fields_of, number, sum_of)
 
 WIDTH = 80      # of a line of words
 ROW = 32        # bytes of a line of hex
@@ -60,9 +60,14 @@ def stored_in_words(index, asked):
     return "page%s %s, %s" % ("" if len(pages) == 1 else "s", ranges_of(pages), of) if pages else "none " + of
 
 
+def status_in_words(n):
+    return "%s, %s" % ("password verified" if n & VERIFIED else "no password verified",
+                       "last Search found a page" if n & FOUND else "no page found")
+
+
 # What the numbers of some fields mean.
 MEANINGS = {
-    "status": lambda n: "password verified" if n & 4 else "no password verified",
+    "status": status_in_words,
     "capacity": lambda n: "pages",
     "security level": lambda n: "of 1 to 5",
     "size code": lambda n: "%d bytes in a data packet" % SIZES[n] if n in SIZES else "no such code",
@@ -83,16 +88,16 @@ def length_of(names):
     return sum(names.values())
 
 
-def possible_for(asked):
-    """The commands that a reply can answer."""
-    return [BY_CODE[asked.code]] if asked else COMMANDS
+def listings_of(code, asked):
+    """What a reply of this code may list. If it is not known which command was asked: all that it can be."""
+    possible = [BY_CODE[asked.code]] if asked else COMMANDS
+    return [command.listed for command in possible if code in command.listing] or [{}]
 
 
-def listed_by(asked, length):
-    """What a reply of 00h lists in so many bytes. If it is not known which command was asked: the one listing that it can be."""
-    possible = possible_for(asked)
-    listings = [command.listed for command in possible if length_of(command.listed) == length]
-    return listings[0] if len(listings) == 1 or not length else {}
+def listed_by(packet, asked):
+    """What a reply lists, if but one listing has its length."""
+    listings = [listed for listed in listings_of(packet.code, asked) if length_of(listed) == len(packet.content) - 1]
+    return listings[0] if len(listings) == 1 else {}
 
 
 def fields_in_words(packet, asked):
@@ -100,7 +105,7 @@ def fields_in_words(packet, asked):
     if packet.identifier == COMMAND:
         names = BY_CODE[packet.code].parameters if packet.code in BY_CODE else {}
     else:
-        names = listed_by(asked, len(run)) if packet.code == DONE else {}
+        names = listed_by(packet, asked)
     if length_of(names) != len(run):
         return ["%s: %s" % (plural(len(run), "byte"), in_hex(run))]
     return [field_in_words(name, value, asked) for name, value in fields_of(names, run).items()]
@@ -170,9 +175,21 @@ def faults_of_acknowledge(packet, asked):
         return ["document 01 has no code %02Xh" % packet.code]
     if packet.code == DONE and asked and "stored" in BY_CODE[asked.code].listed and INDEXED * asked.content[1] >= MOST_PAGES:
         return ["there is no index page %d, and 0Bh is right" % asked.content[1]]
-    lengths = {3 + length_of(command.listed) if packet.code == DONE else 3 for command in possible_for(asked)}
+    lengths = {3 + length_of(listed) for listed in listings_of(packet.code, asked)}
     if packet.length in lengths:
-        return []
+        return faults_of_found(packet, asked) if "score" in listed_by(packet, asked) else []
     told = " or ".join(map(str, sorted(lengths)))
     return ["its length is %d, and that of code %02Xh%s is %s" %
             (packet.length, packet.code, " to " + BY_CODE[asked.code].name if asked else "", told)]
+
+
+def faults_of_found(packet, asked):
+    """What is wrong with the page and the score that a reply to Search has."""
+    page, score = number(packet.content[1:3]), number(packet.content[3:])
+    if packet.code == NOT_FOUND and (page or score):
+        return ["it has page %d and score %d, and with 09h both are 0" % (page, score)]
+    if packet.code == DONE and asked:
+        start, count = number(asked.content[2:4]), number(asked.content[4:])
+        if not start <= page < start + count:
+            return ["page %d is none of the %s from %d on that were asked for" % (page, plural(count, "page"), start)]
+    return []

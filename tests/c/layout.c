@@ -23,7 +23,7 @@ AT(bystrodol_settings, got, 14);
 AT(bystrodol_settings, verified, 16);
 AT(bystrodol_settings, filled1, 17);
 AT(bystrodol_settings, filled2, 18);
-AT(bystrodol_settings, spare, 19);
+AT(bystrodol_settings, found, 19);
 AT(bystrodol_settings, origin1, 20);
 AT(bystrodol_settings, origin2, 22);
 IS(BYSTRODOL_OLD_SETTINGS_BYTES, 20);

@@ -148,11 +148,8 @@ static void last_origin(int buffer, size_t pages, size_t page) {
 
 /* ---- all else keeps both buffers, with their marks and origins */
 
-enum { NO_REPLY = 0x100 };
-
 static void is_kept(const char *name, size_t code) {
-    check_of(name, 0, "refusal", answer.refusal, BYSTRODOL_ACCEPTED);
-    check_of(name, 0, "code", answer.length ? parts[REPLY][9] : NO_REPLY, code);
+    is_code(name, 0, code);
     for (int buffer = BUFFER1; buffer <= BUFFER2; buffer++) {
         check_of(name, number_of(buffer), "origin", *origin(buffer), *origin_of(&was.line.settings, buffer));
         check_of(name, number_of(buffer), "filled mark", *mark(buffer), 1);
@@ -160,75 +157,10 @@ static void is_kept(const char *name, size_t code) {
     }
 }
 
-/* Runs that are no command to this reader: of most an Empty in all but one thing. */
-static void kept_by_runs(void) {
+static void kept_by_all_else(void) {
     static const uint8_t empty = BYSTRODOL_COMMAND_EMPTY;
-    static const struct {
-        const char *name;
-        uint32_t address;
-        size_t left_out;
-        uint8_t identifier, sum;
-        size_t code;
-    } runs[] = {
-        {"Empty but for its last byte", 0xFFFFFFFF, 1, 1, 0, NO_REPLY},
-        {"Empty but for its head", 0xFFFFFFFF, 10, 1, 0, NO_REPLY},
-        {"Empty with a wrong sum", 0xFFFFFFFF, 0, 1, 1, BYSTRODOL_CODE_BAD_PACKET},
-        {"Empty to another address", 0xFFFFFFFE, 0, 1, 0, NO_REPLY},
-        {"Empty as an acknowledge", 0xFFFFFFFF, 0, 7, 0, NO_REPLY},
-        {"Empty as data", 0xFFFFFFFF, 0, 2, 0, NO_REPLY},
-        {"Empty as last data", 0xFFFFFFFF, 0, 8, 0, NO_REPLY},
-        {"no byte", 0xFFFFFFFF, 13, 1, 0, NO_REPLY},
-    };
-    for (size_t i = 0; i < sizeof runs / sizeof *runs; i++) {
-        lengths[RUN] = bystrodol_build(runs[i].address, runs[i].identifier, &empty, 1, parts[RUN], rooms[RUN]);
-        parts[RUN][lengths[RUN] - 1] += runs[i].sum;
-        lengths[RUN] = lengths[RUN] > runs[i].left_out ? lengths[RUN] - runs[i].left_out : 0;
-        call(), is_kept(runs[i].name, runs[i].code);
-    }
-    memset(parts[RUN], 0x41, lengths[RUN] = 20);
-    call(), is_kept("noise", NO_REPLY);
-}
-
-/* Commands, whatever they are answered: here the last ones set a password, and lock the reader. */
-static void kept_by_commands(void) {
-    static const struct {
-        const char *name;
-        size_t length;
-        uint8_t content[34], code;
-    } commands[] = {
-        {"UpChar of buffer 1", 2, {0x08, 1}, 0x00},
-        {"UpChar of buffer 2", 2, {0x08, 2}, 0x00},
-        {"UpChar of buffer 3", 2, {0x08, 3}, 0x01},
-        {"DownChar to buffer 3", 2, {0x09, 3}, 0x01},
-        {"LoadChar to buffer 3", 4, {0x07, 3, 0, 3}, 0x01},
-        {"Store of buffer 3", 4, {0x06, 3, 0, 3}, 0x01},
-        {"SetSysPara, baud", 3, {0x0E, 4, 6}, 0x00},
-        {"SetSysPara, level", 3, {0x0E, 5, 2}, 0x00},
-        {"SetSysPara, size", 3, {0x0E, 6, 1}, 0x00},
-        {"SetSysPara, parameter 7", 3, {0x0E, 7, 1}, 0x1A},
-        {"SetSysPara, size 4", 3, {0x0E, 6, 4}, 0x1B},
-        {"ReadSysPara", 1, {0x0F}, 0x00},
-        {"SetAdder", 5, {0x15, 0xFF, 0xFF, 0xFF, 0xFF}, 0x00},
-        {"WriteNotepad", 34, {0x18, 3, 1}, 0x00},
-        {"WriteNotepad, page 16", 34, {0x18, 16, 1}, 0x1C},
-        {"ReadNotepad", 2, {0x19, 3}, 0x00},
-        {"ReadNotepad, page 16", 2, {0x19, 16}, 0x1C},
-        {"TempleteNum", 1, {0x1D}, 0x00},
-        {"ReadIndexTable", 2, {0x1F, 0}, 0x00},
-        {"ReadIndexTable, page 4", 2, {0x1F, 4}, 0x0B},
-        {"HandShake", 1, {0x40}, 0x00},
-        {"an unknown command", 1, {0x05}, 0x19},
-        {"Empty, a byte too long", 2, {0x0D}, 0x01},
-        {"SetPwd", 5, {0x12, 0, 0, 0, 5}, 0x00},
-        {"Empty, locked", 1, {0x0D}, 0x21},
-        {"VfyPwd, wrong", 5, {0x13, 0, 0, 0, 6}, 0x13},
-        {"VfyPwd", 5, {0x13, 0, 0, 0, 5}, 0x00},
-        {"VfyPwd, wrong again", 5, {0x13, 0, 0, 0, 0}, 0x13},
-    };
-    for (size_t i = 0; i < sizeof commands / sizeof *commands; i++) {
-        send(BYSTRODOL_PACKET_COMMAND, commands[i].content, commands[i].length);
-        is_kept(commands[i].name, commands[i].code);
-    }
+    set_up_loaded(10, BUFFER1, 3, 7);
+    send_quiet(&empty, 1, is_kept);
 }
 
 /* A download, whole or ended by 0Eh: its buffer has no origin throughout, and the other one keeps its own. */
@@ -241,7 +173,7 @@ static void kept_by_a_download(int buffer) {
         is_down("DownChar", buffer);
         for (size_t i = 0; i < PACKETS && i <= right; i++) {
             send(i + 1 < PACKETS ? BYSTRODOL_PACKET_DATA : BYSTRODOL_PACKET_LAST_DATA, data, i < right ? sizeof data : 1);
-            check_of("data", i, "code", answer.length ? parts[REPLY][9] : NO_REPLY, i < right ? NO_REPLY : BYSTRODOL_CODE_TRANSFER_FAILED);
+            is_code("data", i, i < right ? NO_REPLY : BYSTRODOL_CODE_TRANSFER_FAILED);
             check_of("data", i, "filled mark", *mark(buffer), i + 1 == PACKETS && i < right);
             check_of("data", i, "origin", *origin(buffer), BYSTRODOL_NO_PAGE);
             check_of("data", i, "the other's origin", *origin(other(buffer)), 7);
@@ -305,9 +237,7 @@ static void checks(void) {
         }
         for (size_t page = 0; page < 300; page++) legal_page(buffer, 300, page);
     }
-    set_up_loaded(10, BUFFER1, 3, 7);
-    kept_by_runs();
-    kept_by_commands();
+    kept_by_all_else();
     ranges();
     old_settings();
 }

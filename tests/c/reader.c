@@ -114,9 +114,12 @@ static void bad_bits(void) {
 
 /* Order: 1, 2, 3. */
 static void order(void) {
-    set_up();
-    lengths[NOTEPAD] = 0, lengths[REPLY] = 0, area.line.settings.level = 0;
-    refuses("everything wrong", 0, BYSTRODOL_BAD_LENGTH);
+    size_t *const lent[] = {&lengths[NOTEPAD], &scores_length, &thresholds_length};
+    for (size_t i = 0; i < sizeof lent / sizeof *lent; i++) {
+        set_up();
+        *lent[i] = 0, lengths[REPLY] = 0, area.line.settings.level = 0;
+        refuses("everything wrong", i, BYSTRODOL_BAD_LENGTH);
+    }
     set_up();
     lengths[REPLY] = 0, area.line.settings.level = 0;
     refuses("room and settings wrong", 0, BYSTRODOL_BAD_ROOM);
@@ -261,7 +264,7 @@ static void index_pages(size_t pages) {
 static void locked_library(size_t pages) {
     const size_t last = pages - 1;
     /* Each with its length before it. */
-    const uint8_t commands[][6] = {
+    const uint8_t commands[][7] = {
         {1, BYSTRODOL_COMMAND_TEMPLETE_NUM},
         {1, BYSTRODOL_COMMAND_READ_SYS_PARA},
         {1, BYSTRODOL_COMMAND_EMPTY},
@@ -273,6 +276,8 @@ static void locked_library(size_t pages) {
         {4, BYSTRODOL_COMMAND_STORE, 1, TWO(pages)},
         {4, BYSTRODOL_COMMAND_LOAD_CHAR, 1, TWO(last)},
         {5, BYSTRODOL_COMMAND_DELET_CHAR, TWO(last), 0, 1},
+        {6, BYSTRODOL_COMMAND_SEARCH, 1, 0, 0, TWO(pages)},
+        {6, BYSTRODOL_COMMAND_SEARCH, 1, TWO(pages), 0, 1},
     };
     for (size_t i = 0; i < sizeof commands / sizeof *commands; i++) {
         set_up_stored(pages);
@@ -299,8 +304,9 @@ static void libraries(void) {
 
 /* ---- marks: 0 and 1 are taken, and every other byte is a setting that is not legal */
 
-static uint8_t *const marks[] = {&area.line.settings.verified, &area.line.settings.filled1, &area.line.settings.filled2};
-static const char *const mark_names[] = {"verified mark", "filled mark 1", "filled mark 2"};
+static uint8_t *const marks[] = {&area.line.settings.verified, &area.line.settings.filled1, &area.line.settings.filled2, &area.line.settings.found};
+static const char *const mark_names[] = {"verified mark", "filled mark 1", "filled mark 2", "found mark"};
+enum { MARKS = sizeof marks / sizeof *marks };
 
 static void any_mark(int mark, uint8_t byte) {
     const char *name = mark_names[mark];
@@ -345,7 +351,7 @@ static void counted(void) {
         size_t some = n;
         set_up_stored(n);
         tells("all pages stored", n, BYSTRODOL_COMMAND_TEMPLETE_NUM, (const uint8_t[]){TWO(n)}, 2);
-        tells("the capacity", n, BYSTRODOL_COMMAND_READ_SYS_PARA, (const uint8_t[]){0, 0, 0, 0, TWO(n), 0, 3, 0xFF, 0xFF, 0xFF, 0xFF, 0, 2, 0, 6}, 16);
+        tells("the capacity", n, BYSTRODOL_COMMAND_READ_SYS_PARA, (const uint8_t[]){0, 2 * found, 0, 0, TWO(n), 0, 3, 0xFF, 0xFF, 0xFF, 0xFF, 0, 2, 0, 6}, 16);
         check_of("all pages stored", n, "count", bystrodol_count(parts[INDEX], lengths[INDEX]), n);
         for (size_t page = n % 5; page < n; page += 1 + page % 7) take_bit(page), some--;
         tells("some pages stored", n, BYSTRODOL_COMMAND_TEMPLETE_NUM, (const uint8_t[]){TWO(some)}, 2);
@@ -372,7 +378,7 @@ static void opened_by(uint8_t byte) {
 
 static void any_marks(void) {
     for (unsigned byte = 0; byte < 256; byte++) {
-        for (int mark = 0; mark < 3; mark++) any_mark(mark, (uint8_t)byte);
+        for (int mark = 0; mark < MARKS; mark++) any_mark(mark, (uint8_t)byte);
         opened_by((uint8_t)byte);
     }
 }
@@ -391,7 +397,7 @@ static void fill_settings(void) {
     for (size_t i = 0; i < sizeof area.line.settings; i++) byte[i] = random_byte();
 }
 
-/* Each number is legal more often than not; password, address, sensor type and the spare byte are any. */
+/* Each number is legal more often than not; password, address and sensor type are any. */
 static void make_nearly_legal(void) {
     struct bystrodol_settings *s = &area.line.settings;
     if (random_byte() % 16) s->level = (uint8_t)(1 + s->level % 5);
@@ -399,7 +405,7 @@ static void make_nearly_legal(void) {
     if (random_byte() % 16) s->baud = (uint8_t)(1 + s->baud % 12);
     if (random_byte() % 16) s->transfer = (uint8_t)(s->transfer % 3);
     if (random_byte() % 16) s->got = (uint16_t)(s->transfer ? s->got % 4 * 128 : 0);
-    for (int i = 0; i < 3; i++)
+    for (int i = 0; i < MARKS; i++)
         if (random_byte() % 16) *marks[i] &= 1;
     if (random_byte() % 2) memset(s->password, 0, 4);
     for (int buffer = BUFFER1; buffer <= BUFFER2; buffer++) {
@@ -415,7 +421,7 @@ static int is_origin(uint16_t origin, uint8_t mark) {
 
 static int is_legal(const struct bystrodol_settings *s) {
     int is_open = s->verified || !(s->password[0] | s->password[1] | s->password[2] | s->password[3]);
-    if (s->verified > 1 || s->filled1 > 1 || s->filled2 > 1) return 0;
+    if (s->verified > 1 || s->filled1 > 1 || s->filled2 > 1 || s->found > 1) return 0;
     if (!is_origin(s->origin1, s->filled1) || !is_origin(s->origin2, s->filled2)) return 0;
     if (s->level < 1 || s->level > 5 || s->size > 3 || s->baud < 1 || s->baud > 12) return 0;
     if (s->transfer == 0) return s->got == 0;
@@ -465,6 +471,7 @@ static const struct {
     size_t length;
     uint8_t content[34];
 } calls[] = {
+    {BYSTRODOL_CODE_NOTHING_THERE, 6, {BYSTRODOL_COMMAND_SEARCH, 1, 0, 0, 0, 10}},
     {BYSTRODOL_CODE_NOTHING_THERE, 4, {BYSTRODOL_COMMAND_STORE, 1, 0, 0}},
     {BYSTRODOL_CODE_BAD_PAGE, 4, {BYSTRODOL_COMMAND_STORE, 1, 0, 10}},
     {BYSTRODOL_CODE_BAD_PACKET, 4, {BYSTRODOL_COMMAND_STORE, 3, 0, 0}},
@@ -492,27 +499,29 @@ static const struct {
 };
 
 /* The acknowledge code of a packet sent to the reader as it is. */
-static void is_code(const char *name, size_t which, uint8_t identifier, const uint8_t *content, size_t length, uint8_t code) {
+static void gets_code(const char *name, size_t which, uint8_t identifier, const uint8_t *content, size_t length, uint8_t code) {
     send(identifier, content, length);
-    check_of(name, which, "refusal", answer.refusal, BYSTRODOL_ACCEPTED);
+    is_code(name, which, code);
     check_of(name, which, "bytes used", answer.used, lengths[RUN]);
     check_of(name, which, "identifier", parts[REPLY][6], BYSTRODOL_PACKET_ACKNOWLEDGE);
-    check_of(name, which, "code", parts[REPLY][9], code);
 }
 
 static void named_codes(void) {
-    static const uint8_t empty = BYSTRODOL_COMMAND_EMPTY, data[] = {1, 2, 3};
+    static const uint8_t empty = BYSTRODOL_COMMAND_EMPTY, data[] = {1, 2, 3}, search[] = {BYSTRODOL_COMMAND_SEARCH, 1, 0, 0, 0, 10};
     for (size_t i = 0; i < sizeof calls / sizeof *calls; i++) {
         set_up();
-        is_code("a command", i, BYSTRODOL_PACKET_COMMAND, calls[i].content, calls[i].length, calls[i].code);
+        gets_code("a command", i, BYSTRODOL_PACKET_COMMAND, calls[i].content, calls[i].length, calls[i].code);
     }
     set_up();
+    area.line.settings.filled1 = 1;
+    gets_code("a Search of no stored page", 0, BYSTRODOL_PACKET_COMMAND, search, sizeof search, BYSTRODOL_CODE_NOT_FOUND);
+    set_up();
     area.line.settings.password[3] = 5;
-    is_code("a locked reader", 0, BYSTRODOL_PACKET_COMMAND, &empty, 1, BYSTRODOL_CODE_PASSWORD_FIRST);
+    gets_code("a locked reader", 0, BYSTRODOL_PACKET_COMMAND, &empty, 1, BYSTRODOL_CODE_PASSWORD_FIRST);
     for (int last = 0; last < 2; last++) {
         set_up();
         area.line.settings.transfer = 1;
-        is_code("data of another size", (size_t)last, last ? BYSTRODOL_PACKET_LAST_DATA : BYSTRODOL_PACKET_DATA, data, sizeof data, BYSTRODOL_CODE_TRANSFER_FAILED);
+        gets_code("data of another size", (size_t)last, last ? BYSTRODOL_PACKET_LAST_DATA : BYSTRODOL_PACKET_DATA, data, sizeof data, BYSTRODOL_CODE_TRANSFER_FAILED);
     }
 }
 

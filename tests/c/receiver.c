@@ -21,12 +21,15 @@ struct reader {
     uint8_t notepad[BYSTRODOL_PAGE_BYTES];
     uint8_t buffer1[BYSTRODOL_PAGE_BYTES];
     uint8_t buffer2[BYSTRODOL_PAGE_BYTES];
+    uint16_t scores[PAGES];
+    uint16_t thresholds[BYSTRODOL_THRESHOLDS];
     uint8_t reply[BYSTRODOL_REPLY_BYTES];
 };
 
 #define LENT(memory) (memory), sizeof(memory)
 #define BUFFERS(r) LENT((r)->buffer1), LENT((r)->buffer2)
-#define MEMORY(r) LENT((r)->templates), LENT((r)->index), LENT((r)->notepad), BUFFERS(r)
+#define NUMBERS(r) (r)->scores, PAGES, (r)->thresholds, BYSTRODOL_THRESHOLDS
+#define MEMORY(r) LENT((r)->templates), LENT((r)->index), LENT((r)->notepad), BUFFERS(r), NUMBERS(r)
 
 static struct reader reader, other, was;
 
@@ -38,7 +41,7 @@ static struct bystrodol_answer step(struct reader *r, const uint8_t *run, size_t
     return bystrodol_step(&r->line.settings, MEMORY(r), run, length, LENT(r->reply));
 }
 
-/* Settings of a fresh reader, a byte in all memory, nothing stored, nothing held. */
+/* Settings of a fresh reader, a byte in all memory, so that every score is at its threshold; nothing stored, nothing held. */
 static void set_up(struct reader *r) {
     memset(r, 0x5A, sizeof *r);
     memset(r->index, 0, sizeof r->index);
@@ -103,8 +106,8 @@ static void add_longest(uint8_t identifier) {
     add_packet(identifier, content, identifier == BYSTRODOL_PACKET_COMMAND ? BYSTRODOL_CONTENT_MOST_OTHER : sizeof content);
 }
 
-/* What a host may send: a template downloaded, stored, loaded and uploaded, and one in the longest data packets; noise, a lone EF, a
- * start that no packet has, a wrong sum and another address between; a password; and at the end a packet that is not all there. */
+/* What a host may send: a template downloaded, stored, loaded, searched for and uploaded, and one in the longest data packets; noise, a lone EF,
+ * a start that no packet has, a wrong sum and another address between; a password; and at the end a packet that is not all there. */
 static void make_dialogue(void) {
     static const uint8_t noise[] = {0x00, 0x55, 0xEF, 0xEF, 0x02}, no_packet[] = {0xEF, 0x01, 1, 2, 3, 4, 1, 0x01, 0x2C, 0xEF};
     static const uint8_t elsewhere[] = {0xEF, 0x01, 1, 2, 3, 4, 0x01, 0x00, 0x03, 0x40, 0x00, 0x44};
@@ -120,6 +123,9 @@ static void make_dialogue(void) {
     COMMAND(BYSTRODOL_COMMAND_STORE, 1, 0, 3);
     add(no_packet, sizeof no_packet);
     COMMAND(BYSTRODOL_COMMAND_LOAD_CHAR, 2, 0, 3);
+    COMMAND(BYSTRODOL_COMMAND_SEARCH, 2, 0, 0, 0, 3);
+    COMMAND(BYSTRODOL_COMMAND_SEARCH, 2, 0, 0, 0, 4);
+    COMMAND(BYSTRODOL_COMMAND_READ_SYS_PARA);
     COMMAND(BYSTRODOL_COMMAND_UP_CHAR, 2);
     add_longest(BYSTRODOL_PACKET_COMMAND);
     COMMAND(BYSTRODOL_COMMAND_SET_SYS_PARA, BYSTRODOL_PARAMETER_SIZE, 3);
@@ -258,15 +264,16 @@ static void loops(void) {
 
 /* ---- refusals, at every held count */
 
-/* Lengths, then the reply room, then settings and count; refused, nothing is taken and nothing dropped. */
-static void is_refused(size_t count, size_t index_length, size_t room, uint8_t level, uint8_t refusal) {
+/* Lengths, of scores and thresholds too, then the reply room, then settings and count; refused, nothing is taken and nothing dropped. */
+static void is_refused(size_t count, size_t index_length, size_t scores_length, size_t thresholds_length, size_t room, uint8_t level, uint8_t refusal) {
     set_up(&reader);
     hold(&reader, run, MOST, 0);
     reader.line.receiver.count = (uint16_t)count;
     reader.line.settings.level = level;
     was = reader;
     struct bystrodol_received r = bystrodol_receive(&reader.line, LENT(reader.templates), reader.index, index_length,
-                                                    LENT(reader.notepad), BUFFERS(&reader), run, 12, reader.reply, room);
+                                                    LENT(reader.notepad), BUFFERS(&reader), reader.scores, scores_length, reader.thresholds, thresholds_length,
+                                                    run, 12, reader.reply, room);
     check_of("a refused call", count, "refusal", r.refusal, refusal);
     check_of("a refused call", count, "bytes taken", r.taken, 0);
     check_of("a refused call", count, "reply length", r.length, 0);
@@ -276,12 +283,14 @@ static void is_refused(size_t count, size_t index_length, size_t room, uint8_t l
 static void counts(void) {
     make_dialogue();
     for (size_t count = 0; count <= 0xFFFF; count += count < 600 ? 1 : 61) {
-        is_refused(count, BYSTRODOL_OLD_INDEX_BYTES, 699, 0, BYSTRODOL_BAD_LENGTH);
-        is_refused(count, 128, 699, 0, BYSTRODOL_BAD_ROOM);
-        is_refused(count, 128, 700, 0, BYSTRODOL_BAD_SETTING);
-        if (count > MOST) is_refused(count, 128, 700, 3, BYSTRODOL_BAD_SETTING);
+        is_refused(count, BYSTRODOL_OLD_INDEX_BYTES, PAGES, 5, 699, 0, BYSTRODOL_BAD_LENGTH);
+        is_refused(count, 128, PAGES - 1, 5, 699, 0, BYSTRODOL_BAD_LENGTH);
+        is_refused(count, 128, PAGES, 4, 699, 0, BYSTRODOL_BAD_LENGTH);
+        is_refused(count, 128, PAGES, 5, 699, 0, BYSTRODOL_BAD_ROOM);
+        is_refused(count, 128, PAGES, 5, 700, 0, BYSTRODOL_BAD_SETTING);
+        if (count > MOST) is_refused(count, 128, PAGES, 5, 700, 3, BYSTRODOL_BAD_SETTING);
     }
-    is_refused(0xFFFF, 128, 700, 3, BYSTRODOL_BAD_SETTING);
+    is_refused(0xFFFF, 128, PAGES, 5, 700, 3, BYSTRODOL_BAD_SETTING);
 }
 
 /* ---- the line switch */
@@ -291,14 +300,14 @@ static void is_switched(size_t count) {
     set_up(&reader);
     hold(&reader, run, MOST, 0);
     reader.line.receiver.count = (uint16_t)count;
-    reader.line.settings.filled1 = reader.line.settings.verified = 1;
+    reader.line.settings.filled1 = reader.line.settings.verified = reader.line.settings.found = 1;
     was = reader;
     check_of("a line switch", count, "refusal", bystrodol_receiver_switch(&reader.line, reader.buffer1, 511, LENT(reader.buffer2)), BYSTRODOL_BAD_LENGTH);
     is_unchanged("a refused line switch", count);
     check_of("a line switch", count, "refusal", bystrodol_receiver_switch(&reader.line, BUFFERS(&reader)), BYSTRODOL_ACCEPTED);
     memset(was.buffer1, 0, sizeof was.buffer1);
     memset(was.buffer2, 0, sizeof was.buffer2);
-    was.line.settings.filled1 = was.line.settings.verified = 0;
+    was.line.settings.filled1 = was.line.settings.verified = was.line.settings.found = 0;
     is_same("a line switch", count, &reader, &was);
     holds("a line switch", count, &reader, run, 0);
 }
@@ -318,10 +327,11 @@ static uint8_t code_of(void) {
     return replied > 9 ? replies[9] : 0xFF;
 }
 
-/* Settings as they were stored go into the line, and zeros into the receiver. The verified mark was stored, too. */
+/* Settings as they were stored go into the line, and zeros into the receiver. The verified mark was stored, too; and where the found mark is now, a byte that an
+ * older version left to the board. */
 static void power_on(void) {
     static const uint8_t stored[] = {0, 0, 0, 7, 0xFF, 0xFF, 0xFF, 0xFF, 3, 1, 6, 0, 0, 0, 0, 0, 1, 0, 1, 0xAB};
-    static const uint8_t switched[] = {0, 0, 0, 7, 0xFF, 0xFF, 0xFF, 0xFF, 3, 1, 6, 0, 0, 0, 0, 0, 0, 0, 0, 0xAB};
+    static const uint8_t switched[] = {0, 0, 0, 7, 0xFF, 0xFF, 0xFF, 0xFF, 3, 1, 6, 0, 0, 0, 0, 0, 0, 0, 0, 0};
     set_up(&reader);
     memcpy(&reader.line.settings, stored, sizeof stored);
     check("power-on, the line switch", bystrodol_receiver_switch(&reader.line, BUFFERS(&reader)), BYSTRODOL_ACCEPTED);

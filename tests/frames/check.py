@@ -11,23 +11,31 @@ import subprocess
 import sys
 
 SECONDS = 60
-PARTS = ("templates", "index", "notepad", "buffer 1", "buffer 2", "run", "reply room")
-RIGHT = {"templates": 512, "index": 128, "notepad": 512, "buffer 1": 512, "buffer 2": 512, "run": 0, "reply room": 700}
-MOST = {"templates": 512512, "index": 256, "notepad": 1024, "buffer 1": 1024, "buffer 2": 1024, "run": 4096, "reply room": 4096}
-FRESH = bytes.fromhex("00000000 ffffffff 03 02 06 00 0000 0000 00 00 00 ffff ffff")
+PARTS = ("templates", "index", "notepad", "buffer 1", "buffer 2", "scores", "thresholds", "run", "reply room")
+NUMBERS = ("scores", "thresholds")      # of two bytes each, and counted by numbers; the other parts by bytes
+NOT_BACK = (*NUMBERS, "run")
+RIGHT = {"templates": 512, "index": 128, "notepad": 512, "buffer 1": 512, "buffer 2": 512, "scores": 1, "thresholds": 5, "run": 0, "reply room": 700}
+MOST = {"templates": 512512, "index": 256, "notepad": 1024, "buffer 1": 1024, "buffer 2": 1024, "scores": 1001, "thresholds": 10, "run": 4096,
+        "reply room": 4096}
+FRESH = bytes.fromhex("00000000 ffffffff 03 02 06 00 0000 0000 00 00 00 00 ffff ffff")
 RECEIVER = bytes(269)
 HANDSHAKE = bytes.fromhex("ef01ffffffff010003400044")
 DONE = bytes.fromhex("ef01ffffffff07000300 000a")
 
 
 def head(op, lengths):
-    return bytes([op]) + FRESH + struct.pack(">7I", *(lengths[name] for name in PARTS))
+    return bytes([op]) + FRESH + struct.pack(">9I", *(lengths[name] for name in PARTS))
+
+
+def bytes_of(names, lengths):
+    """The bytes of parts with these lengths, all of them zero."""
+    return bytes(sum(lengths[name] * (2 if name in NUMBERS else 1) for name in names))
 
 
 def frame(op, name="run"):
-    """A frame with as many bytes of one part as the probe has room for, those of a right reader of the others, and all of them zero."""
+    """A frame with as much of one part as the probe has room for, and as much of the others as a right reader has."""
     lengths = {**RIGHT, name: MOST[name]}
-    return head(op, lengths) + receiver(op) + bytes(sum(lengths.values()))
+    return head(op, lengths) + receiver(op) + bytes_of(PARTS, lengths)
 
 
 def receiver(op):
@@ -35,15 +43,15 @@ def receiver(op):
 
 
 def length_out(op, name="run"):
-    """The bytes of the frame that comes back of it: all parts but the run."""
+    """The length of the frame that comes back of it."""
     lengths = {**RIGHT, name: MOST[name]}
-    return 9 + len(FRESH) + len(receiver(op)) + sum(lengths.values()) - lengths["run"]
+    return 9 + len(FRESH) + len(receiver(op)) + len(bytes_of(set(PARTS) - set(NOT_BACK), lengths))
 
 
-def handshake(pages):
-    """A call of a reader of so many pages with a handshake."""
-    lengths = {**RIGHT, "templates": 512 * pages, "run": len(HANDSHAKE)}
-    return head(0, lengths) + bytes(sum(lengths[name] for name in PARTS[:5])) + HANDSHAKE + bytes(700)
+def handshake(pages, **lent):
+    """A call of a reader of so many pages with a handshake; lent, with so many scores or thresholds."""
+    lengths = {**RIGHT, "templates": 512 * pages, "scores": pages, "run": len(HANDSHAKE), **lent}
+    return head(0, lengths) + bytes_of(PARTS[:7], lengths) + HANDSHAKE + bytes(700)
 
 
 def answer_to(pages, refusal, used, reply):
@@ -53,12 +61,13 @@ def answer_to(pages, refusal, used, reply):
 
 
 def past(name):
-    """A head that asks for a byte more than the probe has for this part, and not a byte behind it."""
-    return head(0, {**RIGHT, name: MOST[name] + 1})
+    """A head that asks for one more than the probe has room for, of this part and of all behind it, and not a byte behind the head."""
+    return head(0, {**RIGHT, **{other: MOST[other] + 1 for other in PARTS[PARTS.index(name):]}})
 
 
 def more_than(name):
-    return f"probe: more than {MOST[name]} bytes of {name}{', 1001 pages' if name == 'templates' else ''}\n"
+    what = name if name in NUMBERS else f"bytes of {name}"
+    return f"probe: more than {MOST[name]} {what}{', 1001 pages' if name == 'templates' else ''}\n"
 
 
 INSIDE = "probe: the input ends inside a frame\n"
@@ -71,13 +80,17 @@ ROWS = [
     ("1001 pages, which the reader refuses", handshake(1001), answer_to(1001, 1, 0, b""), ""),
     ("1000 pages twice", 2 * handshake(1000), 2 * answer_to(1000, 0, 12, DONE), ""),
     ("a frame, and one of 1002 pages", handshake(1) + head(0, {**RIGHT, "templates": 512 * 1002}), answer_to(1, 0, 12, DONE), more_than("templates")),
-    ("a head cut short", head(0, RIGHT)[:47], b"", INSIDE),
-    ("the front of a head of no such call", head(6, RIGHT)[:47], b"", INSIDE),
+    ("a head cut short", head(0, RIGHT)[:-1], b"", INSIDE),
+    ("the front of a head of no such call", head(6, RIGHT)[:-1], b"", INSIDE),
     ("a frame cut short", handshake(1000)[:-1], b"", INSIDE),
     ("a receiver's frame cut short", frame(2)[:-1], b"", INSIDE),
 ]
-ROWS += [(f"the most bytes of {name}", frame(5, name), length_out(5, name), "") for name in PARTS]
-ROWS += [(f"a byte more of {name}", past(name), b"", more_than(name)) for name in PARTS]
+ROWS += [(f"{scores} scores of 8 pages, which the reader refuses", handshake(8, scores=scores), answer_to(8, 1, 0, b""), "")
+         for scores in (0, 7, 9, 1001)]
+ROWS += [(f"{thresholds} thresholds, which the reader refuses", handshake(8, thresholds=thresholds), answer_to(8, 1, 0, b""), "")
+         for thresholds in (0, 4, 6, 10)]
+ROWS += [(f"the most of {name}", frame(5, name), length_out(5, name), "") for name in PARTS]
+ROWS += [(f"more of {name}", past(name), b"", more_than(name)) for name in PARTS]
 ROWS += [(f"call {op}", frame(op), length_out(op), "") for op in range(6)]
 ROWS += [(f"call {op}, which there is none of", head(op, RIGHT), b"", NO_SUCH) for op in range(6, 256)]
 

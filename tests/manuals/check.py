@@ -18,9 +18,9 @@ DATA = os.path.join(os.path.dirname(os.path.abspath(__file__)), "packets.txt")
 SECONDS = 300
 
 # The settings in the order of a frame: four bytes, numbers of one and two bytes, marks, origins.
-SETTINGS = ("password", "address", "level", "size", "baud", "transfer", "type", "got", "verified", "filled1", "filled2",
+SETTINGS = ("password", "address", "level", "size", "baud", "transfer", "type", "got", "verified", "filled1", "filled2", "found",
             "origin1", "origin2")
-LAYOUT = ">4s4sBBBBHHBBBHH"
+LAYOUT = ">4s4sBBBBHHBBBBHH"
 NO_PAGE = 0xFFFF
 MEMORY = ("templates", "index", "notepad", "buffer1", "buffer2")
 PAGE = 512
@@ -41,9 +41,10 @@ CELLS = 267
 
 
 class Reader:
-    """The whole contents of a reader: settings and lent memory, by name."""
+    """The whole contents of a reader: settings and lent memory, by name; and the scores and thresholds of the sensor chip."""
 
     def __init__(self, capacity):
+        self.scores, self.thresholds = [0] * capacity, [0] * 5
         self.settings = dict.fromkeys(SETTINGS, 0)
         self.settings.update(password=bytes(4), address=b"\xff" * 4, level=3, size=2, baud=6, origin1=NO_PAGE, origin2=NO_PAGE)
         self.memory = {"templates": bytes(PAGE * capacity), "index": bytes(INDEX), "notepad": bytes(512),
@@ -56,12 +57,19 @@ class Reader:
         self.memory["index"] = bytes(index)
 
 
+# The scores of stored pages, if not 40; vacant pages have the highest number there is. The thresholds of levels 1 to 5.
+SCORES = {0: 99, 9: 120, 63: 120, 255: 300, 999: 300}
+THRESHOLDS = [0, 30, 60, 99, 100]
+
+
 def filled(capacity=64, pages=(0, 9, 63)):
     reader = Reader(capacity)
     for seed, name in enumerate(("templates", "notepad", "buffer1", "buffer2")):
         reader.memory[name] = grain(50 * seed, len(reader.memory[name]))
     reader.store(pages)
     reader.settings.update(level=5, size=2, baud=12, type=9, filled1=1, filled2=1)
+    reader.scores = [SCORES.get(page, 40) if page in pages else 0xFFFF for page in range(capacity)]
+    reader.thresholds = THRESHOLDS
     return reader
 
 
@@ -81,6 +89,11 @@ def with_buffer1(reader, byte):
     return reader
 
 
+def without_chip(reader):
+    reader.scores, reader.thresholds = [0] * len(reader.scores), [0] * 5
+    return reader
+
+
 PASSWORD = bytes((0, 0, 0, 5))
 READERS = {
     "fresh": Reader(64),
@@ -95,6 +108,9 @@ READERS = {
     "awaiting": with_buffer1(changed(filled(), size=3, transfer=1, filled1=0), 0),
     "halfway": in_transfer(size=3),
     "copied": changed(filled(), origin1=9, origin2=63),
+    "matched": changed(filled(), password=PASSWORD, verified=1, found=1),
+    "lenient": changed(filled(), level=4),
+    "zeros": without_chip(filled()),
 }
 
 
@@ -217,10 +233,15 @@ def frame(reader, run, received):
     if received:
         held, run = run[:half(run)], run[half(run):]
         op, receiver = b"\2", struct.pack(">H", len(held)) + held + grain(100, CELLS - len(held))
-    parts = [reader.memory[name] for name in MEMORY] + [run, ROOM]
+    parts = [reader.memory[name] for name in MEMORY] + [reader.scores, reader.thresholds] + [run, ROOM]
     settings = struct.pack(LAYOUT, *(reader.settings[name] for name in SETTINGS))
     lengths = b"".join(struct.pack(">I", len(part)) for part in parts)
-    return op + settings + lengths + receiver + b"".join(parts)
+    return op + settings + lengths + receiver + b"".join(map(in_frame, parts))
+
+
+def in_frame(part):
+    """A part as it stands in a frame: bytes as they are, a list's numbers in two bytes each."""
+    return part if isinstance(part, bytes) else struct.pack(f">{len(part)}H", *part)
 
 
 def take(answers, length):

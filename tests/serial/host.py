@@ -66,7 +66,7 @@ MANNERS = {
 
 # The commands that a locked reader bars.
 BARRED = [bytes.fromhex(text) for text in (
-    "06 01 0000", "07 01 0000", "08 01", "09 01", "0C 0000 0001", "0D", "0E 05 01", "0F", "12 00000000", "15 12345678",
+    "04 01 0000 0040", "06 01 0000", "07 01 0000", "08 01", "09 01", "0C 0000 0001", "0D", "0E 05 01", "0F", "12 00000000", "15 12345678",
     "18 00" + "41" * 32, "19 00", "1D", "1F 00")]
 
 
@@ -118,6 +118,23 @@ def index(pages):
     return sum(1 << page for page in pages).to_bytes(32, "little")
 
 
+def search(buffer, start, count):
+    return bytes([0x04, buffer]) + two_bytes(start) + two_bytes(count)
+
+
+def found(page):
+    """What Search lists of a page; the server's reader has no sensor chip, and every score is 0."""
+    return two_bytes(page) + two_bytes(0)
+
+
+NONE_FOUND = bytes(4)       # page 0, score 0
+
+
+def parameters(status):
+    """What ReadSysPara lists of a reader in which nothing was set."""
+    return two_bytes(status) + bytes.fromhex("0000 0040 0003 FFFFFFFF 0002 0006")
+
+
 def enrol(host, number):
     """All that is done with a template and a note, from an empty reader without a password back to one."""
     page = 9 * number + 5
@@ -127,7 +144,7 @@ def enrol(host, number):
     password = b"\xef\x01\x00" + bytes([number])
 
     host.ask("VfyPwd", b"\x13" + bytes(4))
-    host.ask("ReadSysPara", b"\x0f", 0, bytes.fromhex("0004 0000 0040 0003 FFFFFFFF 0002 0006"))
+    host.ask("ReadSysPara", b"\x0f", 0, parameters(4))
     host.ask("TempleteNum, none", b"\x1d", 0, two_bytes(0))
     host.ask("ReadIndexTable, none", b"\x1f\x00", 0, index([]))
     host.download(1, bytes(template))
@@ -136,6 +153,7 @@ def enrol(host, number):
     host.ask("ReadIndexTable, one", b"\x1f\x00", 0, index([page]))
     host.download(1, bytes(512))
     host.ask("Store, page stored", b"\x06\x01" + two_bytes(page), 0x22)
+    host.ask("Search", search(1, 0, 64), 0, found(page))
     host.ask("LoadChar", b"\x07\x02" + two_bytes(page))
     host.upload(2, bytes(template))
     host.ask("WriteNotepad", b"\x18" + bytes([number]) + note)
@@ -149,6 +167,7 @@ def enrol(host, number):
     host.ask("still locked", b"\x1d", 0x21)
     host.ask("right password", b"\x13" + password)
     host.ask("nothing is lost, TempleteNum", b"\x1d", 0, two_bytes(1))
+    host.ask("nothing is lost, ReadSysPara, found", b"\x0f", 0, parameters(6))
     host.ask("nothing is lost, ReadNotepad", b"\x19" + bytes([number]), 0, note)
     host.upload(2, bytes(template))
 
@@ -157,8 +176,35 @@ def enrol(host, number):
     host.ask("LoadChar, deleted", b"\x07\x01" + two_bytes(page), 0x0C)
     host.ask("TempleteNum, deleted", b"\x1d", 0, two_bytes(0))
     host.ask("ReadIndexTable, deleted", b"\x1f\x00", 0, index([]))
+    host.ask("Search, deleted", search(1, 0, 64), 0x09, NONE_FOUND)
     host.ask("SetPwd, none", b"\x12" + bytes(4))
     host.check_silent("at the end")
+
+
+def identify(host):
+    """Whose finger is it? It goes into a buffer, and Search tells the page. From an empty reader without a password back to one."""
+    finger = bytes(7 * i % 256 for i in range(512))
+    host.download(1, finger)
+    host.ask("Search, nothing stored", search(1, 0, 64), 0x09, NONE_FOUND)
+    for page in (40, 12, 63):
+        host.ask("Store", b"\x06\x01" + two_bytes(page))
+    host.ask("Search, the lowest of three", search(1, 0, 64), 0, found(12))
+    host.ask("ReadSysPara, found", b"\x0f", 0, parameters(2))
+    host.ask("Search, from the page itself on", search(1, 12, 1), 0, found(12))
+    host.ask("Search, the next", search(1, 13, 51), 0, found(40))
+    host.ask("Search, past the last page", search(1, 41, 65535), 0, found(63))
+    host.ask("Search, no such buffer", search(3, 0, 64), 0x01)
+    host.ask("Search, no such page", search(1, 64, 1), 0x0B)
+    host.ask("Search, buffer not filled", search(2, 0, 64), 0x0C)
+    host.ask("ReadSysPara, still found", b"\x0f", 0, parameters(2))
+    host.ask("Search, between the pages", search(1, 41, 22), 0x09, NONE_FOUND)
+    host.ask("ReadSysPara, not found", b"\x0f", 0, parameters(0))
+    host.ask("Search, no pages", search(1, 12, 0), 0x09, NONE_FOUND)
+    host.ask("Empty", b"\x0d")
+    host.ask("Search, the buffer is wiped with the pages", search(1, 0, 64), 0x0C)
+    host.download(1, finger)
+    host.ask("Search, emptied", search(1, 0, 64), 0x09, NONE_FOUND)
+    host.check_silent("after searching")
 
 
 def send_other(host, size, code):
@@ -208,6 +254,7 @@ def talk_over_link(host, link):
             host.open(name)
             host.use(manner)
             enrol(host, number)
+            identify(host)
             disturb(host)
             host.port.close()
         for manner in MANNERS:

@@ -6,9 +6,18 @@ use Prim.Native.Nat.{ℕ, _+_, _-_, _*_, _≤_, _<_}
 use lib.Dec.{eqb}
 use lib.ListN.{length}
 use Rattle.protocol.specs.Numbers.{holds}
+use Rattle.protocol.specs.Bytes.{zeros}
 use Rattle.protocol.specs.Call.{core, Lent}
 use Rattle.protocol.specs.Receiver.{bytesIn, Line, Handed, receiveOf}
 use Rattle.protocol.specs.Caller.{drained}
+use Rattle.protocol.specs.Records.{chipOf}
+
+-- what the program lends for want of a chip: a score of 0 for each of its 64 pages, and five thresholds of 0
+abbrev pub noScores : List ℕ
+noScores = zeros 64
+
+abbrev pub noThresholds : List ℕ
+noThresholds = zeros 5
 
 -- the last call: it took nothing, and left the held count as it was before
 abbrev pub isLast : ℕ → ℕ → ℕ → Bool
@@ -27,4 +36,4 @@ pub record Offered (x : Line) (piece : List ℕ) (lent : Lent) (o : Handed) : Ty
 
 -- the line at rest: document 01's call again and again on the held bytes and the piece joined
 abbrev pub Drained : Line → List ℕ → Line → Type 0
-Drained x piece y = y ≡ drained (x .reader) (bytesIn (x .receiver) ++ piece) .after
+Drained x piece y = y ≡ drained (chipOf noScores noThresholds) (x .reader) (bytesIn (x .receiver) ++ piece) .after

@@ -1,4 +1,4 @@
-// A reader with 64 zeroed pages on a line: packets come in by standard input, replies go out by standard output.
+// A reader with 64 zeroed pages and no chip on a line: packets come in by standard input, replies go out by standard output.
 mod offer;
 
 ghost use Prim.Native.Nat.{_≤_};
@@ -17,8 +17,8 @@ use protocol::numbers;
 use protocol::refusals;
 use rules::settings;
 
-// The bytes of 64 pages.
-const TEMPLATES: usize = 64 * numbers::PAGE;
+// The bytes of its pages.
+const TEMPLATES: usize = offer::PAGES * numbers::PAGE;
 
 // The bytes that are read at a time at most, as the boards hand them over.
 const PIECE: usize = 60;

@@ -2,12 +2,16 @@
 ghost use mathlib.Core.Path.{_≡_};
 ghost use Rattle.protocol.specs.Receiver.{line};
 ghost use Rattle.protocol.specs.Records.{readerOf, lentOf, receivedOf};
-ghost use Rattle.bench.specs.Offer.{Offered, isLast};
+ghost use Rattle.bench.specs.Offer.{noScores, noThresholds, Offered, isLast};
 use protocol::Received;
 use protocol::Receiver;
 use protocol::Settings;
+use protocol::numbers;
 
-// It takes no more than the piece and writes no more than the room; and a call that is not refused brings the end of the piece nearer, unless it
+// The pages of the reader.
+pub(crate) const PAGES: usize = 64;
+
+// There is no chip: all scores and thresholds are 0. It takes no more than the piece and writes no more than the room; and a call that is not refused brings the end of the piece nearer, unless it
 // is the last.
 pub(crate) fn offer(
     receiver: Receiver,
@@ -20,8 +24,10 @@ pub(crate) fn offer(
     piece: &[u8],
     reply: &mut [u8],
 ) -> Received
-    ensures { λ r. ⌜ Offered (line (readerOf settings (now (templates .entry)) (now (index .entry)) (now (notepad .entry)) (now (buffer1 .entry)) (now (buffer2 .entry))) receiver) (now (piece .entry)) (lentOf (now (reply .entry))) (receivedOf r (now (templates .exit)) (now (index .exit)) (now (notepad .exit)) (now (buffer1 .exit)) (now (buffer2 .exit)) (now (reply .exit))) ⌝ }
+    ensures { λ r. ⌜ Offered (line (readerOf settings (now (templates .entry)) (now (index .entry)) (now (notepad .entry)) (now (buffer1 .entry)) (now (buffer2 .entry))) receiver) (now (piece .entry)) (lentOf noScores noThresholds (now (reply .entry))) (receivedOf r (now (templates .exit)) (now (index .exit)) (now (notepad .exit)) (now (buffer1 .exit)) (now (buffer2 .exit)) (now (reply .exit))) ⌝ }
 {
+    let scores = [0u16; PAGES];
+    let thresholds = [0u16; numbers::LEVELS];
     receiver::receive(
         receiver,
         settings,
@@ -30,6 +36,8 @@ pub(crate) fn offer(
         notepad,
         buffer1,
         buffer2,
+        &scores,
+        &thresholds,
         piece,
         reply,
     )

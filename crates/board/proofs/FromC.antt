@@ -10,9 +10,9 @@ use lib.Dec.{eqb}
 use borrow.Author.Tests.{ne-eqb}
 use Rattle.protocol.specs.Numbers.{badLength, badRoom, badSetting}
 use Rattle.protocol.specs.Tests.{verdict}
-use Rattle.protocol.specs.Reader.{Reader, withMark, withTransfer, emptied}
+use Rattle.protocol.specs.Reader.{Reader, capacity, withMark, withTransfer, emptied}
 use Rattle.protocol.specs.Step.{hear, wiped, switched}
-use Rattle.protocol.specs.Call.{core, fitLengths, Lent, fitLent, Told, Ended, replyOf, refused, callOf, switchRefusal, switchAs, switchOf}
+use Rattle.protocol.specs.Call.{core, fitLengths, fitChip, fitRoom, Lent, Told, Ended, replyOf, refused, callOf, switchRefusal, switchAs, switchOf}
 use Rattle.protocol.proofs.Laws.Answers.{call-stays, switch-stays}
 use Rattle.protocol.proofs.Promises.OneResult.{OneReader, one-reader}
 use Rattle.protocol.proofs.Promises.SizeCode.{Denied, call-keeps, switch-keeps}
@@ -28,26 +28,23 @@ pub record Follows (e : Ended) (s : StoredEnd) : Type 0 where
   pub told : s .told ≡ e .told
   pub reader : s .after .reader ≡ e .after
 
-pub stored-fit : (spare : ℕ) (r : Reader) → fitMarks (stored spare r .marks) ≡ true
+pub stored-fit : (r : Reader) → fitMarks (stored r .marks) ≡ true
 unfolding stored fitMarks fitMark
-stored-fit spare r = go (r .plain .verified) (r .guarded .buffer1 .filled) (r .guarded .buffer2 .filled)
+stored-fit r = go (r .plain .verified) (r .guarded .buffer1 .filled) (r .guarded .buffer2 .filled) (r .guarded .found)
   where
-    go : (v f g : Bool) → fitMarks record { verified = markOf v; filled1 = markOf f; filled2 = markOf g; spare = spare } ≡ true
-    go true true true = refl
-    go true true false = refl
-    go true false true = refl
-    go true false false = refl
-    go false true true = refl
-    go false true false = refl
-    go false false true = refl
-    go false false false = refl
+    one : (b : Bool) → fitMark (markOf b) ≡ true
+    one true = refl
+    one false = refl
+
+    go : (v f g h : Bool) → fitMarks record { verified = markOf v; filled1 = markOf f; filled2 = markOf g; found = markOf h } ≡ true
+    go v f g h = rw (one v, one f, one g, one h) refl
 
 after-fit : (k : StoredReader) (e : Ended) → fitMarks (k .marks) ≡ true → fitMarks (storedAfter k e .after .marks) ≡ true
 unfolding storedAfter
 after-fit k e f = go (eqb (e .told .refusal) 0)
   where
-    go : (b : Bool) → fitMarks (cond b (stored (k .marks .spare) (e .after)) k .marks) ≡ true
-    go true = stored-fit (k .marks .spare) (e .after)
+    go : (b : Bool) → fitMarks (cond b (stored (e .after)) k .marks) ≡ true
+    go true = stored-fit (e .after)
     go false = f
 
 -- a refused call leaves the reader as it was
@@ -75,15 +72,17 @@ called-fitly k run lent f = after-fit k _ f
 pub called-unfit : (k : StoredReader) (run : List ℕ) (lent : Lent) → fitMarks (k .marks) ≡ false
     → (storedCallOf k run lent ≡ record { told = record { refusal = marksRefusal (k .reader) lent; used = 0; length = 0; room = lent .room }; after = k }) × (marksRefusal (k .reader) lent ≢ 0)
 unfolding storedCallOf storedAfter refused marksRefusal verdict
-called-unfit k run lent f = rw f (go (fitLengths core (k .reader .guarded)) (fitLent lent))
+called-unfit k run lent f = rw f (go (fitLengths core (k .reader .guarded)) (fitChip (capacity (k .reader .guarded)) (lent .chip)) (fitRoom (lent .room)))
   where
-    number : Bool → Bool → ℕ
-    number g h = verdict ((g, badLength) ∷ (h, badRoom) ∷ (false, badSetting) ∷ [])
+    number : Bool → Bool → Bool → ℕ
+    number g χ h = verdict ((g, badLength) ∷ (χ, badLength) ∷ (h, badRoom) ∷ (false, badSetting) ∷ [])
 
-    go : (g h : Bool) → (storedAfter k (refused (number g h) (k .reader) (lent .room)) ≡ record { told = record { refusal = number g h; used = 0; length = 0; room = lent .room }; after = k }) × (number g h ≢ 0)
-    go true true = (refl, λ e. absurd (omega (arith, e)))
-    go true false = (refl, λ e. absurd (omega (arith, e)))
-    go false h = (refl, λ e. absurd (omega (arith, e)))
+    go : (g χ h : Bool)
+        → (storedAfter k (refused (number g χ h) (k .reader) (lent .room)) ≡ record { told = record { refusal = number g χ h; used = 0; length = 0; room = lent .room }; after = k }) × (number g χ h ≢ 0)
+    go true true true = (refl, λ e. absurd (omega (arith, e)))
+    go true true false = (refl, λ e. absurd (omega (arith, e)))
+    go true false h = (refl, λ e. absurd (omega (arith, e)))
+    go false χ h = (refl, λ e. absurd (omega (arith, e)))
 
 -- any mark: the line switch is document 01's
 pub switched-any : (k : StoredReader) → Follows (switchOf (k .reader)) (storedSwitchOf k)
@@ -91,11 +90,11 @@ unfolding storedSwitchOf
 switched-any k = after-follows k (switchOf (k .reader)) (λ d. switch-stays (k .reader) d)
 
 -- and leaves marks of 0
-pub switched-clear : (k : StoredReader) → storedSwitchOf k .told .refusal ≡ 0 → storedSwitchOf k .after .marks ≡ record { verified = 0; filled1 = 0; filled2 = 0; spare = k .marks .spare }
+pub switched-clear : (k : StoredReader) → storedSwitchOf k .told .refusal ≡ 0 → storedSwitchOf k .after .marks ≡ record { verified = 0; filled1 = 0; filled2 = 0; found = 0 }
 unfolding storedSwitchOf storedAfter switchOf switchAs switched withTransfer withMark wiped emptied stored refused
 switched-clear k = go (switchRefusal (k .reader .guarded))
   where
-    go : (n : ℕ) → storedAfter k (switchAs (k .reader) n) .told .refusal ≡ 0 → storedAfter k (switchAs (k .reader) n) .after .marks ≡ record { verified = 0; filled1 = 0; filled2 = 0; spare = k .marks .spare }
+    go : (n : ℕ) → storedAfter k (switchAs (k .reader) n) .told .refusal ≡ 0 → storedAfter k (switchAs (k .reader) n) .after .marks ≡ record { verified = 0; filled1 = 0; filled2 = 0; found = 0 }
     go zero z = refl
     go (suc n) z = absurd (omega (arith, z))
 
@@ -139,7 +138,7 @@ one-stored s z t i n b c t′ i′ n′ b′ c′ e =
             verified = e j .marks .verified;
             filled1 = e j .marks .filled1;
             filled2 = e j .marks .filled2;
-            spare = e j .marks .spare;
+            found = e j .marks .found;
             origin1 = r .settings j .origin1;
             origin2 = r .settings j .origin2;
           },

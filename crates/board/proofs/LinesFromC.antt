@@ -51,8 +51,8 @@ pub received-fitly : (k : MarkedLine) (piece : List ℕ) (lent : Lent) → fitMa
 unfolding storedReceiveOf lineAfter
 received-fitly k piece lent f = rw f (go (eqb (receiveOf core (lineOf k) piece lent .told .refusal) 0))
   where
-    go : (b : Bool) → fitMarks (cond b (storedLine (k .reader .marks .spare) (receiveOf core (lineOf k) piece lent .after)) k .reader .marks) ≡ true
-    go true = stored-fit (k .reader .marks .spare) (receiveOf core (lineOf k) piece lent .after .reader)
+    go : (b : Bool) → fitMarks (cond b (storedLine (receiveOf core (lineOf k) piece lent .after)) k .reader .marks) ≡ true
+    go true = stored-fit (receiveOf core (lineOf k) piece lent .after .reader)
     go false = f
 
 -- any other mark: refusal 1, 2 or 3, and every byte stays, those held too
@@ -70,7 +70,7 @@ emptied-any k = after-follows k (lineSwitchOf (lineOf k)) (λ d. empty-stays (li
 
 -- and leaves marks of 0, and a receiver that holds nothing
 pub emptied-clear : (k : MarkedLine) → storedLineSwitchOf k .told .refusal ≡ 0
-    → (storedLineSwitchOf k .after .reader .marks ≡ record { verified = 0; filled1 = 0; filled2 = 0; spare = k .reader .marks .spare }) × (storedLineSwitchOf k .after .receiver ≡ holding [])
+    → (storedLineSwitchOf k .after .reader .marks ≡ record { verified = 0; filled1 = 0; filled2 = 0; found = 0 }) × (storedLineSwitchOf k .after .receiver ≡ holding [])
 unfolding storedLineSwitchOf lineAfter lineSwitchOf lineSwitchAs switchOf switchAs switched withTransfer withMark wiped emptied stored refused
 emptied-clear k = go (switchRefusal (k .reader .reader .guarded))
   where
@@ -78,7 +78,7 @@ emptied-clear k = go (switchRefusal (k .reader .reader .guarded))
     after n = let e = switchAs (k .reader .reader) n in lineAfter k (lineSwitchAs (lineOf k) e (e .told .refusal))
 
     go : (n : ℕ) → after n .told .refusal ≡ 0
-        → (after n .after .reader .marks ≡ record { verified = 0; filled1 = 0; filled2 = 0; spare = k .reader .marks .spare }) × (after n .after .receiver ≡ holding [])
+        → (after n .after .reader .marks ≡ record { verified = 0; filled1 = 0; filled2 = 0; found = 0 }) × (after n .after .receiver ≡ holding [])
     go zero z = (refl, refl)
     go (suc n) z = absurd (omega (arith, z))
 

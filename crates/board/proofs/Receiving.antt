@@ -13,7 +13,8 @@ use Rattle.protocol.specs.declared.Received.{Received}
 use Rattle.protocol.specs.declared.Emptied.{Emptied}
 use Rattle.protocol.specs.Numbers.{holds, badLength, badRoom, badSetting}
 use Rattle.protocol.specs.Tests.{verdict, within}
-use Rattle.protocol.specs.Call.{core, fitLengths, Lent, fitLent, fitPlain, sound, refused}
+use Rattle.protocol.specs.Reader.{capacity}
+use Rattle.protocol.specs.Call.{core, fitLengths, Lent, fitChip, fitRoom, fitPlain, sound, refused}
 use Rattle.protocol.specs.Receiver.{Line, line, Handed, declined, handed, receiveRefusal, receiveAs, receiveOf, lineSwitchOf}
 use Rattle.protocol.specs.Records.{readerOf, receivedOf, emptiedOf}
 use Rattle.protocol.proofs.Laws.Holding.{receive-kinds, switch-tells, switch-kinds}
@@ -43,7 +44,7 @@ after-kept : (x : StoredLine) (t i n b c : List ℕ) (z y : Settings) (h : Recei
 unfolding lineAfter
 after-kept x t i n b c z y h zero taken length t′ i′ n′ b′ c′ o′ same =
     ap (λ (k : StoredReader). record { told = record { refusal = 0; used = taken; length = length; room = o′ }; after = record { reader = k; receiver = h } })
-    (stored-read (x .settings .spare) y t′ i′ n′ b′ c′)
+    (stored-read y t′ i′ n′ b′ c′)
 after-kept x t i n b c z y h (suc k) taken length t′ i′ n′ b′ c′ o′ same =
     let d : suc k ≢ 0 = (λ e. absurd (omega (arith, e))) in
     rw (ne-eqb (suc k) 0 d)
@@ -71,30 +72,32 @@ module _ (x : StoredLine) (t i n b c piece : List ℕ) (lent : Lent) where
   abbrev was : Line
   was = made (settingsOf s)
 
-  abbrev refusal : Bool → Bool → ℕ
-  refusal f g = verdict ((f, badLength) ∷ (g, badRoom) ∷ (false, badSetting) ∷ [])
+  abbrev refusal : Bool → Bool → Bool → ℕ
+  refusal f χ g = verdict ((f, badLength) ∷ (χ, badLength) ∷ (g, badRoom) ∷ (false, badSetting) ∷ [])
 
   -- a level of 0 is refused just as a mark is that is not fit
   level-declined : receiveOf core (made (settingsAt 0 s)) piece lent ≡ declined (marksRefusal (was .reader) lent) (made (settingsAt 0 s)) (lent .room)
   unfolding receiveOf receiveAs receiveRefusal sound fitPlain within marksRefusal verdict
-  level-declined = go (fitLengths core (was .reader .guarded)) (fitLent lent) (leb (x .receiver .count) holds)
+  level-declined = go (fitLengths core (was .reader .guarded)) (fitChip (capacity (was .reader .guarded)) (lent .chip)) (fitRoom (lent .room)) (leb (x .receiver .count) holds)
     where
-      go : (f g h : Bool) → receiveAs core (made (settingsAt 0 s)) piece lent (verdict ((f, badLength) ∷ (g, badRoom) ∷ (false, badSetting) ∷ (h, badSetting) ∷ []))
-          ≡ declined (refusal f g) (made (settingsAt 0 s)) (lent .room)
-      go true true h = refl
-      go true false h = refl
-      go false g h = refl
+      go : (f χ g h : Bool) → receiveAs core (made (settingsAt 0 s)) piece lent (verdict ((f, badLength) ∷ (χ, badLength) ∷ (g, badRoom) ∷ (false, badSetting) ∷ (h, badSetting) ∷ []))
+          ≡ declined (refusal f χ g) (made (settingsAt 0 s)) (lent .room)
+      go true true true h = refl
+      go true true false h = refl
+      go true false g h = refl
+      go false χ g h = refl
 
   -- refused, the stored line stays, whatever was read of it
   declined-stays : (z : Settings)
       → lineAfter lies (declined (marksRefusal (was .reader) lent) (made z) (lent .room)) ≡ lineAfter lies (declined (marksRefusal (was .reader) lent) was (lent .room))
   unfolding lineAfter refused marksRefusal verdict
-  declined-stays z = go (fitLengths core (was .reader .guarded)) (fitLent lent)
+  declined-stays z = go (fitLengths core (was .reader .guarded)) (fitChip (capacity (was .reader .guarded)) (lent .chip)) (fitRoom (lent .room))
     where
-      go : (f g : Bool) → lineAfter lies (declined (refusal f g) (made z) (lent .room)) ≡ lineAfter lies (declined (refusal f g) was (lent .room))
-      go true true = refl
-      go true false = refl
-      go false g = refl
+      go : (f χ g : Bool) → lineAfter lies (declined (refusal f χ g) (made z) (lent .room)) ≡ lineAfter lies (declined (refusal f χ g) was (lent .room))
+      go true true true = refl
+      go true true false = refl
+      go true false g = refl
+      go false χ g = refl
 
   receive-stored : lineAfter lies (receiveOf core (made (settingsAt (cond (fitMarks (marksOf s)) (s .level) 0) s)) piece lent) ≡ storedReceiveOf lies piece lent
   unfolding storedReceiveOf

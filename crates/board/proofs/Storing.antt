@@ -11,8 +11,8 @@ use Rattle.protocol.specs.declared.Called.{Called}
 use Rattle.protocol.specs.declared.Switched.{Switched}
 use Rattle.protocol.specs.Numbers.{badLength, badRoom, badSetting}
 use Rattle.protocol.specs.Tests.{verdict, within}
-use Rattle.protocol.specs.Reader.{Reader}
-use Rattle.protocol.specs.Call.{core, fitLengths, Lent, fitLent, fitPlain, sound, Ended, refusalOf, refused, callAs, callOf, switchOf}
+use Rattle.protocol.specs.Reader.{Reader, capacity}
+use Rattle.protocol.specs.Call.{core, fitLengths, fitChip, fitRoom, Lent, fitPlain, sound, Ended, refusalOf, refused, callAs, callOf, switchOf}
 use Rattle.protocol.specs.Records.{readerOf, freshOf, endedOf, switchedOf}
 use Rattle.protocol.proofs.Laws.Answers.{call-stays, switch-stays}
 use Rattle.board.specs.declared.stored.StoredSettings.{StoredSettings}
@@ -25,13 +25,13 @@ mark-read : (on : Bool) → isSet (markOf on) ≡ on
 mark-read true = refl
 mark-read false = refl
 
-pub stored-read : (spare : ℕ) (s : Settings) (t i n b c : List ℕ) → storedReaderOf (storedAt spare s) t i n b c ≡ stored spare (readerOf s t i n b c)
+pub stored-read : (s : Settings) (t i n b c : List ℕ) → storedReaderOf (storedAt s) t i n b c ≡ stored (readerOf s t i n b c)
 unfolding stored
-stored-read spare s t i n b c =
-    ap (λ (m : Bool × (Bool × Bool)). record {
-      reader = readerOf record { password = s .password; address = s .address; level = s .level; size = s .size; baud = s .baud; transfer = s .transfer; sensor = s .sensor; got = s .got; verified = m .0; filled1 = m .1 .0; filled2 = m .1 .1; origin1 = s .origin1; origin2 = s .origin2 } t i n b c;
-      marks = marksOf (storedAt spare s);
-    }) (λ j. (mark-read (s .verified) j, (mark-read (s .filled1) j, mark-read (s .filled2) j)))
+stored-read s t i n b c =
+    ap (λ (m : Bool × (Bool × (Bool × Bool))). record {
+      reader = readerOf record { password = s .password; address = s .address; level = s .level; size = s .size; baud = s .baud; transfer = s .transfer; sensor = s .sensor; got = s .got; verified = m .0; filled1 = m .1 .0; filled2 = m .1 .1 .0; found = m .1 .1 .1; origin1 = s .origin1; origin2 = s .origin2 } t i n b c;
+      marks = marksOf (storedAt s);
+    }) (λ j. (mark-read (s .verified) j, (mark-read (s .filled1) j, (mark-read (s .filled2) j, mark-read (s .found) j))))
 
 -- ---- what lies there after a call: the old record where it was refused, else the new settings
 
@@ -41,7 +41,7 @@ after-kept : (s : StoredSettings) (t i n b c : List ℕ) (z y : Settings) (refus
     ≡ storedAfter (storedReaderOf s t i n b c) (endedOf record { settings = y; refusal = refusal; used = used; length = length } t′ i′ n′ b′ c′ o′)
 unfolding storedAfter
 after-kept s t i n b c z y zero used length t′ i′ n′ b′ c′ o′ same =
-    ap (λ (k : StoredReader). record { told = record { refusal = 0; used = used; length = length; room = o′ }; after = k }) (stored-read (s .spare) y t′ i′ n′ b′ c′)
+    ap (λ (k : StoredReader). record { told = record { refusal = 0; used = used; length = length; room = o′ }; after = k }) (stored-read y t′ i′ n′ b′ c′)
 after-kept s t i n b c z y (suc k) used length t′ i′ n′ b′ c′ o′ same =
     let d : suc k ≢ 0 = (λ e. absurd (omega (arith, e))) in
     rw (ne-eqb (suc k) 0 d)
@@ -63,28 +63,30 @@ module _ (s : StoredSettings) (t i n b c run : List ℕ) (lent : Lent) where
   abbrev was : Reader
   was = made (settingsOf s)
 
-  abbrev refusal : Bool → Bool → ℕ
-  refusal f g = verdict ((f, badLength) ∷ (g, badRoom) ∷ (false, badSetting) ∷ [])
+  abbrev refusal : Bool → Bool → Bool → ℕ
+  refusal f χ g = verdict ((f, badLength) ∷ (χ, badLength) ∷ (g, badRoom) ∷ (false, badSetting) ∷ [])
 
   -- a level of 0 is refused just as a mark is that is not fit
   level-refused : callOf core (made (settingsAt 0 s)) run lent ≡ refused (marksRefusal was lent) (made (settingsAt 0 s)) (lent .room)
   unfolding callOf callAs refusalOf sound fitPlain within marksRefusal verdict
-  level-refused = go (fitLengths core (was .guarded)) (fitLent lent)
+  level-refused = go (fitLengths core (was .guarded)) (fitChip (capacity (was .guarded)) (lent .chip)) (fitRoom (lent .room))
     where
-      go : (f g : Bool) → callAs (made (settingsAt 0 s)) run lent (refusal f g) ≡ refused (refusal f g) (made (settingsAt 0 s)) (lent .room)
-      go true true = refl
-      go true false = refl
-      go false g = refl
+      go : (f χ g : Bool) → callAs (made (settingsAt 0 s)) run lent (refusal f χ g) ≡ refused (refusal f χ g) (made (settingsAt 0 s)) (lent .room)
+      go true true true = refl
+      go true true false = refl
+      go true false g = refl
+      go false χ g = refl
 
   -- refused, the stored record stays, whatever was read of it
   refused-stays : (z : Settings) → storedAfter lies (refused (marksRefusal was lent) (made z) (lent .room)) ≡ storedAfter lies (refused (marksRefusal was lent) was (lent .room))
   unfolding storedAfter refused marksRefusal verdict
-  refused-stays z = go (fitLengths core (was .guarded)) (fitLent lent)
+  refused-stays z = go (fitLengths core (was .guarded)) (fitChip (capacity (was .guarded)) (lent .chip)) (fitRoom (lent .room))
     where
-      go : (f g : Bool) → storedAfter lies (refused (refusal f g) (made z) (lent .room)) ≡ storedAfter lies (refused (refusal f g) was (lent .room))
-      go true true = refl
-      go true false = refl
-      go false g = refl
+      go : (f χ g : Bool) → storedAfter lies (refused (refusal f χ g) (made z) (lent .room)) ≡ storedAfter lies (refused (refusal f χ g) was (lent .room))
+      go true true true = refl
+      go true true false = refl
+      go true false g = refl
+      go false χ g = refl
 
   call-stored : storedAfter lies (callOf core (made (settingsAt (cond (fitMarks (marksOf s)) (s .level) 0) s)) run lent) ≡ storedCallOf lies run lent
   unfolding storedCallOf
@@ -122,6 +124,6 @@ switched s z x a t i n b c b′ c′ p e q =
 
 -- ---- fresh settings
 
-pub freshly : (s : Settings) (a : StoredSettings) → ((t i n b c : List ℕ) → readerOf s t i n b c ≡ freshOf t i n b c) → a ≡ storedAt 0 s
+pub freshly : (s : Settings) (a : StoredSettings) → ((t i n b c : List ℕ) → readerOf s t i n b c ≡ freshOf t i n b c) → a ≡ storedAt s
     → (t i n b c : List ℕ) → storedReaderOf a t i n b c ≡ storedFreshOf t i n b c
-freshly s a e q t i n b c = ap (λ (y : StoredSettings). storedReaderOf y t i n b c) q ∙ stored-read 0 s t i n b c ∙ ap (stored 0) (e t i n b c)
+freshly s a e q t i n b c = ap (λ (y : StoredSettings). storedReaderOf y t i n b c) q ∙ stored-read s t i n b c ∙ ap stored (e t i n b c)

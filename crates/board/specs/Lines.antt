@@ -22,9 +22,9 @@ pub record MarkedLine : Type 0 where
 abbrev pub lineOf : MarkedLine → Line
 lineOf k = line (k .reader .reader) (k .receiver)
 
--- a line stored: its marks as 0 and 1, and this spare byte
-abbrev pub storedLine : ℕ → Line → MarkedLine
-storedLine spare x = record { reader = stored spare (x .reader); receiver = x .receiver }
+-- a line stored: its marks as 0 and 1
+abbrev pub storedLine : Line → MarkedLine
+storedLine x = record { reader = stored (x .reader); receiver = x .receiver }
 
 -- ---- a call, and the line switch
 
@@ -35,7 +35,7 @@ pub record MarkedEnd : Type 0 where
 
 -- refused, all lies as it lay; otherwise the new line is stored
 unfoldable pub lineAfter : MarkedLine → Handed → MarkedEnd
-lineAfter k e = record { told = e .told; after = cond (eqb (e .told .refusal) 0) (storedLine (k .reader .marks .spare) (e .after)) k }
+lineAfter k e = record { told = e .told; after = cond (eqb (e .told .refusal) 0) (storedLine (e .after)) k }
 
 -- a mark that is not fit is refused in document 01's order: 1, 2, and then 3
 unfoldable pub storedReceiveOf : MarkedLine → List ℕ → Lent → MarkedEnd

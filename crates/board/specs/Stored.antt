@@ -1,4 +1,4 @@
--- A reader as C stores it: its three marks are bytes, and any byte may lie there. A call and a line switch from C, over document 01's.
+-- A reader as C stores it: its four marks are bytes, and any byte may lie there. A call and a line switch from C, over document 01's.
 use mathlib.Core.Bool.{Bool, false, _&&_, cond}
 use mathlib.Core.List.{List, [], _∷_}
 use Prim.Native.Nat.{ℕ}
@@ -6,8 +6,8 @@ use lib.Dec.{eqb, ltb}
 use Rattle.protocol.specs.declared.Settings.{Settings}
 use Rattle.protocol.specs.Numbers.{badLength, badRoom, badSetting}
 use Rattle.protocol.specs.Tests.{verdict}
-use Rattle.protocol.specs.Reader.{Reader}
-use Rattle.protocol.specs.Call.{core, fitLengths, Lent, fitLent, Told, Ended, refused, callOf, switchOf}
+use Rattle.protocol.specs.Reader.{Reader, capacity}
+use Rattle.protocol.specs.Call.{core, fitLengths, fitChip, fitRoom, Lent, Told, Ended, refused, callOf, switchOf}
 use Rattle.protocol.specs.Records.{readerOf, freshOf}
 use Rattle.place.specs.declared.Answered.{Answered}
 use Rattle.board.specs.declared.stored.StoredSettings.{StoredSettings}
@@ -16,19 +16,19 @@ use Rattle.board.specs.declared.stored.StoredSwitched.{StoredSwitched}
 
 -- ---- marks as bytes
 
--- the bytes of a stored record that a reader does not have as they lie: the three marks, and one that is nobody's
+-- the bytes of a stored record that a reader does not have as they lie
 pub record Marks : Type 0 where
   pub verified : ℕ
   pub filled1 : ℕ
   pub filled2 : ℕ
-  pub spare : ℕ
+  pub found : ℕ
 
 -- 0 is clear and 1 is set; a mark of any other byte is a setting that is not legal
 unfoldable pub fitMark : ℕ → Bool
 fitMark m = ltb m 2
 
 unfoldable pub fitMarks : Marks → Bool
-fitMarks m = fitMark (m .verified) && fitMark (m .filled1) && fitMark (m .filled2)
+fitMarks m = fitMark (m .verified) && fitMark (m .filled1) && fitMark (m .filled2) && fitMark (m .found)
 
 abbrev pub isSet : ℕ → Bool
 isSet m = eqb m 1
@@ -58,6 +58,7 @@ settingsAt level s =
       verified = isSet (s .verified);
       filled1 = isSet (s .filled1);
       filled2 = isSet (s .filled2);
+      found = isSet (s .found);
       origin1 = s .origin1;
       origin2 = s .origin2;
     }
@@ -66,15 +67,15 @@ abbrev pub settingsOf : StoredSettings → Settings
 settingsOf s = settingsAt (s .level) s
 
 abbrev pub marksOf : StoredSettings → Marks
-marksOf s = record { verified = s .verified; filled1 = s .filled1; filled2 = s .filled2; spare = s .spare }
+marksOf s = record { verified = s .verified; filled1 = s .filled1; filled2 = s .filled2; found = s .found }
 
 -- settings, templates, index, notepad, both buffers
 abbrev pub storedReaderOf : StoredSettings → List ℕ → List ℕ → List ℕ → List ℕ → List ℕ → StoredReader
 storedReaderOf s t i n b c = record { reader = readerOf (settingsOf s) t i n b c; marks = marksOf s }
 
--- a reader stored: its marks as 0 and 1, and this spare byte
-unfoldable pub stored : ℕ → Reader → StoredReader
-stored spare r =
+-- a reader stored: its marks as 0 and 1
+unfoldable pub stored : Reader → StoredReader
+stored r =
     record {
       reader = r;
       marks =
@@ -82,13 +83,13 @@ stored spare r =
             verified = markOf (r .plain .verified);
             filled1 = markOf (r .guarded .buffer1 .filled);
             filled2 = markOf (r .guarded .buffer2 .filled);
-            spare = spare;
+            found = markOf (r .guarded .found);
           };
     }
 
--- fresh settings, and 0 as the spare byte
+-- fresh settings
 abbrev pub storedFreshOf : List ℕ → List ℕ → List ℕ → List ℕ → List ℕ → StoredReader
-storedFreshOf t i n b c = stored 0 (freshOf t i n b c)
+storedFreshOf t i n b c = stored (freshOf t i n b c)
 
 -- ---- a call, and the line switch
 
@@ -99,11 +100,13 @@ pub record StoredEnd : Type 0 where
 
 -- refused, all lies as it lay; otherwise the new reader is stored
 unfoldable pub storedAfter : StoredReader → Ended → StoredEnd
-storedAfter k e = record { told = e .told; after = cond (eqb (e .told .refusal) 0) (stored (k .marks .spare) (e .after)) k }
+storedAfter k e = record { told = e .told; after = cond (eqb (e .told .refusal) 0) (stored (e .after)) k }
 
 -- a mark that is not fit is refused in document 01's order: 1, 2, and then 3
 unfoldable pub marksRefusal : Reader → Lent → ℕ
-marksRefusal r lent = verdict ((fitLengths core (r .guarded), badLength) ∷ (fitLent lent, badRoom) ∷ (false, badSetting) ∷ [])
+marksRefusal r lent =
+    verdict
+    ((fitLengths core (r .guarded), badLength) ∷ (fitChip (capacity (r .guarded)) (lent .chip), badLength) ∷ (fitRoom (lent .room), badRoom) ∷ (false, badSetting) ∷ [])
 
 unfoldable pub storedCallOf : StoredReader → List ℕ → Lent → StoredEnd
 storedCallOf k run lent =

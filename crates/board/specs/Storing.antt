@@ -6,8 +6,8 @@ use Rattle.protocol.specs.declared.Settings.{Settings}
 use Rattle.board.specs.declared.stored.StoredSettings.{StoredSettings}
 use Rattle.board.specs.Stored.{markOf}
 
-abbrev pub storedAt : ℕ → Settings → StoredSettings
-storedAt spare s =
+abbrev pub storedAt : Settings → StoredSettings
+storedAt s =
     record {
       password = s .password;
       address = s .address;
@@ -20,11 +20,11 @@ storedAt spare s =
       verified = markOf (s .verified);
       filled1 = markOf (s .filled1);
       filled2 = markOf (s .filled2);
-      spare = spare;
+      found = markOf (s .found);
       origin1 = s .origin1;
       origin2 = s .origin2;
     }
 
 -- the old record where the call was refused
 abbrev pub keptOf : StoredSettings → Settings → ℕ → StoredSettings
-keptOf old new refusal = cond (eqb refusal 0) (storedAt (old .spare) new) old
+keptOf old new refusal = cond (eqb refusal 0) (storedAt new) old

@@ -89,10 +89,12 @@ pub extern "C" fn bystrodol_receive(
     notepad: &mut [u8],
     buffer1: &mut [u8],
     buffer2: &mut [u8],
+    scores: &[u16],
+    thresholds: &[u16],
     piece: &[u8],
     reply: &mut [u8],
 ) -> Taken
-    ensures { λ r. ⌜ storedReceivedOf (storedReceivedAt (now (line .exit)) r) (now (templates .exit)) (now (index .exit)) (now (notepad .exit)) (now (buffer1 .exit)) (now (buffer2 .exit)) (now (reply .exit)) ≡ storedReceiveOf (storedLineOf (now (line .entry)) (now (templates .entry)) (now (index .entry)) (now (notepad .entry)) (now (buffer1 .entry)) (now (buffer2 .entry))) (now (piece .entry)) (lentOf (now (reply .entry))) ⌝ }
+    ensures { λ r. ⌜ storedReceivedOf (storedReceivedAt (now (line .exit)) r) (now (templates .exit)) (now (index .exit)) (now (notepad .exit)) (now (buffer1 .exit)) (now (buffer2 .exit)) (now (reply .exit)) ≡ storedReceiveOf (storedLineOf (now (line .entry)) (now (templates .entry)) (now (index .entry)) (now (notepad .entry)) (now (buffer1 .entry)) (now (buffer2 .entry))) (now (piece .entry)) (lentOf (now (scores .entry)) (now (thresholds .entry)) (now (reply .entry))) ⌝ }
 {
     let received = lines::receive(
         *line,
@@ -101,6 +103,8 @@ pub extern "C" fn bystrodol_receive(
         notepad,
         buffer1,
         buffer2,
+        scores,
+        thresholds,
         piece,
         reply,
     );

@@ -37,10 +37,12 @@ pub fn receive(
     notepad: &mut [u8],
     buffer1: &mut [u8],
     buffer2: &mut [u8],
+    scores: &[u16],
+    thresholds: &[u16],
     piece: &[u8],
     reply: &mut [u8],
 ) -> StoredReceived
-    ensures { λ r. ⌜ storedReceivedOf r (now (templates .exit)) (now (index .exit)) (now (notepad .exit)) (now (buffer1 .exit)) (now (buffer2 .exit)) (now (reply .exit)) ≡ storedReceiveOf (storedLineOf line (now (templates .entry)) (now (index .entry)) (now (notepad .entry)) (now (buffer1 .entry)) (now (buffer2 .entry))) (now (piece .entry)) (lentOf (now (reply .entry))) ⌝ }
+    ensures { λ r. ⌜ storedReceivedOf r (now (templates .exit)) (now (index .exit)) (now (notepad .exit)) (now (buffer1 .exit)) (now (buffer2 .exit)) (now (reply .exit)) ≡ storedReceiveOf (storedLineOf line (now (templates .entry)) (now (index .entry)) (now (notepad .entry)) (now (buffer1 .entry)) (now (buffer2 .entry))) (now (piece .entry)) (lentOf (now (scores .entry)) (now (thresholds .entry)) (now (reply .entry))) ⌝ }
 {
     let settings = line.settings;
     let level = stored::level_of(settings);
@@ -52,6 +54,8 @@ pub fn receive(
         notepad,
         buffer1,
         buffer2,
+        scores,
+        thresholds,
         piece,
         reply,
     );

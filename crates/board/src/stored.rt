@@ -16,7 +16,7 @@ use wire::bytes;
 // A level that is not legal.
 const NO_LEVEL: u8 = 0;
 
-// The settings record of C, twenty-four bytes. A mark is 0 or 1; the spare byte is any, and is kept; an origin is a page, or FFFFh for none.
+// The settings record of C, twenty-four bytes. A mark is 0 or 1, and found is status bit 1's; an origin is a page, or FFFFh for none.
 #[repr(C)]
 pub struct StoredSettings {
     pub password: [u8; 4],
@@ -30,7 +30,7 @@ pub struct StoredSettings {
     pub verified: u8,
     pub filled1: u8,
     pub filled2: u8,
-    pub spare: u8,
+    pub found: u8,
     pub origin1: u16,
     pub origin2: u16,
 }
@@ -49,7 +49,7 @@ pub struct StoredSwitched {
     pub refusal: u8,
 }
 
-// Whether each mark is 0 or 1. The two take the same path, since filled marks are guarded.
+// Whether each mark is 0 or 1. The two take the same path, since the filled marks and status bit 1 are guarded.
 fn has_fit_marks(s: StoredSettings) -> bool
     ensures { λ r. ⌜ r ≡ fitMarks (marksOf s) ⌝ }
 {
@@ -59,7 +59,10 @@ fn has_fit_marks(s: StoredSettings) -> bool
     if 1 < s.filled1 {
         return false;
     }
-    s.filled2 < 2
+    if 1 < s.filled2 {
+        return false;
+    }
+    s.found < 2
 }
 
 // The level that the reader is handed: where a mark is not fit, one that is not legal. So the reader refuses such a mark, in its own order.
@@ -88,14 +91,15 @@ pub(crate) fn read(s: StoredSettings, level: u8) -> Settings
         verified: s.verified == 1,
         filled1: s.filled1 == 1,
         filled2: s.filled2 == 1,
+        found: s.found == 1,
         origin1: s.origin1,
         origin2: s.origin2,
     }
 }
 
 // The settings as C stores them.
-fn store(s: Settings, spare: u8) -> StoredSettings
-    ensures { λ r. ⌜ r ≡ storedAt spare s ⌝ }
+fn store(s: Settings) -> StoredSettings
+    ensures { λ r. ⌜ r ≡ storedAt s ⌝ }
 {
     let password = s.password;
     let address = s.address;
@@ -111,7 +115,7 @@ fn store(s: Settings, spare: u8) -> StoredSettings
         verified: bytes::flag(s.verified),
         filled1: bytes::flag(s.filled1),
         filled2: bytes::flag(s.filled2),
-        spare,
+        found: bytes::flag(s.found),
         origin1: s.origin1,
         origin2: s.origin2,
     }
@@ -124,7 +128,7 @@ pub(crate) fn keep(old: StoredSettings, new: Settings, refusal: u8) -> StoredSet
     if refusal != refusals::ACCEPTED {
         return old;
     }
-    store(new, old.spare)
+    store(new)
 }
 
 // A call of the reader.
@@ -135,10 +139,12 @@ pub fn step(
     notepad: &mut [u8],
     buffer1: &mut [u8],
     buffer2: &mut [u8],
+    scores: &[u16],
+    thresholds: &[u16],
     run: &[u8],
     reply: &mut [u8],
 ) -> StoredCalled
-    ensures { λ r. ⌜ storedEndOf r (now (templates .exit)) (now (index .exit)) (now (notepad .exit)) (now (buffer1 .exit)) (now (buffer2 .exit)) (now (reply .exit)) ≡ storedCallOf (storedReaderOf settings (now (templates .entry)) (now (index .entry)) (now (notepad .entry)) (now (buffer1 .entry)) (now (buffer2 .entry))) (now (run .entry)) (lentOf (now (reply .entry))) ⌝ }
+    ensures { λ r. ⌜ storedEndOf r (now (templates .exit)) (now (index .exit)) (now (notepad .exit)) (now (buffer1 .exit)) (now (buffer2 .exit)) (now (reply .exit)) ≡ storedCallOf (storedReaderOf settings (now (templates .entry)) (now (index .entry)) (now (notepad .entry)) (now (buffer1 .entry)) (now (buffer2 .entry))) (now (run .entry)) (lentOf (now (scores .entry)) (now (thresholds .entry)) (now (reply .entry))) ⌝ }
 {
     let level = level_of(settings);
     let called = call::step(
@@ -148,6 +154,8 @@ pub fn step(
         notepad,
         buffer1,
         buffer2,
+        scores,
+        thresholds,
         run,
         reply,
     );
@@ -180,5 +188,5 @@ pub fn line_switch(
 pub fn fresh() -> StoredSettings
     ensures { λ r. ⌜ ((t i n b c : List ℕ) → storedReaderOf r t i n b c ≡ storedFreshOf t i n b c) ⌝ }
 {
-    store(settings::fresh(), 0)
+    store(settings::fresh())
 }

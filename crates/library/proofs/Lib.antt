@@ -1,2 +1,3 @@
 pub mod Bits
 pub mod Parts
+pub mod Best

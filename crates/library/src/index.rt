@@ -12,7 +12,7 @@ use protocol::refusals;
 use wire::bytes;
 
 // A page's bit: shifted down and masked.
-fn bit_at(index: &[u8], p: usize) -> usize
+pub(crate) fn bit_at(index: &[u8], p: usize) -> usize
     requires { ⌜ p / 8 < length (now index) ⌝ }
     ensures { λ r. ⌜ r ≡ bit (byteAt (now (index .entry)) (p / 8)) (p % 8) ⌝ }
 {

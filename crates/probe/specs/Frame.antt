@@ -8,7 +8,7 @@ use Rattle.board.specs.declared.lines.StoredReceived.{StoredReceived}
 abbrev pub lengthAt : List ℕ → ℕ → ℕ
 lengthAt f i = wordAt f i * 65536 + wordAt f (i + 2)
 
--- password, address, level, size code, baud factor, transfer, sensor type, bytes got, verified mark, both filled marks, both origins; a mark is any byte
+-- password, address, level, size code, baud factor, transfer, sensor type, bytes got, verified mark, both filled marks, found mark, both origins; a mark is any byte
 abbrev pub settingsOf : List ℕ → StoredSettings
 settingsOf f =
     record {
@@ -23,9 +23,9 @@ settingsOf f =
       verified = byteAt f 17;
       filled1 = byteAt f 18;
       filled2 = byteAt f 19;
-      spare = 0;
-      origin1 = wordAt f 20;
-      origin2 = wordAt f 22;
+      found = byteAt f 20;
+      origin1 = wordAt f 21;
+      origin2 = wordAt f 23;
     }
 
 -- a number as its two bytes
@@ -42,5 +42,5 @@ headOf c =
     ∷ byteAt (s .address) 0 ∷ byteAt (s .address) 1 ∷ byteAt (s .address) 2 ∷ byteAt (s .address) 3
     ∷ s .level ∷ s .size ∷ s .baud ∷ s .transfer
     ∷ s .sensor / 256 ∷ s .sensor % 256 ∷ s .got / 256 ∷ s .got % 256
-    ∷ s .verified ∷ s .filled1 ∷ s .filled2
+    ∷ s .verified ∷ s .filled1 ∷ s .filled2 ∷ s .found
     ∷ s .origin1 / 256 ∷ s .origin1 % 256 ∷ s .origin2 / 256 ∷ s .origin2 % 256 ∷ []

@@ -1,5 +1,6 @@
 -- One call or one line switch, of the reader or of its receiver, fresh settings, or an index brought over, as C has them. What the reader alone ends at has a receiver beside it that
--- it leaves alone; a line switch, fresh settings and bringing over have a reply room that they leave alone.
+-- it leaves alone; a line switch, fresh settings and bringing over have a reply room that they leave alone,
+-- and do not look at scores and thresholds.
 use mathlib.Core.Bool.{cond}
 use mathlib.Core.List.{List, []}
 use Prim.Native.Nat.{ℕ}
@@ -7,7 +8,7 @@ use lib.Dec.{eqb}
 use Rattle.protocol.specs.declared.Receiver.{Receiver}
 use Rattle.protocol.specs.BringOver.{Brought, bringOver}
 use Rattle.protocol.specs.Reader.{Reader, withLibrary, reader}
-use Rattle.protocol.specs.Records.{lentOf}
+use Rattle.protocol.specs.Call.{Lent}
 use Rattle.board.specs.Stored.{StoredReader, StoredEnd, storedFreshOf, storedCallOf, storedSwitchOf}
 use Rattle.board.specs.Lines.{MarkedLine, MarkedEnd, storedReceiveOf, storedLineSwitchOf}
 
@@ -40,11 +41,11 @@ broughtIn k b =
           };
     }
 
-unfoldable pub onceOf : ℕ → MarkedLine → List ℕ → List ℕ → MarkedEnd
-onceOf op k run room =
-    cond (eqb op 0) (withReceiver (k .receiver) (storedCallOf (k .reader) run (lentOf room)))
-    (cond (eqb op 1) (withRoom room (withReceiver (k .receiver) (storedSwitchOf (k .reader))))
-    (cond (eqb op 2) (storedReceiveOf k run (lentOf room))
-    (cond (eqb op 3) (withRoom room (storedLineSwitchOf k))
-    (cond (eqb op 4) (withRoom room (withReceiver (k .receiver) (unmoved (freshened (k .reader .reader)))))
-    (withRoom room (broughtIn k (bringOver run (k .reader .reader .guarded .index))))))))
+unfoldable pub onceOf : ℕ → MarkedLine → List ℕ → Lent → MarkedEnd
+onceOf op k run lent =
+    cond (eqb op 0) (withReceiver (k .receiver) (storedCallOf (k .reader) run lent))
+    (cond (eqb op 1) (withRoom (lent .room) (withReceiver (k .receiver) (storedSwitchOf (k .reader))))
+    (cond (eqb op 2) (storedReceiveOf k run lent)
+    (cond (eqb op 3) (withRoom (lent .room) (storedLineSwitchOf k))
+    (cond (eqb op 4) (withRoom (lent .room) (withReceiver (k .receiver) (unmoved (freshened (k .reader .reader)))))
+    (withRoom (lent .room) (broughtIn k (bringOver run (k .reader .reader .guarded .index))))))))

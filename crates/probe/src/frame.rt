@@ -24,9 +24,9 @@ pub(crate) fn length_at(head: &[u8], at: usize) -> usize
     word_at(head, at) * 65536 + word_at(head, at + 2)
 }
 
-// The settings of a frame in, a mark as the byte that it is. A frame has no spare byte.
+// The settings of a frame in, a mark as the byte that it is.
 pub(crate) fn settings_of(head: &[u8]) -> StoredSettings
-    requires { ⌜ 24 ≤ length (now head) ⌝ }
+    requires { ⌜ 25 ≤ length (now head) ⌝ }
     ensures { λ r. ⌜ r ≡ settingsOf (now (head .entry)) ⌝ }
 {
     StoredSettings {
@@ -41,9 +41,9 @@ pub(crate) fn settings_of(head: &[u8]) -> StoredSettings
         verified: head[17],
         filled1: head[18],
         filled2: head[19],
-        spare: 0,
-        origin1: word_at(head, 20) as u16,
-        origin2: word_at(head, 22) as u16,
+        found: head[20],
+        origin1: word_at(head, 21) as u16,
+        origin2: word_at(head, 23) as u16,
     }
 }
 
@@ -55,7 +55,7 @@ pub(crate) fn word_of(n: u16) -> [u8; 2]
 }
 
 // The head of a frame out: the refusal, the bytes used or taken, the reply's length, and the settings.
-pub(crate) fn head_of(c: StoredReceived) -> [u8; 32]
+pub(crate) fn head_of(c: StoredReceived) -> [u8; 33]
     ensures { λ r. ⌜ r ≡ headOf c ⌝ }
 {
     let line = c.line;
@@ -95,6 +95,7 @@ pub(crate) fn head_of(c: StoredReceived) -> [u8; 32]
         s.verified,
         s.filled1,
         s.filled2,
+        s.found,
         first[0],
         first[1],
         second[0],

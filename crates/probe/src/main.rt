@@ -3,6 +3,7 @@
 mod frame;
 mod once;
 
+ghost use Prim.Native.Nat.{_≤_};
 use board::lines::StoredLine;
 use board::lines::StoredReceived;
 use board::stored::StoredSettings;
@@ -13,7 +14,7 @@ use protocol::Receiver;
 use protocol::numbers;
 
 // The bytes of a frame in before its receiver and its memory.
-const HEAD: usize = 52;
+const HEAD: usize = 61;
 
 // The most bytes of each memory, so that wrong lengths can be tried: a page more than the most pages, and room past the other lengths. What is refused says them.
 const MOST_TEMPLATES: usize = (numbers::MOST_PAGES + 1) * numbers::PAGE;
@@ -21,6 +22,10 @@ const MOST_TEMPLATES: usize = (numbers::MOST_PAGES + 1) * numbers::PAGE;
 const MOST_INDEX: usize = 2 * numbers::INDEX;
 
 const MOST_BYTES: usize = 2 * numbers::PAGE;
+
+const MOST_SCORES: usize = numbers::MOST_PAGES + 1;
+
+const MOST_THRESHOLDS: usize = 2 * numbers::LEVELS;
 
 // Writes a line to standard error, and returns false for its caller to return.
 fn complain(what: &[u8]) -> bool {
@@ -32,6 +37,27 @@ fn complain(what: &[u8]) -> bool {
 fn fill(part: &mut [u8]) -> bool {
     let got = io::read_full(STDIN_FILENO, part);
     got == part.len()
+}
+
+// Reads all numbers of a part through these bytes, two for each, and says whether it could.
+fn fill_words_by(part: &mut [u16], raw: &mut [u8]) -> bool {
+    let n = part.len();
+    if raw.len() / 2 < n {
+        return false;
+    }
+    let is_whole = fill(&mut raw[..2 * n]);
+    let mut i = 0;
+    while i < n {
+        part[i] = frame::word_at(raw, 2 * i) as u16;
+        i += 1;
+    }
+    is_whole
+}
+
+// Reads all numbers of a part, as many as the scores may be at most.
+fn fill_words(part: &mut [u16]) -> bool {
+    let mut raw = [0u8; 2 * MOST_SCORES];
+    fill_words_by(part, &mut raw)
 }
 
 // Writes all of a part, and says whether it could.
@@ -68,6 +94,8 @@ fn fill_all(
     notepad: &mut [u8],
     buffer1: &mut [u8],
     buffer2: &mut [u8],
+    scores: &mut [u16],
+    thresholds: &mut [u16],
     run: &mut [u8],
     reply: &mut [u8],
 ) -> bool {
@@ -77,9 +105,11 @@ fn fill_all(
     let n = fill(notepad);
     let b = fill(buffer1);
     let c = fill(buffer2);
+    let k = fill_words(scores);
+    let l = fill_words(thresholds);
     let s = fill(run);
     let r = fill(reply);
-    h && t && i && n && b && c && s && r
+    h && t && i && n && b && c && k && l && s && r
 }
 
 // Writes the receiver of a frame out that has one.
@@ -123,6 +153,8 @@ fn exchange(
     notepad: &mut [u8],
     buffer1: &mut [u8],
     buffer2: &mut [u8],
+    scores: &mut [u16],
+    thresholds: &mut [u16],
     run: &mut [u8],
     reply: &mut [u8],
 ) -> bool {
@@ -137,6 +169,8 @@ fn exchange(
         notepad,
         buffer1,
         buffer2,
+        scores,
+        thresholds,
         run,
         reply,
     );
@@ -155,6 +189,8 @@ fn exchange(
         notepad,
         buffer1,
         buffer2,
+        scores,
+        thresholds,
         run,
         reply,
     );
@@ -166,6 +202,39 @@ fn exchange(
         notepad,
         buffer1,
         buffer2,
+        reply,
+    )
+}
+
+// The same, with room for k scores and l thresholds.
+fn exchange_with(
+    op: u8,
+    settings: StoredSettings,
+    templates: &mut [u8],
+    index: &mut [u8],
+    notepad: &mut [u8],
+    buffer1: &mut [u8],
+    buffer2: &mut [u8],
+    k: usize,
+    l: usize,
+    run: &mut [u8],
+    reply: &mut [u8],
+) -> bool
+    requires { ⌜ (k ≤ 1001) × (l ≤ 10) ⌝ }
+{
+    let mut scores = [0u16; MOST_SCORES];
+    let mut thresholds = [0u16; MOST_THRESHOLDS];
+    exchange(
+        op,
+        settings,
+        templates,
+        index,
+        notepad,
+        buffer1,
+        buffer2,
+        &mut scores[..k],
+        &mut thresholds[..l],
+        run,
         reply,
     )
 }
@@ -192,13 +261,15 @@ fn answer(
     if 5 < op {
         return complain(b"probe: a frame starts with 0, 1, 2, 3, 4 or 5\n");
     }
-    let t = frame::length_at(head, 24);
-    let i = frame::length_at(head, 28);
-    let n = frame::length_at(head, 32);
-    let b = frame::length_at(head, 36);
-    let c = frame::length_at(head, 40);
-    let s = frame::length_at(head, 44);
-    let r = frame::length_at(head, 48);
+    let t = frame::length_at(head, 25);
+    let i = frame::length_at(head, 29);
+    let n = frame::length_at(head, 33);
+    let b = frame::length_at(head, 37);
+    let c = frame::length_at(head, 41);
+    let k = frame::length_at(head, 45);
+    let l = frame::length_at(head, 49);
+    let s = frame::length_at(head, 53);
+    let r = frame::length_at(head, 57);
     if templates.len() < t {
         return complain(b"probe: more than 512512 bytes of templates, 1001 pages\n");
     }
@@ -214,13 +285,19 @@ fn answer(
     if buffer2.len() < c {
         return complain(b"probe: more than 1024 bytes of buffer 2\n");
     }
+    if MOST_SCORES < k {
+        return complain(b"probe: more than 1001 scores\n");
+    }
+    if MOST_THRESHOLDS < l {
+        return complain(b"probe: more than 10 thresholds\n");
+    }
     if run.len() < s {
         return complain(b"probe: more than 4096 bytes of run\n");
     }
     if reply.len() < r {
         return complain(b"probe: more than 4096 bytes of reply room\n");
     }
-    exchange(
+    exchange_with(
         op,
         frame::settings_of(head),
         &mut templates[..t],
@@ -228,6 +305,8 @@ fn answer(
         &mut notepad[..n],
         &mut buffer1[..b],
         &mut buffer2[..c],
+        k,
+        l,
         &mut run[..s],
         &mut reply[..r],
     )

@@ -1,5 +1,6 @@
 // One call or one line switch, of the reader or of its receiver, fresh settings, or an index brought over, with the results that C gets.
 ghost use mathlib.Core.Path.{_≡_};
+ghost use Rattle.protocol.specs.Records.{lentOf};
 ghost use Rattle.board.specs.Lines.{storedLineOf, storedReceivedOf};
 ghost use Rattle.probe.specs.Once.{onceOf};
 use board::lines;
@@ -18,10 +19,12 @@ pub(crate) fn once(
     notepad: &mut [u8],
     buffer1: &mut [u8],
     buffer2: &mut [u8],
+    scores: &[u16],
+    thresholds: &[u16],
     run: &[u8],
     reply: &mut [u8],
 ) -> StoredReceived
-    ensures { λ r. ⌜ storedReceivedOf r (now (templates .exit)) (now (index .exit)) (now (notepad .exit)) (now (buffer1 .exit)) (now (buffer2 .exit)) (now (reply .exit)) ≡ onceOf op (storedLineOf line (now (templates .entry)) (now (index .entry)) (now (notepad .entry)) (now (buffer1 .entry)) (now (buffer2 .entry))) (now (run .entry)) (now (reply .entry)) ⌝ }
+    ensures { λ r. ⌜ storedReceivedOf r (now (templates .exit)) (now (index .exit)) (now (notepad .exit)) (now (buffer1 .exit)) (now (buffer2 .exit)) (now (reply .exit)) ≡ onceOf op (storedLineOf line (now (templates .entry)) (now (index .entry)) (now (notepad .entry)) (now (buffer1 .entry)) (now (buffer2 .entry))) (now (run .entry)) (lentOf (now (scores .entry)) (now (thresholds .entry)) (now (reply .entry))) ⌝ }
 {
     let settings = line.settings;
     let receiver = line.receiver;
@@ -33,6 +36,8 @@ pub(crate) fn once(
             notepad,
             buffer1,
             buffer2,
+            scores,
+            thresholds,
             run,
             reply,
         );
@@ -68,6 +73,8 @@ pub(crate) fn once(
             notepad,
             buffer1,
             buffer2,
+            scores,
+            thresholds,
             run,
             reply,
         );

@@ -17,3 +17,4 @@ pub mod Drain
 pub mod Holding
 pub mod History
 pub mod Sizes
+pub mod Best

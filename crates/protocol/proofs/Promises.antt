@@ -29,6 +29,7 @@ pub mod Thousand
 pub mod BroughtOver
 pub mod DeletedFinger
 pub mod Faithful
+pub mod Searches
 pub mod SizeCode
 pub mod FirstDownload
 pub mod Lock

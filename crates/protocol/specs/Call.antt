@@ -5,11 +5,12 @@ use mathlib.Core.List.{List, [], _∷_}
 use Prim.Native.Nat.{ℕ, zero, suc, _*_, _%_}
 use lib.Dec.{eqb, ltb, leb}
 use lib.ListN.{length, take}
-use Rattle.protocol.specs.Numbers.{pageBytes, leastPages, mostPages, indexBytes, notepadBytes, fourBytes, replyRoom, lowestLevel, highestLevel, lowestBaud, highestBaud, highestSize, badLength, badRoom, badSetting}
+use Rattle.protocol.specs.Numbers.{pageBytes, leastPages, mostPages, indexBytes, notepadBytes, fourBytes, replyRoom, levels, lowestLevel, highestLevel, lowestBaud, highestBaud, highestSize, badLength, badRoom, badSetting}
 use Rattle.protocol.specs.Bytes.{Bytes, lay}
 use Rattle.protocol.specs.Tests.{verdict, within}
 use Rattle.protocol.specs.Index.{stored, clearFrom}
 use Rattle.protocol.specs.Reader.{Transfer, closed, opened, unfit, Plain, Origin, noOrigin, fromPage, Guarded, Reader, capacity, sizeOf, locked, bufferOf}
+use Rattle.protocol.specs.Search.{Chip}
 use Rattle.protocol.specs.Step.{Outcome, stepOf, switched}
 
 -- ---- legal readers
@@ -42,6 +43,13 @@ fitBuffers g = buffersFit (length (g .buffer1 .bytes)) (length (g .buffer2 .byte
 unfoldable pub fitLengths : Shape → Guarded → Bool
 fitLengths σ g = fitLibrary σ g && fitBuffers g
 
+-- 1: "scores not C long or thresholds not five", by request [8]; of c pages, and the two lengths as numbers
+abbrev pub chipFits : ℕ → ℕ → ℕ → Bool
+chipFits c s t = eqb s c && eqb t levels
+
+unfoldable pub fitChip : ℕ → Chip → Bool
+fitChip c χ = chipFits c (length (χ .scores)) (length (χ .thresholds))
+
 -- 2: the reply room
 unfoldable pub fitRoom : List ℕ → Bool
 fitRoom room = leb replyRoom (length room)
@@ -69,7 +77,7 @@ unfoldable pub sound : Reader → Bool
 sound r =
     fitPlain (r .plain) && fitTransfer (r .plain) (r .guarded) (r .plain .transfer) && clearFrom (r .guarded .index) (capacity (r .guarded)) && fitOrigins (r .guarded)
 
--- a legal reader gets none of refusals 1 to 3 where its reply room is fit
+-- a legal reader gets none of refusals 1 to 3 where what is lent anew is fit
 unfoldable pub legal : Shape → Reader → Bool
 legal σ r = fitLengths σ (r .guarded) && sound r
 
@@ -81,12 +89,14 @@ pub record Typed (r : Reader) : Type 0 where
 
 -- ---- a call
 
--- what is lent anew at each call: the reply room
+-- what is lent anew at each call: the chip's scores and thresholds, which no call writes, and the reply room
 pub record Lent : Type 0 where
+  pub chip : Chip
   pub room : List ℕ
 
-abbrev pub fitLent : Lent → Bool
-fitLent lent = fitRoom (lent .room)
+-- is it fit for a reader of c pages?
+abbrev pub fitLent : ℕ → Lent → Bool
+fitLent c lent = fitChip c (lent .chip) && fitRoom (lent .room)
 
 -- what a caller gets back: the refusal or 0, the bytes used, the reply's length, and its reply room
 pub record Told : Type 0 where
@@ -105,7 +115,9 @@ replyOf t = take (t .length) (t .room)
 
 -- order: 1, 2, 3
 unfoldable pub refusalOf : Shape → Reader → Lent → ℕ
-refusalOf σ r lent = verdict ((fitLengths σ (r .guarded), badLength) ∷ (fitLent lent, badRoom) ∷ (sound r, badSetting) ∷ [])
+refusalOf σ r lent =
+    let g = r .guarded in
+    verdict ((fitLengths σ g, badLength) ∷ (fitChip (capacity g) (lent .chip), badLength) ∷ (fitRoom (lent .room), badRoom) ∷ (sound r, badSetting) ∷ [])
 
 -- 0 bytes used, reply length 0; settings and memory unchanged
 unfoldable pub refused : ℕ → Reader → List ℕ → Ended
@@ -116,7 +128,7 @@ unfoldable pub carried : Outcome → List ℕ → Ended
 carried o room = record { told = record { refusal = 0; used = o .used; length = length (o .reply); room = lay 0 (o .reply) room }; after = o .after }
 
 unfoldable pub callAs : Reader → List ℕ → Lent → ℕ → Ended
-callAs r s lent zero = carried (stepOf r s) (lent .room)
+callAs r s lent zero = carried (stepOf (lent .chip) r s) (lent .room)
 callAs r s lent (suc k) = refused (suc k) r (lent .room)
 
 unfoldable pub callOf : Shape → Reader → List ℕ → Lent → Ended

@@ -8,6 +8,7 @@ use lib.Dec.{eqb}
 use lib.ListN.{length, take, drop}
 use Rattle.protocol.specs.Finder.{findOf, usedOf}
 use Rattle.protocol.specs.Reader.{Reader}
+use Rattle.protocol.specs.Search.{Chip}
 use Rattle.protocol.specs.Step.{stepOf}
 use Rattle.protocol.specs.Call.{Shape, Lent, Told, replyOf}
 use Rattle.protocol.specs.Dialogue.{Event, received, switch}
@@ -15,10 +16,14 @@ use Rattle.protocol.specs.Receiver.{bytesIn, holding, Line, line, Handed
 
 -- ---- "the caller offers the rest, then an empty piece"
 
--- one of its calls: how many bytes it offers of those left, and what it lends
+-- one of its calls: how many bytes it offers of those left, and the reply room that it lends. Scores and thresholds are the same at every call: a Search sees
+-- those of the call that deals with it
 pub record Try : Type 0 where
   pub size : ℕ
-  pub lent : Lent
+  pub room : List ℕ
+
+abbrev pub lending : Chip → List ℕ → Lent
+lending χ room = record { chip = χ; room = room }
 
 -- what some calls did: the replies in order, the line after them, and the bytes of the run that are left
 pub record Ran : Type 0 where
@@ -32,18 +37,18 @@ replied [] d = d
 replied (b ∷ a) d = record { replies = (b ∷ a) ∷ d .replies; after = d .after; left = d .left }
 
 -- a run offered: any way to cut it, to offer a rest again, or to offer nothing
-unfoldable pub offers : Shape → List Try → Line → List ℕ → Ran
-offers σ [] x s = record { replies = []; after = x; left = s }
-offers σ (t ∷ ts) x s =
-    let o = receiveOf σ x (take (t .size) s) (t .lent) in
-    replied (replyOf (o .told)) (offers σ ts (o .after) (drop (o .told .used) s))
+unfoldable pub offers : Shape → Chip → List Try → Line → List ℕ → Ran
+offers σ χ [] x s = record { replies = []; after = x; left = s }
+offers σ χ (t ∷ ts) x s =
+    let o = receiveOf σ x (take (t .size) s) (lending χ (t .room)) in
+    replied (replyOf (o .told)) (offers σ χ ts (o .after) (drop (o .told .used) s))
 
 -- "no call is refused"
-unfoldable pub served : Shape → List Try → Line → List ℕ → Bool
-served σ [] x s = true
-served σ (t ∷ ts) x s =
-    let o = receiveOf σ x (take (t .size) s) (t .lent) in
-    eqb (o .told .refusal) 0 && served σ ts (o .after) (drop (o .told .used) s)
+unfoldable pub served : Shape → Chip → List Try → Line → List ℕ → Bool
+served σ χ [] x s = true
+served σ χ (t ∷ ts) x s =
+    let o = receiveOf σ x (take (t .size) s) (lending χ (t .room)) in
+    eqb (o .told .refusal) 0 && served σ χ ts (o .after) (drop (o .told .used) s)
 
 -- "until a call takes nothing, answers nothing and leaves the held bytes as they are": all of the run is taken, and this call, of an empty
 -- piece, is such a one
@@ -63,15 +68,15 @@ resting σ d lent = record { replies = d .replies; after = receiveOf σ (d .afte
 unfoldable pub atRest : Reader → List ℕ → Ran
 atRest r s = record { replies = []; after = line r (holding s); left = [] }
 
-unfoldable pub drain : ℕ → Reader → List ℕ → Ran
-drain zero r s = atRest r s
-drain (suc n) r s =
+unfoldable pub drain : Chip → ℕ → Reader → List ℕ → Ran
+drain χ zero r s = atRest r s
+drain χ (suc n) r s =
     cond (eqb (usedOf (findOf s)) 0) (atRest r s)
-    (replied (stepOf r s .reply) (drain n (stepOf r s .after) (drop (usedOf (findOf s)) s)))
+    (replied (stepOf χ r s .reply) (drain χ n (stepOf χ r s .after) (drop (usedOf (findOf s)) s)))
 
 -- a call that uses something uses at least one byte
-unfoldable pub drained : Reader → List ℕ → Ran
-drained r s = drain (length s) r s
+unfoldable pub drained : Chip → Reader → List ℕ → Ran
+drained χ r s = drain χ (length s) r s
 
 -- ---- sequences of pieces and line switches; an event's run is a piece here
 

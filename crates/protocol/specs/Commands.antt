@@ -1,4 +1,4 @@
--- The sixteen commands: document 01's table, left half. Each code fixes its length field, and says where its parameters lie in the content.
+-- The seventeen commands: document 01's table, left half, and request [8]'s Search. Each code fixes its length field, and says where its parameters lie in the content.
 use mathlib.Core.Bool.{Bool, cond}
 use mathlib.Core.List.{List, [], _∷_}
 use Prim.Native.Nat.{ℕ}
@@ -14,6 +14,7 @@ pub data Free : Type 0 where
 
 -- and answers these by 21h
 pub data Barred : Type 0 where
+  searchFor : ℕ → ℕ → ℕ → Barred
   store : ℕ → ℕ → Barred
   loadChar : ℕ → ℕ → Barred
   upChar : ℕ → Barred
@@ -42,10 +43,11 @@ pub record Entry : Type 0 where
 abbrev pub row : ℕ → ℕ → (List ℕ → Command) → Entry
 row k n f = record { code = k; len = n; read = f }
 
--- Page and N are two bytes each, other parameters one byte, passwords and addresses four. The code is byte 0 of the content.
+-- Page, N, start and count are two bytes each, other parameters one byte, passwords and addresses four. The code is byte 0 of the content.
 unfoldable pub commands : List Entry
 commands =
-    row 0x06 6 (λ c. barred (store (byteAt c 1) (wordAt c 2)))
+    row 0x04 8 (λ c. barred (searchFor (byteAt c 1) (wordAt c 2) (wordAt c 4)))
+    ∷ row 0x06 6 (λ c. barred (store (byteAt c 1) (wordAt c 2)))
     ∷ row 0x07 6 (λ c. barred (loadChar (byteAt c 1) (wordAt c 2)))
     ∷ row 0x08 4 (λ c. barred (upChar (byteAt c 1)))
     ∷ row 0x09 4 (λ c. barred (downChar (byteAt c 1)))

@@ -1,5 +1,6 @@
 -- Sequences of calls and line switches: the dialogue up to the first accepted password, and the library's history as its host saw it.
 use mathlib.Core.Bool.{Bool, false, _&&_, _||_, not, cond}
+use mathlib.Core.Path.{_≡_}
 use mathlib.Core.List.{List, [], _∷_, _++_}
 use Prim.Native.Nat.{ℕ}
 use lib.Dec.{eqb}
@@ -11,10 +12,10 @@ use Rattle.protocol.specs.Tests.{among}
 use Rattle.protocol.specs.Packet.{addressAt}
 use Rattle.protocol.specs.Finder.{findOf}
 use Rattle.protocol.specs.Reader.{Guarded, Reader}
-use Rattle.protocol.specs.Commands.{free, barred, Barred, store, loadChar, upChar, downChar, deletChar, empty, setSysPara, readSysPara, setPassword, setAddress, writeNotepad, readNotepad, templeteNum, readIndexTable, damaged, unknown, misfit, command}
+use Rattle.protocol.specs.Commands.{free, barred, Barred, searchFor, store, loadChar, upChar, downChar, deletChar, empty, setSysPara, readSysPara, setPassword, setAddress, writeNotepad, readNotepad, templeteNum, readIndexTable, damaged, unknown, misfit, command}
 use Rattle.protocol.specs.Data.{acknowledge}
 use Rattle.protocol.specs.Step.{Heard, nothing, order, piece, hear, wiped}
-use Rattle.protocol.specs.Call.{Shape, Lent, Told, Ended, replyOf, callOf, switchOf}
+use Rattle.protocol.specs.Call.{Shape, Lent, fitChip, Told, Ended, replyOf, callOf, switchOf}
 
 pub data Event : Type 0 where
   -- a run, and what is lent with it
@@ -51,11 +52,22 @@ dialogue σ r (e ∷ es) =
     first e (o .told) (cond (o .after .plain .verified) (over (o .after)) (dialogue σ (o .after) es))
 
 -- these contents stay as they were, save that a line switch wipes the two buffers and clears their filled marks; by request [7] their origins are among these
--- contents, and a line switch makes them none
+-- contents, and a line switch makes them none; and by request [8] status bit 1 is, which a line switch clears
 unfoldable pub kept : Guarded → List Event → Guarded
 kept g [] = g
 kept g (received s lent ∷ es) = kept g es
 kept g (switch ∷ es) = kept (wiped g) es
+
+-- the same runs and line switches, and the same reply rooms. By request [8] scores and thresholds differ at will at each call: of a reader of c pages their
+-- lengths are fit at both or at neither, where both are refused
+abbrev pub Paired : ℕ → List Event → List Event → Type 0
+Paired c [] [] = Unit {0}
+Paired c [] (f ∷ fs) = ⊥
+Paired c (e ∷ es) [] = ⊥
+Paired c (received s l ∷ es) (received t m ∷ fs) = (s ≡ t) × ((l .room ≡ m .room) × ((fitChip c (l .chip) ≡ fitChip c (m .chip)) × Paired c es fs))
+Paired c (received s l ∷ es) (switch ∷ fs) = ⊥
+Paired c (switch ∷ es) (received t m ∷ fs) = ⊥
+Paired c (switch ∷ es) (switch ∷ fs) = Paired c es fs
 
 -- ---- history: what a host asked for, and was answered by 00h
 
@@ -76,6 +88,7 @@ pub data Act : Type 0 where
   cutAll : Act
 
 unfoldable pub actsOf : Barred → List Act
+actsOf (searchFor b p n) = []
 actsOf (store b p) = put p ∷ []
 actsOf (loadChar b p) = []
 actsOf (upChar b) = []

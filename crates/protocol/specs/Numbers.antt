@@ -39,6 +39,10 @@ noteBytes = 32
 abbrev pub replyRoom : ℕ
 replyRoom = 700
 
+-- the thresholds: one for each level (request [8])
+abbrev pub levels : ℕ
+levels = 5
+
 -- a password, and an address
 abbrev pub fourBytes : ℕ
 fourBytes = 4
@@ -91,9 +95,12 @@ levelParameter = 5
 abbrev pub sizeParameter : ℕ
 sizeParameter = 6
 
--- the status word of a verified reader
+-- the bits of the status word: verified; and, by request [8], a Search found a page
 abbrev pub verifiedStatus : ℕ
 verifiedStatus = 4
+
+abbrev pub foundStatus : ℕ
+foundStatus = 2
 
 -- ---- packets
 
@@ -148,6 +155,10 @@ done = 0x00
 -- a damaged packet, a wrong length, or no such buffer
 abbrev pub badPacket : ℕ
 badPacket = 0x01
+
+-- Search found none (request [8])
+abbrev pub notFound : ℕ
+notFound = 0x09
 
 abbrev pub badPage : ℕ
 badPage = 0x0b

@@ -13,7 +13,7 @@ pub data Transfer : Type 0 where
   -- two numbers of a settings record that name no buffer
   unfit : ℕ → ℕ → Transfer
 
--- the settings, but for the filled marks and the origins
+-- the settings, but for the filled marks, the origins and status bit 1
 pub record Plain : Type 0 where
   pub password : List ℕ
   pub address : List ℕ
@@ -35,13 +35,14 @@ pub record Buffer : Type 0 where
   pub filled : Bool
   pub origin : Origin
 
--- guarded contents: templates, index, notepad, both buffers, their filled marks and their origins
+-- guarded contents: templates, index, notepad, both buffers, their filled marks and their origins; and, by request [8], status bit 1: a Search found a page
 pub record Guarded : Type 0 where
   pub templates : List ℕ
   pub index : List ℕ
   pub notepad : List ℕ
   pub buffer1 : Buffer
   pub buffer2 : Buffer
+  pub found : Bool
 
 pub record Reader : Type 0 where
   pub plain : Plain
@@ -108,21 +109,25 @@ withAddress a p = settings (p .password) a (p .level) (p .size) (p .baud) (p .se
 unfoldable pub withTuning : ℕ → ℕ → ℕ → Plain → Plain
 withTuning b l z p = settings (p .password) (p .address) l z b (p .sensor) (p .verified) (p .transfer)
 
-abbrev pub contents : List ℕ → List ℕ → List ℕ → Buffer → Buffer → Guarded
-contents t i n b c = record { templates = t; index = i; notepad = n; buffer1 = b; buffer2 = c }
+abbrev pub contents : List ℕ → List ℕ → List ℕ → Buffer → Buffer → Bool → Guarded
+contents t i n b c f = record { templates = t; index = i; notepad = n; buffer1 = b; buffer2 = c; found = f }
 
 unfoldable pub withLibrary : List ℕ → List ℕ → Guarded → Guarded
-withLibrary t i g = contents t i (g .notepad) (g .buffer1) (g .buffer2)
+withLibrary t i g = contents t i (g .notepad) (g .buffer1) (g .buffer2) (g .found)
 
 unfoldable pub withNotepad : List ℕ → Guarded → Guarded
-withNotepad n g = contents (g .templates) (g .index) n (g .buffer1) (g .buffer2)
+withNotepad n g = contents (g .templates) (g .index) n (g .buffer1) (g .buffer2) (g .found)
 
 unfoldable pub withBuffer : Bool → Buffer → Guarded → Guarded
-withBuffer second b g = contents (g .templates) (g .index) (g .notepad) (cond second (g .buffer1) b) (cond second b (g .buffer2))
+withBuffer second b g = contents (g .templates) (g .index) (g .notepad) (cond second (g .buffer1) b) (cond second b (g .buffer2)) (g .found)
 
 -- both buffers, once these pages are deleted
 unfoldable pub withoutPages : (ℕ → Bool) → Guarded → Guarded
-withoutPages pages g = contents (g .templates) (g .index) (g .notepad) (without pages (g .buffer1)) (without pages (g .buffer2))
+withoutPages pages g = contents (g .templates) (g .index) (g .notepad) (without pages (g .buffer1)) (without pages (g .buffer2)) (g .found)
+
+-- status bit 1 as this
+unfoldable pub withFound : Bool → Guarded → Guarded
+withFound f g = contents (g .templates) (g .index) (g .notepad) (g .buffer1) (g .buffer2) f
 
 abbrev pub reader : Plain → Guarded → Reader
 reader p g = record { plain = p; guarded = g }
@@ -133,4 +138,4 @@ unfoldable pub fresh : Plain
 fresh = settings (four freshPassword) (four freshAddress) freshLevel freshSize freshBaud freshSensor false closed
 
 unfoldable pub zeroed : ℕ → ℕ → ℕ → Guarded
-zeroed pages indexed noted = contents (zeros (pageBytes * pages)) (zeros indexed) (zeros noted) emptied emptied
+zeroed pages indexed noted = contents (zeros (pageBytes * pages)) (zeros indexed) (zeros noted) emptied emptied false

@@ -7,8 +7,8 @@ use Rattle.protocol.specs.declared.Receiver.{Receiver}
 use Rattle.protocol.specs.Numbers.{holds, badLength, badRoom, badSetting}
 use Rattle.protocol.specs.Bytes.{zeros, lay}
 use Rattle.protocol.specs.Tests.{verdict}
-use Rattle.protocol.specs.Reader.{Reader}
-use Rattle.protocol.specs.Call.{Shape, fitLengths, Lent, fitLent, sound, Told, Ended, refused, callOf, switchOf}
+use Rattle.protocol.specs.Reader.{Reader, capacity}
+use Rattle.protocol.specs.Call.{Shape, fitLengths, fitChip, fitRoom, Lent, sound, Told, Ended, refused, callOf, switchOf}
 
 -- ---- "a receiver that holds up to 265 bytes between calls"; by request [3] "up to 267"
 
@@ -54,8 +54,10 @@ handed h piece e =
 -- document 01's order: 1, 2, 3
 unfoldable pub receiveRefusal : Shape → Line → Lent → ℕ
 receiveRefusal σ x lent =
+    let g = x .reader .guarded in
     verdict
-    ((fitLengths σ (x .reader .guarded), badLength) ∷ (fitLent lent, badRoom) ∷ (sound (x .reader), badSetting) ∷ (leb (x .receiver .count) holds, badSetting) ∷ [])
+    ((fitLengths σ g, badLength) ∷ (fitChip (capacity g) (lent .chip), badLength) ∷ (fitRoom (lent .room), badRoom) ∷ (sound (x .reader), badSetting)
+    ∷ (leb (x .receiver .count) holds, badSetting) ∷ [])
 
 abbrev pub declined : ℕ → Line → List ℕ → Handed
 declined k x room = record { told = refused k (x .reader) room .told; after = x }

@@ -13,6 +13,7 @@ use Rattle.protocol.specs.Numbers.{noPage}
 use Rattle.protocol.specs.Packet.{Made}
 use Rattle.protocol.specs.BringOver.{Brought}
 use Rattle.protocol.specs.Reader.{Transfer, closed, opened, unfit, Plain, Origin, noOrigin, fromPage, Buffer, Reader, settings, fresh, contents, reader}
+use Rattle.protocol.specs.Search.{Chip}
 use Rattle.protocol.specs.Call.{Lent, Ended}
 use Rattle.protocol.specs.Receiver.{line, Handed}
 
@@ -38,11 +39,15 @@ buffer b f o = record { bytes = b; filled = f; origin = originOf o }
 
 -- settings, templates, index, notepad, both buffers
 abbrev pub readerOf : Settings → List ℕ → List ℕ → List ℕ → List ℕ → List ℕ → Reader
-readerOf s t i n b c = reader (plainOf s) (contents t i n (buffer b (s .filled1) (s .origin1)) (buffer c (s .filled2) (s .origin2)))
+readerOf s t i n b c =
+    reader (plainOf s) (contents t i n (buffer b (s .filled1) (s .origin1)) (buffer c (s .filled2) (s .origin2)) (s .found))
 
--- what is lent anew at a call: the reply room
-abbrev pub lentOf : List ℕ → Lent
-lentOf room = record { room = room }
+-- what is lent anew at a call: scores and thresholds; and the reply room
+abbrev pub chipOf : List ℕ → List ℕ → Chip
+chipOf scores thresholds = record { scores = scores; thresholds = thresholds }
+
+abbrev pub lentOf : List ℕ → List ℕ → List ℕ → Lent
+lentOf scores thresholds room = record { chip = chipOf scores thresholds; room = room }
 
 -- what a call returned, and the lent memory and the reply room after it
 abbrev pub endedOf : Called → List ℕ → List ℕ → List ℕ → List ℕ → List ℕ → List ℕ → Ended
@@ -73,9 +78,9 @@ emptiedOf s t i n b d =
       after = line (readerOf (s .settings) t i n b d) (s .receiver);
     }
 
--- fresh settings have their filled marks clear too, and no origins
+-- fresh settings have their filled marks and status bit 1 clear too, and no origins
 abbrev pub freshOf : List ℕ → List ℕ → List ℕ → List ℕ → List ℕ → Reader
-freshOf t i n b d = reader fresh (contents t i n (buffer b false noPage) (buffer d false noPage))
+freshOf t i n b d = reader fresh (contents t i n (buffer b false noPage) (buffer d false noPage) false)
 
 abbrev pub madeOf : Built → List ℕ → Made
 madeOf b room = record { refusal = b .refusal; length = b .length; room = room }

@@ -6,7 +6,7 @@ use lib.Dec.{eqb, ltb}
 use lib.ListN.{length}
 use Rattle.protocol.specs.declared.Found.{Found}
 use Rattle.protocol.specs.declared.Found.the-variants.{Noise, Unfinished, Unfit, Whole}
-use Rattle.protocol.specs.Numbers.{pageBytes, commandPacket, acknowledgePacket, lastPacket, done, badPacket, transferFailed, unknownCommand, passwordFirst}
+use Rattle.protocol.specs.Numbers.{pageBytes, commandPacket, acknowledgePacket, lastPacket, badPacket, transferFailed, unknownCommand, passwordFirst}
 use Rattle.protocol.specs.Bytes.{same, lay, follow}
 use Rattle.protocol.specs.Tests.{verdict}
 use Rattle.protocol.specs.Packet.{addressAt, identifierAt, contentAt, rightAt}
@@ -14,6 +14,7 @@ use Rattle.protocol.specs.Finder.{findOf, usedOf}
 use Rattle.protocol.specs.Reader.{Transfer, closed, opened, unfit, Plain, Buffer, Guarded, Reader, sizeOf, locked, bufferOf, emptied, withMark, withTransfer, withBuffer, contents, reader}
 use Rattle.protocol.specs.Commands.{Command, free, barred, Order, damaged, unknown, misfit, command, orderOf}
 use Rattle.protocol.specs.Data.{acknowledge}
+use Rattle.protocol.specs.Search.{Chip}
 use Rattle.protocol.specs.Table.{Row, rule, apply, FreeRow, freeRule, publicOf}
 
 -- ---- hearing: what a run says to the reader of an address
@@ -54,11 +55,11 @@ silence r = record { reply = []; after = r }
 unfoldable pub says : Reader → ℕ → Said
 says r code = record { reply = acknowledge (r .plain .address) code []; after = r }
 
--- a row whose tests gave a code: 00h is carried out, with the address that the reader then has; any other changes nothing
+-- a row whose tests gave a code: 00h is carried out, with the row's own code and the address that the reader then has; any other changes nothing
 unfoldable pub carryAs : Reader → Row → ℕ → Said
 carryAs r w zero =
     let t = apply (w .effect) r in
-    record { reply = follow (acknowledge (t .plain .address) done (w .bytes)) (w .behind); after = t }
+    record { reply = follow (acknowledge (t .plain .address) (w .code) (w .bytes)) (w .behind); after = t }
 carryAs r w (suc k) = says r (suc k)
 
 unfoldable pub carry : Reader → Row → Said
@@ -68,16 +69,16 @@ carry r w = carryAs r w (verdict (w .tests))
 unfoldable pub carryFree : Reader → FreeRow → Said
 carryFree r w = record { reply = acknowledge (w .plain .address) (w .code) (w .bytes); after = reader (w .plain) (r .guarded) }
 
-unfoldable pub obey : Reader → Command → Said
-obey r (free c) = carryFree r (freeRule (publicOf r) c)
-obey r (barred c) = cond (locked (r .plain)) (says r passwordFirst) (carry r (rule r c))
+unfoldable pub obey : Chip → Reader → Command → Said
+obey χ r (free c) = carryFree r (freeRule (publicOf r) c)
+obey χ r (barred c) = cond (locked (r .plain)) (says r passwordFirst) (carry r (rule χ r c))
 
 -- sum wrong 01h; unknown code 19h; wrong length 01h; then the lock and the row
-unfoldable pub heed : Reader → Order → Said
-heed r damaged = says r badPacket
-heed r unknown = says r unknownCommand
-heed r misfit = says r badPacket
-heed r (command c) = obey r c
+unfoldable pub heed : Chip → Reader → Order → Said
+heed χ r damaged = says r badPacket
+heed χ r unknown = says r unknownCommand
+heed χ r misfit = says r badPacket
+heed χ r (command c) = obey χ r c
 
 -- an open transfer ended: its buffer is zeroed
 unfoldable pub ended : Reader → Transfer → Reader
@@ -113,10 +114,10 @@ takeIn r last right content (opened w got) = takeAs r w got content (fits (r .pl
 takeIn r last right content (unfit b k) = silence r
 
 -- 5. nothing for us: silent, nothing changes; 6. identifier 1 ends an open transfer, then the order; 7. identifier 2 or 8
-unfoldable pub answer : Reader → Heard → Said
-answer r nothing = silence r
-answer r (order o) = heed (rested r) o
-answer r (piece last right content) = takeIn r last right content (r .plain .transfer)
+unfoldable pub answer : Chip → Reader → Heard → Said
+answer χ r nothing = silence r
+answer χ r (order o) = heed χ (rested r) o
+answer χ r (piece last right content) = takeIn r last right content (r .plain .transfer)
 
 -- the bytes used, the reply, and the reader after it
 pub record Outcome : Type 0 where
@@ -124,15 +125,15 @@ pub record Outcome : Type 0 where
   pub reply : List ℕ
   pub after : Reader
 
-unfoldable pub stepOf : Reader → List ℕ → Outcome
-stepOf r s =
-    let a = answer r (hear (r .plain .address) s) in
+unfoldable pub stepOf : Chip → Reader → List ℕ → Outcome
+stepOf χ r s =
+    let a = answer χ r (hear (r .plain .address) s) in
     record { used = usedOf (findOf s); reply = a .reply; after = a .after }
 
--- ---- the line switch: verified mark and filled marks cleared, transfer closed, both buffers zeroed, their origins none
+-- ---- the line switch: verified mark, filled marks and status bit 1 cleared, transfer closed, both buffers zeroed, their origins none
 
 unfoldable pub wiped : Guarded → Guarded
-wiped g = contents (g .templates) (g .index) (g .notepad) emptied emptied
+wiped g = contents (g .templates) (g .index) (g .notepad) emptied emptied false
 
 unfoldable pub switched : Reader → Reader
 switched r = reader (withTransfer closed (withMark false (r .plain))) (wiped (r .guarded))

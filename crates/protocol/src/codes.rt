@@ -3,6 +3,8 @@ pub const DONE: u8 = 0x00;
 
 pub const BAD_PACKET: u8 = 0x01;
 
+pub const NOT_FOUND: u8 = 0x09;
+
 pub const BAD_PAGE: u8 = 0x0B;
 
 pub const NOTHING_THERE: u8 = 0x0C;

@@ -19,7 +19,7 @@ pub enum Found {
 }
 
 // A reader's settings. The transfer is two numbers: its buffer, 1 or 2, and the bytes got so far; no transfer is 0 and 0. The origin of a buffer
-// is the number of a page, or FFFFh for none.
+// is the number of a page, or FFFFh for none. Found is status bit 1: a Search found a page.
 #[repr(C)]
 pub struct Settings {
     pub password: [u8; 4],
@@ -33,8 +33,16 @@ pub struct Settings {
     pub verified: bool,
     pub filled1: bool,
     pub filled2: bool,
+    pub found: bool,
     pub origin1: u16,
     pub origin2: u16,
+}
+
+// What Search finds (request [8]): a page and its score; none is page 0 with the score 0.
+pub struct Match {
+    pub found: bool,
+    pub page: u16,
+    pub score: u16,
 }
 
 // What a call of the reader returns: the settings after it, the refusal or 0, the bytes used, and the reply's length.

@@ -19,6 +19,9 @@ pub const NOTEPAD: usize = 512;
 
 pub const NOTE: usize = 32;
 
+// The thresholds: one for each level (request [8]).
+pub const LEVELS: usize = 5;
+
 // The reply room at least.
 pub const REPLY_ROOM: usize = 700;
 

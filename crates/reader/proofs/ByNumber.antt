@@ -51,30 +51,30 @@ module _ (n : ℕ) (f : List ℕ → List ℕ) (b c x : List ℕ) where
   unfolding changed
   first-changed e g = rw (ne-eqb _ _ e, g) refl
 
-module _ (f : List ℕ → List ℕ) (t i n b c : List ℕ) (u v : Bool) (o q : ℕ) where
+module _ (f : List ℕ → List ℕ) (t i n b c : List ℕ) (u v : Bool) (o q : ℕ) (z : Bool) where
   held-at : (on : Bool) (a : ℕ) (w : Bool)
-      → contents t i n (buffer (cond w b (f b)) (cond w u on) (cond w o a)) (buffer (cond w (f c) c) (cond w on v) (cond w a q))
-      ≡ withBuffer w (buffer (f (cond w c b)) on a) (contents t i n (buffer b u o) (buffer c v q))
+      → contents t i n (buffer (cond w b (f b)) (cond w u on) (cond w o a)) (buffer (cond w (f c) c) (cond w on v) (cond w a q)) z
+      ≡ withBuffer w (buffer (f (cond w c b)) on a) (contents t i n (buffer b u o) (buffer c v q) z)
   unfolding withBuffer
   held-at on a true = refl
   held-at on a false = refl
 
   same-at : (on : Bool) (a : ℕ) (w : Bool)
-      → contents t i n (buffer b (cond w u on) (cond w o a)) (buffer c (cond w on v) (cond w a q)) ≡ withBuffer w (buffer (cond w c b) on a) (contents t i n (buffer b u o) (buffer c v q))
+      → contents t i n (buffer b (cond w u on) (cond w o a)) (buffer c (cond w on v) (cond w a q)) z ≡ withBuffer w (buffer (cond w c b) on a) (contents t i n (buffer b u o) (buffer c v q) z)
   unfolding withBuffer
   same-at on a true = refl
   same-at on a false = refl
 
   marked-at : (on w : Bool)
-      → contents t i n (buffer (cond w b (f b)) (cond w u on) o) (buffer (cond w (f c) c) (cond w on v) q)
-      ≡ withBuffer w (buffer (f (cond w c b)) on (cond w q o)) (contents t i n (buffer b u o) (buffer c v q))
+      → contents t i n (buffer (cond w b (f b)) (cond w u on) o) (buffer (cond w (f c) c) (cond w on v) q) z
+      ≡ withBuffer w (buffer (f (cond w c b)) on (cond w q o)) (contents t i n (buffer b u o) (buffer c v q) z)
   unfolding withBuffer
   marked-at on true = refl
   marked-at on false = refl
 
   kept-at : (w : Bool)
-      → contents t i n (buffer (cond w b (f b)) u o) (buffer (cond w (f c) c) v q)
-      ≡ withBuffer w (buffer (f (cond w c b)) (cond w v u) (cond w q o)) (contents t i n (buffer b u o) (buffer c v q))
+      → contents t i n (buffer (cond w b (f b)) u o) (buffer (cond w (f c) c) v q) z
+      ≡ withBuffer w (buffer (f (cond w c b)) (cond w v u) (cond w q o)) (contents t i n (buffer b u o) (buffer c v q) z)
   unfolding withBuffer
   kept-at true = refl
   kept-at false = refl
@@ -82,7 +82,7 @@ module _ (f : List ℕ → List ℕ) (t i n b c : List ℕ) (u v : Bool) (o q : 
 -- neither changed, and the mark and the origin of one
 pub held : (k : ℕ) (on : Bool) (a : ℕ) (s : Settings) (t i n b c : List ℕ)
     → readerOf (withHeld k on a s) t i n b c .guarded ≡ withBuffer (eqb k 2) (buffer (chosenOf k b c) on a) (readerOf s t i n b c .guarded)
-held k on a s t i n b c = same-at (λ x. x) t i n b c (s .filled1) (s .filled2) (s .origin1) (s .origin2) on a (eqb k 2)
+held k on a s t i n b c = same-at (λ x. x) t i n b c (s .filled1) (s .filled2) (s .origin1) (s .origin2) (s .found) on a (eqb k 2)
 
 module _ (k : ℕ) (f : List ℕ → List ℕ) (s : Settings) (t i n b c x y : List ℕ) (e : buffers x y ≡ changed k f b c) where
   first-is : x ≡ cond (eqb k 2) b (f b)
@@ -96,18 +96,18 @@ module _ (k : ℕ) (f : List ℕ → List ℕ) (s : Settings) (t i n b c x y : L
   -- and its mark set or cleared, and another origin
   pub changed-held : (on : Bool) (a : ℕ)
       → readerOf (withHeld k on a s) t i n x y .guarded ≡ withBuffer (eqb k 2) (buffer (f (chosenOf k b c)) on a) (readerOf s t i n b c .guarded)
-  changed-held on a = rw (first-is, second-is) (held-at f t i n b c (s .filled1) (s .filled2) (s .origin1) (s .origin2) on a (eqb k 2))
+  changed-held on a = rw (first-is, second-is) (held-at f t i n b c (s .filled1) (s .filled2) (s .origin1) (s .origin2) (s .found) on a (eqb k 2))
 
   -- and its mark set or cleared
   pub changed-marked : (on : Bool)
       → readerOf (withFill k on s) t i n x y .guarded
       ≡ withBuffer (eqb k 2) (buffer (f (chosenOf k b c)) on (cond (eqb k 2) (s .origin2) (s .origin1))) (readerOf s t i n b c .guarded)
-  changed-marked on = rw (first-is, second-is) (marked-at f t i n b c (s .filled1) (s .filled2) (s .origin1) (s .origin2) on (eqb k 2))
+  changed-marked on = rw (first-is, second-is) (marked-at f t i n b c (s .filled1) (s .filled2) (s .origin1) (s .origin2) (s .found) on (eqb k 2))
 
   -- and its mark as it was
   pub changed-kept : readerOf s t i n x y .guarded
       ≡ withBuffer (eqb k 2) (buffer (f (chosenOf k b c)) (cond (eqb k 2) (s .filled2) (s .filled1)) (cond (eqb k 2) (s .origin2) (s .origin1))) (readerOf s t i n b c .guarded)
-  changed-kept = rw (first-is, second-is) (kept-at f t i n b c (s .filled1) (s .filled2) (s .origin1) (s .origin2) (eqb k 2))
+  changed-kept = rw (first-is, second-is) (kept-at f t i n b c (s .filled1) (s .filled2) (s .origin1) (s .origin2) (s .found) (eqb k 2))
 
 -- one of them wiped
 pub emptied-one : (k : ℕ) (s : Settings) (t i n b c x y : List ℕ) → buffers x y ≡ changed k (λ (z : List ℕ). zeros (length z)) b c → length b ≡ pageBytes
@@ -127,15 +127,15 @@ wiped k w j s o q t i n b c x y f g e l m =
 
 -- ---- the tests that a command with a buffer starts with
 
-module _ (s : Settings) (t i m b c : List ℕ) (a : Answer) (n : ℕ) (known : Bool) (k : known ≡ isBuffer n) (ts : List Test) (x y : List ℕ) (e : Effect) where
+module _ (s : Settings) (t i m b c : List ℕ) (a : Answer) (n : ℕ) (known : Bool) (k : known ≡ isBuffer n) (ts : List Test) (j : ℕ) (x y : List ℕ) (e : Effect) where
   pub no-buffer : a ≡ codeAlone badPacket s → not known ≡ true
-      → saidOf a t i m b c ≡ carry (readerOf s t i m b c) record { tests = (isBuffer n, badPacket) ∷ ts; bytes = x; behind = y; effect = e }
+      → saidOf a t i m b c ≡ carry (readerOf s t i m b c) record { tests = (isBuffer n, badPacket) ∷ ts; code = j; bytes = x; behind = y; effect = e }
   unfolding carry carryAs verdict says follow sent
   no-buffer f g = rw (f, ← k, not-true known g)
 
   pub no-page : (p : ℕ) → a ≡ codeAlone badPage s → not known ≡ false → length t / pageBytes ≤ p
       → saidOf a t i m b c
       ≡ carry (readerOf s t i m b c)
-      record { tests = (isBuffer n, badPacket) ∷ (ltb p (capacity (readerOf s t i m b c .guarded)), badPage) ∷ ts; bytes = x; behind = y; effect = e }
+      record { tests = (isBuffer n, badPacket) ∷ (ltb p (capacity (readerOf s t i m b c .guarded)), badPage) ∷ ts; code = j; bytes = x; behind = y; effect = e }
   unfolding carry carryAs verdict capacity says follow sent
   no-page p f g h = rw (f, ← k, not-false known g, le-ltb _ _ h)

@@ -1,6 +1,6 @@
 -- A call's definitions at each way out, and what passed refusals say.
 use mathlib.Core.Path.{_≡_, refl, sym, ap, _∙_, subst}
-use mathlib.Core.Bool.{Bool, true, false}
+use mathlib.Core.Bool.{Bool, true, false, true≢false, _&&_}
 use mathlib.Core.Logic.{_⊎_, inl, inr}
 use mathlib.Core.List.{List, [], _∷_}
 use Prim.Native.Nat.{ℕ, _+_, _-_, _*_, _/_, _%_, _≤_, _<_}
@@ -20,9 +20,9 @@ use Rattle.protocol.specs.Tests.{within, verdict}
 use Rattle.protocol.specs.Packet.{addressAt, identifierAt, rightAt}
 use Rattle.protocol.specs.Finder.{findOf, usedOf}
 use Rattle.protocol.specs.Reader.{Guarded, Reader, capacity}
+use Rattle.protocol.specs.Search.{Chip}
 use Rattle.protocol.specs.Step.{nothing, hearAs, hearAt, hear, Said, silence, answer, stepOf}
-use Rattle.protocol.specs.Call.{core, fitLibrary, fitBuffers, fitLengths, fitRoom, sound, refusalOf, refused, carried, callAs, callOf}
-use Rattle.protocol.specs.Records.{lentOf}
+use Rattle.protocol.specs.Call.{core, fitLibrary, fitBuffers, fitLengths, fitChip, fitRoom, Lent, sound, refusalOf, refused, carried, callAs, callOf}
 use Rattle.protocol.proofs.Laws.Logic.{T→true, and-l, and-r}
 use Rattle.protocol.proofs.Laws.Lists.{lay-nothing}
 use Rattle.protocol.proofs.Laws.Finder.{Within, found-in, used-in, accepts-least, accepts-most, longest-word}
@@ -43,9 +43,9 @@ pub hear-other : (a s : List ℕ) (p n : ℕ) → same (addressAt s p) a ≡ fal
 unfolding hearAt
 hear-other a s p n e = rw e refl
 
-pub carried-silence : (u : ℕ) (r : Reader) (y : List ℕ) → carriedOf u (answer r nothing) y ≡ record { told = record { refusal = 0; used = u; length = 0; room = y }; after = r }
+pub carried-silence : (χ : Chip) (u : ℕ) (r : Reader) (y : List ℕ) → carriedOf u (answer χ r nothing) y ≡ record { told = record { refusal = 0; used = u; length = 0; room = y }; after = r }
 unfolding carried answer silence
-carried-silence u r y = ap (λ (x : List ℕ). record { told = record { refusal = 0; used = u; length = 0; room = x }; after = r }) (lay-nothing 0 y)
+carried-silence χ u r y = ap (λ (x : List ℕ). record { told = record { refusal = 0; used = u; length = 0; room = x }; after = r }) (lay-nothing 0 y)
 
 -- no whole packet: the enum's case is one of the first three
 pub unheard : (a s : List ℕ) (f : Found) → OneOf (0 ∷ 1 ∷ 2 ∷ []) (tagOf the-type f) → hearAt a s f ≡ nothing
@@ -60,20 +60,20 @@ unheard a s (Whole p n) k = absurd (none 3 refl k)
     none t h (inr (inl e)) = omega arith
     none t h (inr (inr e)) = omega arith
 
-pub step-silent : (r : Reader) (s y : List ℕ) (f : Found) → f ≡ findOf s → length s < 18446744073709551616 → hearAt (r .plain .address) s f ≡ nothing
-    → record { told = record { refusal = 0; used = usedOf f % 18446744073709551616; length = 0; room = y }; after = r } ≡ carried (stepOf r s) y
+pub step-silent : (χ : Chip) (r : Reader) (s y : List ℕ) (f : Found) → f ≡ findOf s → length s < 18446744073709551616 → hearAt (r .plain .address) s f ≡ nothing
+    → record { told = record { refusal = 0; used = usedOf f % 18446744073709551616; length = 0; room = y }; after = r } ≡ carried (stepOf χ r s) y
 unfolding stepOf hear
-step-silent r s y f e h n =
+step-silent χ r s y f e h n =
     let i : usedOf f ≤ length s = rw e (used-in s) in
     let u : usedOf f % 18446744073709551616 ≡ usedOf f = omega arith in
     ap (λ (k : ℕ). record { told = record { refusal = 0; used = k; length = 0; room = y }; after = r }) u
-    ∙ sym (carried-silence (usedOf f) r y)
-    ∙ ap (λ (x : Said). carriedOf (usedOf f) x y) (ap (answer r) (sym n))
-    ∙ ap (λ (g : Found). carriedOf (usedOf g) (answer r (hearAt (r .plain .address) s g)) y) e
+    ∙ sym (carried-silence χ (usedOf f) r y)
+    ∙ ap (λ (x : Said). carriedOf (usedOf f) x y) (ap (answer χ r) (sym n))
+    ∙ ap (λ (g : Found). carriedOf (usedOf g) (answer χ r (hearAt (r .plain .address) s g)) y) e
 
-pub step-whole : (r : Reader) (s y : List ℕ) (p n : ℕ) → findOf s ≡ Whole p n → carriedOf (p + headBytes + n) (answer r (hearAt (r .plain .address) s (Whole p n))) y ≡ carried (stepOf r s) y
+pub step-whole : (χ : Chip) (r : Reader) (s y : List ℕ) (p n : ℕ) → findOf s ≡ Whole p n → carriedOf (p + headBytes + n) (answer χ r (hearAt (r .plain .address) s (Whole p n))) y ≡ carried (stepOf χ r s) y
 unfolding stepOf hear usedOf
-step-whole r s y p n e = sym (ap (λ (f : Found). carriedOf (usedOf f) (answer r (hearAt (r .plain .address) s f)) y) e)
+step-whole χ r s y p n e = sym (ap (λ (f : Found). carriedOf (usedOf f) (answer χ r (hearAt (r .plain .address) s f)) y) e)
 
 -- it lies within its run
 pub whole-lies : (s : List ℕ) (p n : ℕ) → findOf s ≡ Whole p n → Lies s p n
@@ -83,21 +83,28 @@ whole-lies s p n e =
 
 -- ---- what passed refusals say
 
-pub lengths-are : (g : Guarded) → fitLengths core g ≡ lengthsFit (length (g .templates)) (length (g .index)) (length (g .notepad)) (length (g .buffer1 .bytes)) (length (g .buffer2 .bytes))
-unfolding fitLengths fitLibrary fitBuffers capacity lengthsFit
-lengths-are g = refl
+pub lengths-are : (g : Guarded) (χ : Chip)
+    → (fitLengths core g && fitChip (capacity g) χ)
+    ≡ lengthsFit (length (g .templates)) (length (g .index)) (length (g .notepad)) (length (g .buffer1 .bytes)) (length (g .buffer2 .bytes)) (length (χ .scores)) (length (χ .thresholds))
+unfolding fitLengths fitLibrary fitBuffers fitChip capacity lengthsFit
+lengths-are g χ = refl
 
-pub few-pages : (t i n b c : ℕ) → lengthsFit t i n b c ≡ true → t / pageBytes ≤ mostPages
-unfolding lengthsFit within core
-few-pages t i n b c e = let h : T (lengthsFit t i n b c) = rw e tt in leb→le (t / pageBytes) mostPages (search (and-l, and-r) depth 9)
+module _ (t i n b c k h : ℕ) (e : lengthsFit t i n b c k h ≡ true) where
+  pub few-pages : t / pageBytes ≤ mostPages
+  unfolding lengthsFit within core
+  few-pages = let y : T (lengthsFit t i n b c k h) = rw e tt in leb→le (t / pageBytes) mostPages (search (and-l, and-r) depth 9)
 
-pub fit-says : (s : Settings) (t i n b c : List ℕ) → lengthsFit (length t) (length i) (length n) (length b) (length c) ≡ true → Legal s → Fit s t i n b c
+  pub all-scored : k ≡ t / pageBytes
+  unfolding lengthsFit
+  all-scored = let y : T (lengthsFit t i n b c k h) = rw e tt in eqb→eq k (t / pageBytes) (search (and-l, and-r) depth 9)
+
+pub fit-says : (s : Settings) (t i n b c : List ℕ) (k h : ℕ) → lengthsFit (length t) (length i) (length n) (length b) (length c) k h ≡ true → Legal s → Fit s t i n b c
 unfolding lengthsFit within
-fit-says s t i n b c e m =
-    let h : T (lengthsFit (length t) (length i) (length n) (length b) (length c)) = rw e tt in
+fit-says s t i n b c k h e m =
+    let y : T (lengthsFit (length t) (length i) (length n) (length b) (length c) k h) = rw e tt in
     record {
       pages = eqb→eq (length t) (pageBytes * (length t / pageBytes)) (search (and-l, and-r) depth 9);
-      within = few-pages (length t) (length i) (length n) (length b) (length c) e;
+      within = few-pages (length t) (length i) (length n) (length b) (length c) k h e;
       index = eqb→eq (length i) (core .indexed) (search (and-l, and-r) depth 9);
       notepad = eqb→eq (length n) (core .noted) (search (and-l, and-r) depth 9);
       buffer1 = eqb→eq (length b) pageBytes (search (and-l, and-r) depth 9);
@@ -112,18 +119,35 @@ legal-passed s i n e = let h : T (soundOf n i s) = rw e tt in legal-says s (T→
 
 -- ---- a call at each way out
 
-pub call-bad-length : (r : Reader) (s y : List ℕ) → fitLengths core (r .guarded) ≡ false → refused 1 r y ≡ callOf core r s (lentOf y)
-unfolding callOf callAs refusalOf verdict
-call-bad-length r s y l = rw l refl
+-- lengths that are fit, and those of scores and thresholds
+module _ (r : Reader) (χ : Chip) (s y : List ℕ) where
+  abbrev lent : Lent
+  lent = record { chip = χ; room = y }
 
-pub call-bad-room : (r : Reader) (s y : List ℕ) → fitLengths core (r .guarded) ≡ true → length y < replyRoom → refused 2 r y ≡ callOf core r s (lentOf y)
-unfolding callOf callAs refusalOf verdict fitRoom
-call-bad-room r s y l h = rw (l, lt-leb replyRoom (length y) h) refl
+  pub call-bad-length : (fitLengths core (r .guarded) && fitChip (capacity (r .guarded)) χ) ≡ false → refused 1 r y ≡ callOf core r s lent
+  unfolding callOf callAs refusalOf verdict
+  call-bad-length = go (fitLengths core (r .guarded)) (fitChip (capacity (r .guarded)) χ) refl refl
+    where
+      go : (a b : Bool) → fitLengths core (r .guarded) ≡ a → fitChip (capacity (r .guarded)) χ ≡ b → (a && b) ≡ false → refused 1 r y ≡ callOf core r s lent
+      go false b d e h = rw d refl
+      go true false d e h = rw (d, e) refl
+      go true true d e h = absurd (true≢false h)
 
-pub call-bad-setting : (r : Reader) (s y : List ℕ) → fitLengths core (r .guarded) ≡ true → replyRoom ≤ length y → sound r ≡ false → refused 3 r y ≡ callOf core r s (lentOf y)
-unfolding callOf callAs refusalOf verdict fitRoom
-call-bad-setting r s y l h k = rw (l, le-leb replyRoom (length y) h, k) refl
+  module _ (l : (fitLengths core (r .guarded) && fitChip (capacity (r .guarded)) χ) ≡ true) where
+    fits : fitLengths core (r .guarded) ≡ true
+    fits = let t : T (fitLengths core (r .guarded) && fitChip (capacity (r .guarded)) χ) = rw l tt in T→true (fitLengths core (r .guarded)) (search and-l)
 
-pub call-goes : (r : Reader) (s y : List ℕ) → fitLengths core (r .guarded) ≡ true → replyRoom ≤ length y → sound r ≡ true → carried (stepOf r s) y ≡ callOf core r s (lentOf y)
-unfolding callOf callAs refusalOf verdict fitRoom
-call-goes r s y l h k = rw (l, le-leb replyRoom (length y) h, k) refl
+    chips : fitChip (capacity (r .guarded)) χ ≡ true
+    chips = let t : T (fitLengths core (r .guarded) && fitChip (capacity (r .guarded)) χ) = rw l tt in T→true (fitChip (capacity (r .guarded)) χ) (search and-r)
+
+    pub call-bad-room : length y < replyRoom → refused 2 r y ≡ callOf core r s lent
+    unfolding callOf callAs refusalOf verdict fitRoom
+    call-bad-room h = rw (fits, chips, lt-leb replyRoom (length y) h) refl
+
+    pub call-bad-setting : replyRoom ≤ length y → sound r ≡ false → refused 3 r y ≡ callOf core r s lent
+    unfolding callOf callAs refusalOf verdict fitRoom
+    call-bad-setting h k = rw (fits, chips, le-leb replyRoom (length y) h, k) refl
+
+    pub call-goes : replyRoom ≤ length y → sound r ≡ true → carried (stepOf χ r s) y ≡ callOf core r s lent
+    unfolding callOf callAs refusalOf verdict fitRoom
+    call-goes h k = rw (fits, chips, le-leb replyRoom (length y) h, k) refl

@@ -1,14 +1,16 @@
 -- What an answer means: the reply and the reader of the definitions.
 use mathlib.Core.Bool.{Bool, true, false, cond}
-use mathlib.Core.List.{List, [], _∷_}
+use mathlib.Core.List.{List, [], _∷_, _++_}
 use mathlib.Core.Path.{_≡_}
 use Prim.Native.Nat.{ℕ, _*_, _/_, _≤_}
 use lib.Dec.{eqb, ltb}
 use lib.ListN.{length, take}
 use Rattle.protocol.specs.declared.Settings.{Settings}
+use Rattle.protocol.specs.declared.Match.{Match}
 use Rattle.protocol.specs.Numbers.{highestSize}
 use Rattle.protocol.specs.Bytes.{part, zeros, follow}
 use Rattle.protocol.specs.Reader.{sizeOf}
+use Rattle.protocol.specs.Search.{matchBytes}
 use Rattle.protocol.specs.Data.{acknowledge, dataPackets}
 use Rattle.protocol.specs.Table.{gives}
 use Rattle.protocol.specs.Step.{Said, carry}
@@ -33,6 +35,10 @@ codeAlone code s = answerOf true code 0 (zeros listedBytes) 0 s
 
 abbrev pub nothingSaid : Settings → Answer
 nothingSaid s = answerOf false 0 0 (zeros listedBytes) 0 s
+
+-- page and score, and zeros behind them
+unfoldable pub matchList : Match → List ℕ
+matchList m = matchBytes m ++ zeros 28
 
 -- the data packets of the buffer of a number; 0 is none
 unfoldable pub sent : ℕ → Settings → List ℕ → List ℕ → List ℕ

@@ -1,11 +1,13 @@
 // What a command answers, before it is written into the reply room.
 ghost use mathlib.Core.Path.{_≡_};
-ghost use mathlib.Core.Bool.{true, false};
+ghost use mathlib.Core.Bool.{true, false, cond};
 ghost use Prim.Native.Nat.{_≤_};
 ghost use lib.Dec.{eqb};
-ghost use Rattle.protocol.specs.Numbers.{highestSize};
+ghost use Rattle.protocol.specs.Numbers.{highestSize, done, notFound};
 ghost use Rattle.protocol.specs.Bytes.{zeros};
-ghost use Rattle.reader.specs.Answers.{answerOf, codeAlone, nothingSaid, listedBytes, PageGiven};
+ghost use Rattle.protocol.specs.Search.{matchCode};
+ghost use Rattle.reader.specs.Answers.{answerOf, codeAlone, nothingSaid, listedBytes, matchList, PageGiven};
+use protocol::Match;
 use protocol::Settings;
 use protocol::codes;
 use protocol::numbers;
@@ -57,6 +59,32 @@ pub(crate) fn listed(bytes: [u8; 32], count: usize, settings: Settings) -> Answe
         speaks: true,
         code: codes::DONE,
         count,
+        bytes,
+        upload: 0,
+        settings,
+    }
+}
+
+// 00h where a page is found, 09h where none is.
+fn match_code(found: bool) -> u8
+    ensures { λ r. ⌜ r ≡ cond found done notFound ⌝ }
+{
+    if found { codes::DONE } else { codes::NOT_FOUND }
+}
+
+// Its code, page and score.
+pub(crate) fn matched(m: Match, settings: Settings) -> Answer
+    ensures { λ r. ⌜ r ≡ answerOf true (matchCode m) 4 (matchList m) 0 settings ⌝ }
+{
+    let mut bytes = [0u8; 32];
+    bytes[0] = (m.page / 256) as u8;
+    bytes[1] = (m.page % 256) as u8;
+    bytes[2] = (m.score / 256) as u8;
+    bytes[3] = (m.score % 256) as u8;
+    Answer {
+        speaks: true,
+        code: match_code(m.found),
+        count: 4,
         bytes,
         upload: 0,
         settings,

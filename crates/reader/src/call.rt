@@ -9,7 +9,7 @@ ghost use Rattle.protocol.specs.Bytes.{same};
 ghost use Rattle.protocol.specs.Packet.{addressAt, rightAt};
 ghost use Rattle.protocol.specs.Step.{hearAs, hearAt, answer};
 ghost use Rattle.protocol.specs.Call.{core, callOf, switchOf};
-ghost use Rattle.protocol.specs.Records.{readerOf, lentOf, endedOf, switchedOf};
+ghost use Rattle.protocol.specs.Records.{readerOf, chipOf, lentOf, endedOf, switchedOf};
 ghost use Rattle.reader.specs.Answers.{saidOf, Ready};
 ghost use Rattle.rules.specs.Settings.{soundOf};
 ghost use Rattle.reader.specs.Calls.{Lies, ActNeeds, HearNeeds, called, switched, lengthsFit, carriedOf};
@@ -39,12 +39,14 @@ pub(crate) fn act(
     notepad: &mut [u8],
     buffer1: &mut [u8],
     buffer2: &mut [u8],
+    scores: &[u16],
+    thresholds: &[u16],
     content: &[u8],
     identifier: u8,
     right: bool,
 ) -> Answer
-    requires { ⌜ ActNeeds settings (now templates) (now index) (now notepad) (now buffer1) (now buffer2) (now content) ⌝ }
-    ensures { λ r. ⌜ (saidOf r (now (templates .exit)) (now (index .exit)) (now (notepad .exit)) (now (buffer1 .exit)) (now (buffer2 .exit)) ≡ answer (readerOf settings (now (templates .entry)) (now (index .entry)) (now (notepad .entry)) (now (buffer1 .entry)) (now (buffer2 .entry))) (hearAs identifier right (now (content .entry)))) × Ready r ⌝ }
+    requires { ⌜ ActNeeds settings (now templates) (now index) (now notepad) (now buffer1) (now buffer2) (now scores) (now content) ⌝ }
+    ensures { λ r. ⌜ (saidOf r (now (templates .exit)) (now (index .exit)) (now (notepad .exit)) (now (buffer1 .exit)) (now (buffer2 .exit)) ≡ answer (chipOf (now (scores .entry)) (now (thresholds .entry))) (readerOf settings (now (templates .entry)) (now (index .entry)) (now (notepad .entry)) (now (buffer1 .entry)) (now (buffer2 .entry))) (hearAs identifier right (now (content .entry)))) × Ready r ⌝ }
 {
     if identifier == numbers::COMMAND_PACKET {
         let s = transfer::end_transfer(settings, buffer1, buffer2);
@@ -55,6 +57,8 @@ pub(crate) fn act(
             notepad,
             buffer1,
             buffer2,
+            scores,
+            thresholds,
             content,
             right,
         );
@@ -107,13 +111,15 @@ pub(crate) fn hear_packet(
     notepad: &mut [u8],
     buffer1: &mut [u8],
     buffer2: &mut [u8],
+    scores: &[u16],
+    thresholds: &[u16],
     run: &[u8],
     at: usize,
     len: usize,
     reply: &mut [u8],
 ) -> Called
-    requires { ⌜ HearNeeds settings (now templates) (now index) (now notepad) (now buffer1) (now buffer2) (now run) at len (now reply) ⌝ }
-    ensures { λ r. ⌜ endedOf r (now (templates .exit)) (now (index .exit)) (now (notepad .exit)) (now (buffer1 .exit)) (now (buffer2 .exit)) (now (reply .exit)) ≡ carriedOf (at + headBytes + len) (answer (readerOf settings (now (templates .entry)) (now (index .entry)) (now (notepad .entry)) (now (buffer1 .entry)) (now (buffer2 .entry))) (hearAt (settings .address) (now (run .entry)) (Whole at len))) (now (reply .entry)) ⌝ }
+    requires { ⌜ HearNeeds settings (now templates) (now index) (now notepad) (now buffer1) (now buffer2) (now scores) (now run) at len (now reply) ⌝ }
+    ensures { λ r. ⌜ endedOf r (now (templates .exit)) (now (index .exit)) (now (notepad .exit)) (now (buffer1 .exit)) (now (buffer2 .exit)) (now (reply .exit)) ≡ carriedOf (at + headBytes + len) (answer (chipOf (now (scores .entry)) (now (thresholds .entry))) (readerOf settings (now (templates .entry)) (now (index .entry)) (now (notepad .entry)) (now (buffer1 .entry)) (now (buffer2 .entry))) (hearAt (settings .address) (now (run .entry)) (Whole at len))) (now (reply .entry)) ⌝ }
 {
     let used = at + numbers::HEAD + len;
     let ours = is_ours(settings, run, at);
@@ -131,6 +137,8 @@ pub(crate) fn hear_packet(
         notepad,
         buffer1,
         buffer2,
+        scores,
+        thresholds,
         &run[from..to],
         identifier,
         right,
@@ -141,8 +149,16 @@ pub(crate) fn hear_packet(
 }
 
 // Whether the lent lengths are right, the reply room's apart (refusal 1).
-pub fn is_fit(t: usize, i: usize, n: usize, b: usize, c: usize) -> bool
-    ensures { λ r. ⌜ r ≡ lengthsFit t i n b c ⌝ }
+pub fn is_fit(
+    t: usize,
+    i: usize,
+    n: usize,
+    b: usize,
+    c: usize,
+    scores: usize,
+    thresholds: usize,
+) -> bool
+    ensures { λ r. ⌜ r ≡ lengthsFit t i n b c scores thresholds ⌝ }
 {
     let pages = t / numbers::PAGE;
     if t != numbers::PAGE * pages {
@@ -163,7 +179,13 @@ pub fn is_fit(t: usize, i: usize, n: usize, b: usize, c: usize) -> bool
     if b != numbers::PAGE {
         return false;
     }
-    c == numbers::PAGE
+    if c != numbers::PAGE {
+        return false;
+    }
+    if scores != pages {
+        return false;
+    }
+    thresholds == numbers::LEVELS
 }
 
 // Whether settings, transfer, index bits and origins are legal (refusal 3).
@@ -182,7 +204,7 @@ pub(crate) fn is_sound(settings: Settings, index: &[u8], pages: usize) -> bool
     origins::are_fit(settings, index, pages)
 }
 
-// A call: the settings and lent memory of a reader, a received run, and a reply room.
+// A call: the settings and lent memory of a reader, scores and thresholds, a received run, and a reply room.
 pub fn step(
     settings: Settings,
     templates: &mut [u8],
@@ -190,10 +212,12 @@ pub fn step(
     notepad: &mut [u8],
     buffer1: &mut [u8],
     buffer2: &mut [u8],
+    scores: &[u16],
+    thresholds: &[u16],
     run: &[u8],
     reply: &mut [u8],
 ) -> Called
-    ensures { λ r. ⌜ endedOf r (now (templates .exit)) (now (index .exit)) (now (notepad .exit)) (now (buffer1 .exit)) (now (buffer2 .exit)) (now (reply .exit)) ≡ callOf core (readerOf settings (now (templates .entry)) (now (index .entry)) (now (notepad .entry)) (now (buffer1 .entry)) (now (buffer2 .entry))) (now (run .entry)) (lentOf (now (reply .entry))) ⌝ }
+    ensures { λ r. ⌜ endedOf r (now (templates .exit)) (now (index .exit)) (now (notepad .exit)) (now (buffer1 .exit)) (now (buffer2 .exit)) (now (reply .exit)) ≡ callOf core (readerOf settings (now (templates .entry)) (now (index .entry)) (now (notepad .entry)) (now (buffer1 .entry)) (now (buffer2 .entry))) (now (run .entry)) (lentOf (now (scores .entry)) (now (thresholds .entry)) (now (reply .entry))) ⌝ }
 {
     let fit = is_fit(
         templates.len(),
@@ -201,6 +225,8 @@ pub fn step(
         notepad.len(),
         buffer1.len(),
         buffer2.len(),
+        scores.len(),
+        thresholds.len(),
     );
     if !fit {
         return called_of(refusals::BAD_LENGTH, 0, 0, settings);
@@ -223,6 +249,8 @@ pub fn step(
         notepad,
         buffer1,
         buffer2,
+        scores,
+        thresholds,
         run,
         at,
         len,
@@ -236,7 +264,7 @@ fn switched_of(refusal: u8, settings: Settings) -> Switched
     Switched { settings, refusal }
 }
 
-// The line switch: any settings and both buffers; marks cleared, transfer closed, buffers zeroed, origins none. It knows only refusal 1.
+// The line switch: any settings and both buffers; marks and status bit 1 cleared, transfer closed, buffers zeroed, origins none. It knows only refusal 1.
 pub fn line_switch(settings: Settings, buffer1: &mut [u8], buffer2: &mut [u8]) -> Switched
     ensures { λ r. ⌜ ((t i n : List ℕ) → switchedOf r t i n (now (buffer1 .exit)) (now (buffer2 .exit)) ≡ switchOf (readerOf settings t i n (now (buffer1 .entry)) (now (buffer2 .entry)))) ⌝ }
 {

@@ -1,4 +1,4 @@
-// The reader: sixteen commands on lent memory, transfers, the step and the line switch.
+// The reader: seventeen commands on lent memory, transfers, the step and the line switch.
 mod answers;
 mod buffers;
 mod bytes;
@@ -8,6 +8,7 @@ mod notes;
 mod origins;
 mod parameters;
 mod reply;
+mod search;
 mod stored;
 mod table;
 mod transfer;

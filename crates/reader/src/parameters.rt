@@ -1,11 +1,11 @@
 // The system parameters: SetSysPara and ReadSysPara.
 ghost use mathlib.Core.Path.{_≡_};
-ghost use mathlib.Core.Bool.{cond};
 ghost use mathlib.Core.List.{[], _∷_};
 ghost use Prim.Native.Nat.{_≤_};
 ghost use lib.ListN.{take};
-ghost use Rattle.protocol.specs.Numbers.{verifiedStatus, highestSize};
+ghost use Rattle.protocol.specs.Numbers.{highestSize};
 ghost use Rattle.protocol.specs.Bytes.{two, joined};
+ghost use Rattle.protocol.specs.Table.{statusOf};
 ghost use Rattle.protocol.specs.Commands.{setSysPara, readSysPara};
 ghost use Rattle.reader.specs.Commands.{Obeyed, ObeyedPages};
 use crate::answers;
@@ -60,10 +60,11 @@ pub(crate) fn set_parameter(settings: Settings, k: u8, v: u8) -> Answer
     )
 }
 
-fn status(verified: bool) -> usize
-    ensures { λ r. ⌜ (r ≡ cond verified verifiedStatus 0) × (r ≤ verifiedStatus) ⌝ }
+// The status word.
+fn status(verified: bool, found: bool) -> usize
+    ensures { λ r. ⌜ (r ≡ statusOf verified found) × (r ≤ 6) ⌝ }
 {
-    if verified { 4 } else { 0 }
+    4 * bytes::wide(bytes::flag(verified)) + 2 * bytes::wide(bytes::flag(found))
 }
 
 // The sixteen bytes of ReadSysPara, and sixteen zeros.
@@ -119,7 +120,7 @@ pub(crate) fn read_parameters(settings: Settings, pages: usize) -> Answer
     requires { ⌜ settings .size ≤ highestSize ⌝ }
     ensures { λ r. ⌜ ObeyedPages r settings readSysPara pages ⌝ }
 {
-    let s = status(settings.verified);
+    let s = status(settings.verified, settings.found);
     let k = settings.sensor as usize;
     let l = bytes::wide(settings.level);
     let z = bytes::wide(settings.size);

@@ -2,7 +2,7 @@
 ghost use mathlib.Core.Path.{_≡_};
 ghost use Rattle.protocol.specs.Commands.{commands, rowOf, orderOf};
 ghost use Rattle.protocol.specs.Step.{obey, heed};
-ghost use Rattle.protocol.specs.Records.{readerOf};
+ghost use Rattle.protocol.specs.Records.{readerOf, chipOf};
 ghost use Rattle.reader.specs.Answers.{saidOf, Ready};
 ghost use Rattle.rules.specs.Commands.{readOf};
 ghost use Rattle.reader.specs.Commands.{CommandNeeds, RowNeeds};
@@ -13,6 +13,7 @@ use crate::bytes;
 use crate::keys;
 use crate::notes;
 use crate::parameters;
+use crate::search;
 use crate::stored;
 use protocol::Settings;
 use protocol::codes;
@@ -28,12 +29,20 @@ pub(crate) fn row(
     notepad: &mut [u8],
     buffer1: &mut [u8],
     buffer2: &mut [u8],
+    scores: &[u16],
+    thresholds: &[u16],
     content: &[u8],
 ) -> Answer
-    requires { ⌜ RowNeeds code settings (now templates) (now index) (now notepad) (now buffer1) (now buffer2) (now content) ⌝ }
-    ensures { λ r. ⌜ (saidOf r (now (templates .exit)) (now (index .exit)) (now (notepad .exit)) (now (buffer1 .exit)) (now (buffer2 .exit)) ≡ obey (readerOf settings (now (templates .entry)) (now (index .entry)) (now (notepad .entry)) (now (buffer1 .entry)) (now (buffer2 .entry))) (readOf (rowOf commands code) (now (content .entry)))) × Ready r ⌝ }
+    requires { ⌜ RowNeeds code settings (now templates) (now index) (now notepad) (now buffer1) (now buffer2) (now scores) (now content) ⌝ }
+    ensures { λ r. ⌜ (saidOf r (now (templates .exit)) (now (index .exit)) (now (notepad .exit)) (now (buffer1 .exit)) (now (buffer2 .exit)) ≡ obey (chipOf (now (scores .entry)) (now (thresholds .entry))) (readerOf settings (now (templates .entry)) (now (index .entry)) (now (notepad .entry)) (now (buffer1 .entry)) (now (buffer2 .entry))) (readOf (rowOf commands code) (now (content .entry)))) × Ready r ⌝ }
 {
     match code {
+        0x04 => {
+            let n = content[1];
+            let start = bytes::word_at(content, 2);
+            let count = bytes::word_at(content, 4);
+            search::search_pages(settings, index, scores, thresholds, n, start, count)
+        }
         0x06 => {
             let n = content[1];
             let page = bytes::word_at(content, 2);
@@ -73,11 +82,13 @@ pub(crate) fn command(
     notepad: &mut [u8],
     buffer1: &mut [u8],
     buffer2: &mut [u8],
+    scores: &[u16],
+    thresholds: &[u16],
     content: &[u8],
     right: bool,
 ) -> Answer
-    requires { ⌜ CommandNeeds settings (now templates) (now index) (now notepad) (now buffer1) (now buffer2) (now content) ⌝ }
-    ensures { λ r. ⌜ (saidOf r (now (templates .exit)) (now (index .exit)) (now (notepad .exit)) (now (buffer1 .exit)) (now (buffer2 .exit)) ≡ heed (readerOf settings (now (templates .entry)) (now (index .entry)) (now (notepad .entry)) (now (buffer1 .entry)) (now (buffer2 .entry))) (orderOf right (now (content .entry)))) × Ready r ⌝ }
+    requires { ⌜ CommandNeeds settings (now templates) (now index) (now notepad) (now buffer1) (now buffer2) (now scores) (now content) ⌝ }
+    ensures { λ r. ⌜ (saidOf r (now (templates .exit)) (now (index .exit)) (now (notepad .exit)) (now (buffer1 .exit)) (now (buffer2 .exit)) ≡ heed (chipOf (now (scores .entry)) (now (thresholds .entry))) (readerOf settings (now (templates .entry)) (now (index .entry)) (now (notepad .entry)) (now (buffer1 .entry)) (now (buffer2 .entry))) (orderOf right (now (content .entry)))) × Ready r ⌝ }
 {
     let code = content[0];
     let stop = commands::gate(right, code, content.len() + 2, settings);
@@ -92,6 +103,8 @@ pub(crate) fn command(
         notepad,
         buffer1,
         buffer2,
+        scores,
+        thresholds,
         content,
     )
 }

@@ -1,5 +1,5 @@
 -- A call of the receiver by the reader's call that it makes, and its line switch by the reader's.
-use mathlib.Core.Bool.{Bool, true, false, cond}
+use mathlib.Core.Bool.{Bool, true, false, _&&_, cond}
 use mathlib.Core.Path.{_≡_, refl, sym, ap, _∙_}
 use mathlib.Core.Logic.{_≢_}
 use mathlib.Core.List.{List, []}
@@ -15,11 +15,11 @@ use Rattle.protocol.specs.declared.Received.{Received}
 use Rattle.protocol.specs.declared.Emptied.{Emptied}
 use Rattle.protocol.specs.Numbers.{holds, replyRoom, badLength, badRoom, badSetting}
 use Rattle.protocol.specs.Tests.{verdict}
-use Rattle.protocol.specs.Reader.{Reader}
+use Rattle.protocol.specs.Reader.{Reader, capacity}
 use Rattle.protocol.specs.Step.{stepOf}
-use Rattle.protocol.specs.Call.{core, fitLengths, fitRoom, sound, Lent, Told, Ended, refused, carried, callOf, switchRefusal, switchAs, switchOf}
+use Rattle.protocol.specs.Call.{core, fitLengths, fitChip, fitRoom, sound, Lent, Told, Ended, refused, carried, callOf, switchRefusal, switchAs, switchOf}
 use Rattle.protocol.specs.Receiver.{holding, Line, line, fitting, runOf, handed, declined, receiveRefusal, receiveAs, receiveOf, lineSwitchAs, lineSwitchOf}
-use Rattle.protocol.specs.Records.{readerOf, lentOf, switchedOf, receivedOf, emptiedOf}
+use Rattle.protocol.specs.Records.{readerOf, chipOf, lentOf, switchedOf, receivedOf, emptiedOf}
 use Rattle.protocol.proofs.Laws.Answers.{call-kinds}
 use Rattle.protocol.proofs.Laws.Finder.{used-in}
 use Rattle.protocol.proofs.Laws.Holding.{handedBy, receive-call}
@@ -36,20 +36,22 @@ used-within r n s lent e q =
 
 -- ---- a count above what a receiver holds: refused by the lengths alone
 
-pub full : (h : Receiver) (s : Settings) (t i n b d piece room : List ℕ) (k : ℕ) (r : Received)
-    → holds < h .count → k ≡ fullRefusal (length t) (length i) (length n) (length b) (length d) (length room) → r ≡ received h s k 0 0
-    → receivedOf r t i n b d room ≡ receiveOf core (line (readerOf s t i n b d) h) piece (lentOf room)
+pub full : (h : Receiver) (s : Settings) (t i n b d c o piece room : List ℕ) (k : ℕ) (r : Received)
+    → holds < h .count → k ≡ fullRefusal (length t) (length i) (length n) (length b) (length d) (length c) (length o) (length room) → r ≡ received h s k 0 0
+    → receivedOf r t i n b d room ≡ receiveOf core (line (readerOf s t i n b d) h) piece (lentOf c o room)
 unfolding fullRefusal receiveOf receiveAs receiveRefusal verdict fitRoom refused
-full h s t i n b d piece room k r l e q =
+full h s t i n b d c o piece room k r l e q =
     let x : Line = line (readerOf s t i n b d) h in
-    rw (q, e, ← lengths-are (x .reader .guarded), lt-leb _ _ l) (go (fitLengths core (x .reader .guarded)) (leb replyRoom (length room)) (sound (x .reader)))
+    rw (q, e, ← lengths-are (x .reader .guarded) (chipOf c o), lt-leb _ _ l)
+    (go (fitLengths core (x .reader .guarded)) (fitChip (capacity (x .reader .guarded)) (chipOf c o)) (leb replyRoom (length room)) (sound (x .reader)))
   where
-    go : (f l o : Bool) → declined (cond f (cond l badSetting badRoom) badLength) (line (readerOf s t i n b d) h) room
-        ≡ receiveAs core (line (readerOf s t i n b d) h) piece (lentOf room) (cond f (cond l (cond o badSetting badSetting) badRoom) badLength)
-    go false l o = refl
-    go true false o = refl
-    go true true false = refl
-    go true true true = refl
+    go : (f χ l w : Bool) → declined (cond (f && χ) (cond l badSetting badRoom) badLength) (line (readerOf s t i n b d) h) room
+        ≡ receiveAs core (line (readerOf s t i n b d) h) piece (lentOf c o room) (cond f (cond χ (cond l (cond w badSetting badSetting) badRoom) badLength) badLength)
+    go false χ l w = refl
+    go true false l w = refl
+    go true true false w = refl
+    go true true true false = refl
+    go true true true true = refl
 
 -- ---- a count that it holds: the reader's call on all held bytes decides
 

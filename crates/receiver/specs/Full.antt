@@ -6,5 +6,5 @@ use Rattle.protocol.specs.Numbers.{replyRoom, badLength, badRoom, badSetting}
 use Rattle.reader.specs.Calls.{lengthsFit}
 
 -- by the lent lengths, and that of the reply room
-unfoldable pub fullRefusal : ℕ → ℕ → ℕ → ℕ → ℕ → ℕ → ℕ
-fullRefusal t i n b c room = cond (lengthsFit t i n b c) (cond (leb replyRoom room) badSetting badRoom) badLength
+unfoldable pub fullRefusal : ℕ → ℕ → ℕ → ℕ → ℕ → ℕ → ℕ → ℕ → ℕ
+fullRefusal t i n b c scores thresholds room = cond (lengthsFit t i n b c scores thresholds) (cond (leb replyRoom room) badSetting badRoom) badLength

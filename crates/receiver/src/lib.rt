@@ -62,10 +62,19 @@ fn emptied_of(receiver: Receiver, settings: Settings, refusal: u8) -> Emptied
 }
 
 // The refusal of a call on a count above what a receiver holds: 1 and 2 come first. The lent lengths are handed over, and that of the reply room.
-fn full_refusal(t: usize, i: usize, n: usize, b: usize, c: usize, room: usize) -> u8
-    ensures { λ r. ⌜ r ≡ fullRefusal t i n b c room ⌝ }
+fn full_refusal(
+    t: usize,
+    i: usize,
+    n: usize,
+    b: usize,
+    c: usize,
+    scores: usize,
+    thresholds: usize,
+    room: usize,
+) -> u8
+    ensures { λ r. ⌜ r ≡ fullRefusal t i n b c scores thresholds room ⌝ }
 {
-    let fit = call::is_fit(t, i, n, b, c);
+    let fit = call::is_fit(t, i, n, b, c, scores, thresholds);
     if !fit {
         return refusals::BAD_LENGTH;
     }
@@ -85,10 +94,12 @@ pub fn receive(
     notepad: &mut [u8],
     buffer1: &mut [u8],
     buffer2: &mut [u8],
+    scores: &[u16],
+    thresholds: &[u16],
     piece: &[u8],
     reply: &mut [u8],
 ) -> Received
-    ensures { λ r. ⌜ receivedOf r (now (templates .exit)) (now (index .exit)) (now (notepad .exit)) (now (buffer1 .exit)) (now (buffer2 .exit)) (now (reply .exit)) ≡ receiveOf core (line (readerOf settings (now (templates .entry)) (now (index .entry)) (now (notepad .entry)) (now (buffer1 .entry)) (now (buffer2 .entry))) receiver) (now (piece .entry)) (lentOf (now (reply .entry))) ⌝ }
+    ensures { λ r. ⌜ receivedOf r (now (templates .exit)) (now (index .exit)) (now (notepad .exit)) (now (buffer1 .exit)) (now (buffer2 .exit)) (now (reply .exit)) ≡ receiveOf core (line (readerOf settings (now (templates .entry)) (now (index .entry)) (now (notepad .entry)) (now (buffer1 .entry)) (now (buffer2 .entry))) receiver) (now (piece .entry)) (lentOf (now (scores .entry)) (now (thresholds .entry)) (now (reply .entry))) ⌝ }
 {
     let count = receiver.count as usize;
     if numbers::HOLDS < count {
@@ -98,6 +109,8 @@ pub fn receive(
             notepad.len(),
             buffer1.len(),
             buffer2.len(),
+            scores.len(),
+            thresholds.len(),
             reply.len(),
         );
         return received_of(receiver, settings, refusal, 0, 0);
@@ -113,6 +126,8 @@ pub fn receive(
         notepad,
         buffer1,
         buffer2,
+        scores,
+        thresholds,
         &held[..to],
         reply,
     );

@@ -11,7 +11,8 @@ use Rattle.protocol.specs.Numbers.{badPacket, unknownCommand, passwordFirst}
 use Rattle.protocol.specs.Bytes.{byteAt, wordAt}
 use Rattle.protocol.specs.Packet.{lengthOf}
 use Rattle.protocol.specs.Reader.{Plain, Reader, locked}
-use Rattle.protocol.specs.Commands.{store, loadChar, upChar, downChar, deletChar, empty, setSysPara, readSysPara, setPassword, setAddress, writeNotepad, readNotepad, templeteNum, readIndexTable, handShake, Barred, free, barred, Entry, row, commands, Known, none, some, rowOf, orderAs, orderOf}
+use Rattle.protocol.specs.Commands.{searchFor, store, loadChar, upChar, downChar, deletChar, empty, setSysPara, readSysPara, setPassword, setAddress, writeNotepad, readNotepad, templeteNum, readIndexTable, handShake, Barred, free, barred, Entry, row, commands, Known, none, some, rowOf, orderAs, orderOf}
+use Rattle.protocol.specs.Search.{Chip}
 use Rattle.protocol.specs.Step.{says, obey, heed}
 use Rattle.protocol.proofs.Laws.Commands.{Each, At, row-law}
 use Rattle.rules.specs.Commands.{lenOf, readOf, isFree, Admitted, gateOf}
@@ -23,36 +24,39 @@ Gated e = (eqb (e .len) 0 ≡ false) × ((c : List ℕ) → isFree (e .code) ≡
 gated : Each Gated commands
 unfolding commands isFree
 gated = (
-  (refl, λ c q. (store (byteAt c 1) (wordAt c 2), refl)),
+  (refl, λ c q. (searchFor (byteAt c 1) (wordAt c 2) (wordAt c 4), refl)),
   (
-    (refl, λ c q. (loadChar (byteAt c 1) (wordAt c 2), refl)),
+    (refl, λ c q. (store (byteAt c 1) (wordAt c 2), refl)),
     (
-      (refl, λ c q. (upChar (byteAt c 1), refl)),
+      (refl, λ c q. (loadChar (byteAt c 1) (wordAt c 2), refl)),
       (
-        (refl, λ c q. (downChar (byteAt c 1), refl)),
+        (refl, λ c q. (upChar (byteAt c 1), refl)),
         (
-          (refl, λ c q. (deletChar (wordAt c 1) (wordAt c 3), refl)),
+          (refl, λ c q. (downChar (byteAt c 1), refl)),
           (
-            (refl, λ c q. (empty, refl)),
+            (refl, λ c q. (deletChar (wordAt c 1) (wordAt c 3), refl)),
             (
-              (refl, λ c q. (setSysPara (byteAt c 1) (byteAt c 2), refl)),
+              (refl, λ c q. (empty, refl)),
               (
-                (refl, λ c q. (readSysPara, refl)),
+                (refl, λ c q. (setSysPara (byteAt c 1) (byteAt c 2), refl)),
                 (
-                  (refl, λ c q. (setPassword (drop 1 c), refl)),
+                  (refl, λ c q. (readSysPara, refl)),
                   (
-                    (refl, λ c q. absurd (true≢false q)),
+                    (refl, λ c q. (setPassword (drop 1 c), refl)),
                     (
-                      (refl, λ c q. (setAddress (drop 1 c), refl)),
+                      (refl, λ c q. absurd (true≢false q)),
                       (
-                        (refl, λ c q. (writeNotepad (byteAt c 1) (drop 2 c), refl)),
+                        (refl, λ c q. (setAddress (drop 1 c), refl)),
                         (
-                          (refl, λ c q. (readNotepad (byteAt c 1), refl)),
+                          (refl, λ c q. (writeNotepad (byteAt c 1) (drop 2 c), refl)),
                           (
-                            (refl, λ c q. (templeteNum, refl)),
+                            (refl, λ c q. (readNotepad (byteAt c 1), refl)),
                             (
-                              (refl, λ c q. (readIndexTable (byteAt c 1), refl)),
-                              ((refl, λ c q. absurd (true≢false q)), tt),
+                              (refl, λ c q. (templeteNum, refl)),
+                              (
+                                (refl, λ c q. (readIndexTable (byteAt c 1), refl)),
+                                ((refl, λ c q. absurd (true≢false q)), tt),
+                              ),
                             ),
                           ),
                         ),
@@ -78,17 +82,17 @@ own-code (e ∷ es) k = go (eqb k (e .code)) refl (own-code es k)
     go true q ih = sym (eqb-true k (e .code) q)
     go false q ih = ih
 
-module _ (r : Reader) (c : List ℕ) where
+module _ (χ : Chip) (r : Reader) (c : List ℕ) where
   -- the gate at a row
   abbrev gateAs : ℕ → Known → ℕ
   gateAs k w = cond (eqb (lenOf w) 0) unknownCommand (cond (eqb (lenOf w) (lengthOf c)) (cond (isFree k || not (locked (r .plain))) 0 passwordFirst) badPacket)
 
-  stops : (k : ℕ) (w : Known) → At Gated w → At (λ e. e .code ≡ k) w → (gateAs k w ≡ 0 → ⊥) → heed r (orderAs c w) ≡ says r (gateAs k w)
+  stops : (k : ℕ) (w : Known) → At Gated w → At (λ e. e .code ≡ k) w → (gateAs k w ≡ 0 → ⊥) → heed χ r (orderAs c w) ≡ says r (gateAs k w)
   unfolding heed orderAs lenOf obey
   stops k none h q z = refl
   stops k (some e) h q z = go (eqb (e .len) (lengthOf c)) refl (isFree k) refl (locked (r .plain)) refl
     where
-      go : (a : Bool) → eqb (e .len) (lengthOf c) ≡ a → (o : Bool) → isFree k ≡ o → (l : Bool) → locked (r .plain) ≡ l → heed r (orderAs c (some e)) ≡ says r (gateAs k (some e))
+      go : (a : Bool) → eqb (e .len) (lengthOf c) ≡ a → (o : Bool) → isFree k ≡ o → (l : Bool) → locked (r .plain) ≡ l → heed χ r (orderAs c (some e)) ≡ says r (gateAs k (some e))
       go false ea o eo l el = rw (ea, h .0) refl
       go true ea true eo l el = absurd (z (rw (ea, h .0, eo) refl))
       go true ea false eo false el = absurd (z (rw (ea, h .0, eo, el) refl))
@@ -96,18 +100,18 @@ module _ (r : Reader) (c : List ℕ) where
 
   -- the gate's code, where it stops
   pub gate-stops : (right : Bool) → (gateOf right (byteAt c 0) (lengthOf c) (r .plain) ≡ 0 → ⊥)
-      → heed r (orderOf right c) ≡ says r (gateOf right (byteAt c 0) (lengthOf c) (r .plain))
+      → heed χ r (orderOf right c) ≡ says r (gateOf right (byteAt c 0) (lengthOf c) (r .plain))
   unfolding gateOf orderOf heed
   gate-stops false z = refl
   gate-stops true z = stops (byteAt c 0) (rowOf commands (byteAt c 0)) (row-law Gated commands gated (byteAt c 0)) (own-code commands (byteAt c 0)) z
 
-  goes : (w : Known) → lenOf w ≡ lengthOf c → heed r (orderAs c w) ≡ obey r (readOf w c)
+  goes : (w : Known) → lenOf w ≡ lengthOf c → heed χ r (orderAs c w) ≡ obey χ r (readOf w c)
   unfolding heed orderAs lenOf readOf
   goes none e = absurd (omega arith)
   goes (some x) e = rw (eq-eqb (x .len) (lengthOf c) e) refl
 
   -- the row, where it does not
-  pub gate-goes : (right : Bool) → right ≡ true → lenOf (rowOf commands (byteAt c 0)) ≡ lengthOf c → heed r (orderOf right c) ≡ obey r (readOf (rowOf commands (byteAt c 0)) c)
+  pub gate-goes : (right : Bool) → right ≡ true → lenOf (rowOf commands (byteAt c 0)) ≡ lengthOf c → heed χ r (orderOf right c) ≡ obey χ r (readOf (rowOf commands (byteAt c 0)) c)
   unfolding orderOf
   gate-goes right e h = rw e (goes (rowOf commands (byteAt c 0)) h)
 
@@ -129,12 +133,12 @@ gate-passes right k n p e = go right refl (eqb (lenOf (rowOf commands k)) 0) ref
     go true ea false eb true ed true ef = record { sum = ea; admits = record { long = eqb-true _ _ ed; open′ = ef } }
 
 -- a code that is none of the others is 40h, or unknown
-pub last-row : (k : ℕ) (c : List ℕ) → (k ≡ 0x06 → ⊥) → (k ≡ 0x07 → ⊥) → (k ≡ 0x08 → ⊥) → (k ≡ 0x09 → ⊥) → (k ≡ 0x0c → ⊥) → (k ≡ 0x0d → ⊥) → (k ≡ 0x0e → ⊥)
+pub last-row : (k : ℕ) (c : List ℕ) → (k ≡ 0x04 → ⊥) → (k ≡ 0x06 → ⊥) → (k ≡ 0x07 → ⊥) → (k ≡ 0x08 → ⊥) → (k ≡ 0x09 → ⊥) → (k ≡ 0x0c → ⊥) → (k ≡ 0x0d → ⊥) → (k ≡ 0x0e → ⊥)
     → (k ≡ 0x0f → ⊥) → (k ≡ 0x12 → ⊥) → (k ≡ 0x13 → ⊥) → (k ≡ 0x15 → ⊥) → (k ≡ 0x18 → ⊥) → (k ≡ 0x19 → ⊥) → (k ≡ 0x1d → ⊥) → (k ≡ 0x1f → ⊥)
     → readOf (rowOf commands k) c ≡ free handShake
 unfolding readOf rowOf commands
-last-row k c h0 h1 h2 h3 h4 h5 h6 h7 h8 h9 h10 h11 h12 h13 h14 =
-    rw (ne-eqb k 0x06 h0, ne-eqb k 0x07 h1, ne-eqb k 0x08 h2, ne-eqb k 0x09 h3, ne-eqb k 0x0c h4, ne-eqb k 0x0d h5, ne-eqb k 0x0e h6, ne-eqb k 0x0f h7, ne-eqb k 0x12 h8, ne-eqb k 0x13 h9, ne-eqb k 0x15 h10, ne-eqb k 0x18 h11, ne-eqb k 0x19 h12, ne-eqb k 0x1d h13, ne-eqb k 0x1f h14) (go (eqb k 0x40))
+last-row k c h h0 h1 h2 h3 h4 h5 h6 h7 h8 h9 h10 h11 h12 h13 h14 =
+    rw (ne-eqb k 0x04 h, ne-eqb k 0x06 h0, ne-eqb k 0x07 h1, ne-eqb k 0x08 h2, ne-eqb k 0x09 h3, ne-eqb k 0x0c h4, ne-eqb k 0x0d h5, ne-eqb k 0x0e h6, ne-eqb k 0x0f h7, ne-eqb k 0x12 h8, ne-eqb k 0x13 h9, ne-eqb k 0x15 h10, ne-eqb k 0x18 h11, ne-eqb k 0x19 h12, ne-eqb k 0x1d h13, ne-eqb k 0x1f h14) (go (eqb k 0x40))
   where
     go : (t : Bool) → readOf (cond t (some (row 0x40 3 (λ c. free handShake))) none) c ≡ free handShake
     go true = refl

@@ -12,34 +12,37 @@ use Rattle.protocol.specs.Call.{fitPlain, fitTransfer, fitOrigin}
 use Rattle.protocol.specs.Records.{originOf, readerOf}
 
 -- the one place that lists all fields
-abbrev pub record-of : List ℕ → List ℕ → ℕ → ℕ → ℕ → ℕ → ℕ → ℕ → Bool → Bool → Bool → ℕ → ℕ → Settings
-record-of p a l z b w k g v f h o q =
-    record { password = p; address = a; level = l; size = z; baud = b; transfer = w; sensor = k; got = g; verified = v; filled1 = f; filled2 = h; origin1 = o; origin2 = q }
+abbrev pub record-of : List ℕ → List ℕ → ℕ → ℕ → ℕ → ℕ → ℕ → ℕ → Bool → Bool → Bool → Bool → ℕ → ℕ → Settings
+record-of p a l z b w k g v f h m o q =
+    record { password = p; address = a; level = l; size = z; baud = b; transfer = w; sensor = k; got = g; verified = v; filled1 = f; filled2 = h; found = m; origin1 = o; origin2 = q }
 
 abbrev pub withMark : Bool → Settings → Settings
-withMark v s = record-of (s .password) (s .address) (s .level) (s .size) (s .baud) (s .transfer) (s .sensor) (s .got) v (s .filled1) (s .filled2) (s .origin1) (s .origin2)
+withMark v s = record-of (s .password) (s .address) (s .level) (s .size) (s .baud) (s .transfer) (s .sensor) (s .got) v (s .filled1) (s .filled2) (s .found) (s .origin1) (s .origin2)
 
 abbrev pub withPassword : List ℕ → Settings → Settings
-withPassword p s = record-of p (s .address) (s .level) (s .size) (s .baud) (s .transfer) (s .sensor) (s .got) false (s .filled1) (s .filled2) (s .origin1) (s .origin2)
+withPassword p s = record-of p (s .address) (s .level) (s .size) (s .baud) (s .transfer) (s .sensor) (s .got) false (s .filled1) (s .filled2) (s .found) (s .origin1) (s .origin2)
 
 abbrev pub withAddress : List ℕ → Settings → Settings
-withAddress a s = record-of (s .password) a (s .level) (s .size) (s .baud) (s .transfer) (s .sensor) (s .got) (s .verified) (s .filled1) (s .filled2) (s .origin1) (s .origin2)
+withAddress a s = record-of (s .password) a (s .level) (s .size) (s .baud) (s .transfer) (s .sensor) (s .got) (s .verified) (s .filled1) (s .filled2) (s .found) (s .origin1) (s .origin2)
 
 abbrev pub withTuning : ℕ → ℕ → ℕ → Settings → Settings
-withTuning b l z s = record-of (s .password) (s .address) l z b (s .transfer) (s .sensor) (s .got) (s .verified) (s .filled1) (s .filled2) (s .origin1) (s .origin2)
+withTuning b l z s = record-of (s .password) (s .address) l z b (s .transfer) (s .sensor) (s .got) (s .verified) (s .filled1) (s .filled2) (s .found) (s .origin1) (s .origin2)
 
 abbrev pub withTransfer : ℕ → ℕ → Settings → Settings
-withTransfer w g s = record-of (s .password) (s .address) (s .level) (s .size) (s .baud) w (s .sensor) g (s .verified) (s .filled1) (s .filled2) (s .origin1) (s .origin2)
+withTransfer w g s = record-of (s .password) (s .address) (s .level) (s .size) (s .baud) w (s .sensor) g (s .verified) (s .filled1) (s .filled2) (s .found) (s .origin1) (s .origin2)
 
 abbrev pub withFilled : Bool → Bool → Settings → Settings
-withFilled f h s = record-of (s .password) (s .address) (s .level) (s .size) (s .baud) (s .transfer) (s .sensor) (s .got) (s .verified) f h (s .origin1) (s .origin2)
+withFilled f h s = record-of (s .password) (s .address) (s .level) (s .size) (s .baud) (s .transfer) (s .sensor) (s .got) (s .verified) f h (s .found) (s .origin1) (s .origin2)
 
 abbrev pub withOrigins : ℕ → ℕ → Settings → Settings
-withOrigins o q s = record-of (s .password) (s .address) (s .level) (s .size) (s .baud) (s .transfer) (s .sensor) (s .got) (s .verified) (s .filled1) (s .filled2) o q
+withOrigins o q s = record-of (s .password) (s .address) (s .level) (s .size) (s .baud) (s .transfer) (s .sensor) (s .got) (s .verified) (s .filled1) (s .filled2) (s .found) o q
+
+abbrev pub withFound : Bool → Settings → Settings
+withFound m s = record-of (s .password) (s .address) (s .level) (s .size) (s .baud) (s .transfer) (s .sensor) (s .got) (s .verified) (s .filled1) (s .filled2) m (s .origin1) (s .origin2)
 
 -- what a line switch leaves of them
 abbrev pub withSwitch : Settings → Settings
-withSwitch s = record-of (s .password) (s .address) (s .level) (s .size) (s .baud) 0 (s .sensor) 0 false false false noPage noPage
+withSwitch s = record-of (s .password) (s .address) (s .level) (s .size) (s .baud) 0 (s .sensor) 0 false false false false noPage noPage
 
 -- ---- the data bytes of a size code
 

@@ -12,6 +12,7 @@ pub fn required(code: u8) -> usize
     ensures { λ r. ⌜ r ≡ lenOf (rowOf commands code) ⌝ }
 {
     match code {
+        0x04 => 8,
         0x06 => 6,
         0x07 => 6,
         0x08 => 4,
@@ -28,7 +29,8 @@ pub fn required(code: u8) -> usize
         0x1D => 3,
         0x1F => 4,
         0x40 => 3,
-        0x00..=0x05 => 0,
+        0x00..=0x03 => 0,
+        0x05 => 0,
         0x0A..=0x0B => 0,
         0x10..=0x11 => 0,
         0x14 => 0,

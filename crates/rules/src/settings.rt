@@ -8,12 +8,12 @@ ghost use Rattle.protocol.specs.Numbers.{highestSize};
 ghost use Rattle.protocol.specs.Reader.{locked};
 ghost use Rattle.protocol.specs.Call.{fitPlain, fitTransfer};
 ghost use Rattle.protocol.specs.Records.{plainOf, transferOf, readerOf, freshOf};
-ghost use Rattle.rules.specs.Settings.{withMark, withPassword, withAddress, withTuning, withTransfer, withFilled, withOrigins, withSwitch, SizeOf, legalOf};
+ghost use Rattle.rules.specs.Settings.{withMark, withPassword, withAddress, withTuning, withTransfer, withFilled, withOrigins, withFound, withSwitch, SizeOf, legalOf};
 use protocol::Settings;
 use protocol::numbers;
 use wire::bytes;
 
-// Fresh settings: password 0, address FFFFFFFFh, level 3, size code 2, baud factor 6, type 0, marks clear, no transfer, no origins.
+// Fresh settings: password 0, address FFFFFFFFh, level 3, size code 2, baud factor 6, type 0, marks clear, no transfer, no origins, status bit 1 clear.
 pub fn fresh() -> Settings
     ensures { λ r. ⌜ ((t i n b c : List ℕ) → readerOf r t i n b c ≡ freshOf t i n b c) ⌝ }
 {
@@ -29,6 +29,7 @@ pub fn fresh() -> Settings
         verified: false,
         filled1: false,
         filled2: false,
+        found: false,
         origin1: numbers::NO_PAGE,
         origin2: numbers::NO_PAGE,
     }
@@ -96,7 +97,16 @@ pub fn linked(s: Settings, one: u16, two: u16) -> Settings
     t
 }
 
-// Verified mark and filled marks clear, no origins, no transfer.
+// Status bit 1 set or clear.
+pub fn remembered(s: Settings, found: bool) -> Settings
+    ensures { λ r. ⌜ r ≡ withFound found s ⌝ }
+{
+    let mut t = s;
+    t.found = found;
+    t
+}
+
+// Verified mark, filled marks and status bit 1 clear, no origins, no transfer.
 pub fn switched(s: Settings) -> Settings
     ensures { λ r. ⌜ r ≡ withSwitch s ⌝ }
 {
@@ -106,6 +116,7 @@ pub fn switched(s: Settings) -> Settings
     t.verified = false;
     t.filled1 = false;
     t.filled2 = false;
+    t.found = false;
     t.origin1 = numbers::NO_PAGE;
     t.origin2 = numbers::NO_PAGE;
     t

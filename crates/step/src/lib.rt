@@ -18,10 +18,12 @@ pub extern "C" fn bystrodol_step(
     notepad: &mut [u8],
     buffer1: &mut [u8],
     buffer2: &mut [u8],
+    scores: &[u16],
+    thresholds: &[u16],
     run: &[u8],
     reply: &mut [u8],
 ) -> Answered
-    ensures { λ r. ⌜ storedEndOf (storedCalledAt (now (settings .exit)) r) (now (templates .exit)) (now (index .exit)) (now (notepad .exit)) (now (buffer1 .exit)) (now (buffer2 .exit)) (now (reply .exit)) ≡ storedCallOf (storedReaderOf (now (settings .entry)) (now (templates .entry)) (now (index .entry)) (now (notepad .entry)) (now (buffer1 .entry)) (now (buffer2 .entry))) (now (run .entry)) (lentOf (now (reply .entry))) ⌝ }
+    ensures { λ r. ⌜ storedEndOf (storedCalledAt (now (settings .exit)) r) (now (templates .exit)) (now (index .exit)) (now (notepad .exit)) (now (buffer1 .exit)) (now (buffer2 .exit)) (now (reply .exit)) ≡ storedCallOf (storedReaderOf (now (settings .entry)) (now (templates .entry)) (now (index .entry)) (now (notepad .entry)) (now (buffer1 .entry)) (now (buffer2 .entry))) (now (run .entry)) (lentOf (now (scores .entry)) (now (thresholds .entry)) (now (reply .entry))) ⌝ }
 {
     let called = stored::step(
         *settings,
@@ -30,6 +32,8 @@ pub extern "C" fn bystrodol_step(
         notepad,
         buffer1,
         buffer2,
+        scores,
+        thresholds,
         run,
         reply,
     );

@@ -18,7 +18,7 @@ pub const PAGES: usize = 64;
 /// The longest unfinished packet.
 const MOST_LEFT: usize = 266;
 /// The stored input stays below so many bytes.
-const MOST_SENT: usize = 20_000;
+const MOST_SENT: usize = 24_000;
 /// The lengths of the pieces that the input is cut into, beside the whole of it and pieces by chance.
 const PIECES: [usize; 11] = [1, 2, 3, 7, 16, 60, HOLDS - 1, HOLDS, HOLDS + 1, 700, 4096];
 /// So many ways of pieces by chance.

@@ -2,6 +2,7 @@
 
 use crate::bringing_over;
 use crate::chance::Chance;
+use crate::chips;
 use crate::frame::{Kind, Outcome, Request, MOST_RUN};
 use crate::reader::*;
 use crate::readers::{address, any_legal_reader, capacity, password, size, spoiled_reader};
@@ -14,7 +15,8 @@ pub enum Event {
     LineSwitch,
 }
 
-/// A reader that is called again and again, each time with what is left of the bytes that came in.
+/// A reader that is called again and again, each time with what is left of the bytes that came in, and with new scores
+/// and thresholds.
 pub struct Dialogue {
     chance: Chance,
     reader: Reader,
@@ -48,7 +50,8 @@ impl Dialogue {
         }
         let room = ROOM + self.chance.pick(&[0, 0, 1, 20]);
         let room = self.chance.bytes(room);
-        Some(Request { kind, reader: self.reader.clone(), run: self.left.clone(), room })
+        let request = Request { kind, reader: self.reader.clone(), run: self.left.clone(), room };
+        Some(chips::renewed(&mut self.chance, request))
     }
 
     /// Goes on from where the answer left the reader.
@@ -78,7 +81,7 @@ pub fn single(mut chance: Chance) -> Request {
         22..=33 => return bringing_over::by_chance(&mut chance, Request { kind: Kind::BringOver, reader, run, room }),
         _ => Kind::Call,
     };
-    Request { kind, reader, run, room }
+    chips::suited(&mut chance, Request { kind, reader, run, room })
 }
 
 /// Writes what is sent to a reader, knowing how the reader stands.
@@ -109,7 +112,7 @@ impl Author<'_> {
         if self.reader.settings.locked() && self.chance.percent(40) {
             return vec![Event::Bytes(self.right_password())];
         }
-        let scene = match self.chance.below(100) {
+        let scene = match self.chance.below(112) {
             0..=20 => self.runs(1, 1, Author::any_command),
             21..=30 => self.runs(2, 6, Author::any_command),
             31..=36 => self.runs(1, 2, Author::damaged_command),
@@ -126,6 +129,8 @@ impl Author<'_> {
             81..=85 => self.lock(),
             86..=88 => self.new_address(),
             89..=96 => self.runs(1, 3, Author::origin_command),
+            97..=102 => self.runs(1, 2, |author| author.command(SEARCH)),
+            103..=108 => self.searches(),
             _ => vec![Event::LineSwitch],
         };
         self.arranged(scene)
@@ -184,6 +189,11 @@ impl Author<'_> {
     fn content(&mut self, code: u8) -> Vec<u8> {
         let mut content = vec![code];
         match code {
+            SEARCH => {
+                let start = self.page();
+                content.push(self.filled_buffer());
+                content.extend([start, self.count_from(start)].map(u16::to_be_bytes).concat());
+            }
             STORE | LOAD_CHAR => {
                 content.push(self.buffer());
                 content.extend(self.page().to_be_bytes());
@@ -215,6 +225,15 @@ impl Author<'_> {
         self.chance.pick(&[1, 2, 1, 2, 1, 2, 1, 2, 1, 2, 1, 2, 0, 3, 255])
     }
 
+    /// Mostly a buffer that is filled.
+    fn filled_buffer(&mut self) -> u8 {
+        match self.reader.settings.filled.map(Mark::is_set) {
+            [true, _] if self.chance.percent(50) => 1,
+            [_, true] if self.chance.percent(75) => 2,
+            _ => self.buffer(),
+        }
+    }
+
     pub fn page(&mut self) -> u16 {
         let capacity = self.reader.capacity() as u16;
         match self.chance.below(10) {
@@ -236,7 +255,7 @@ impl Author<'_> {
         }
     }
 
-    /// N of a delete: what is there, one more or less, and sums that pass 65535.
+    /// N of a delete or count of a Search: what is there, one more or less, and sums that pass 65535.
     pub fn count_from(&mut self, page: u16) -> u16 {
         let there = (self.reader.capacity() as u16).wrapping_sub(page);
         let past = page.wrapping_neg();
@@ -474,6 +493,25 @@ impl Author<'_> {
             store,
         ];
         packets.retain(|_| self.chance.percent(85));
+        bytes_events(packets)
+    }
+
+    /// A stored page is loaded, and searched for, at times at another level, while a transfer is open, when it is deleted
+    /// or with a buffer that is not filled; the status is read after each Search.
+    fn searches(&mut self) -> Vec<Event> {
+        let [high, low] = self.stored_page().to_be_bytes();
+        let level = self.chance.within(1, 5) as u8;
+        let mut packets = vec![self.packet(COMMAND, &[LOAD_CHAR, 1, high, low])];
+        for between in
+            [vec![SET_SYS_PARA, 5, level], vec![DOWN_CHAR, 2], vec![DELET_CHAR, high, low, 0, 1], vec![DOWN_CHAR, 1]]
+        {
+            if self.chance.percent(50) {
+                packets.push(self.packet(COMMAND, &between));
+            }
+            packets.push(self.command(SEARCH));
+            packets.push(self.packet(COMMAND, &[READ_SYS_PARA]));
+        }
+        packets.truncate(self.chance.within(2, packets.len()));
         bytes_events(packets)
     }
 

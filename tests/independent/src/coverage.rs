@@ -4,8 +4,10 @@ use crate::frame::{Outcome, Request};
 use crate::reader::*;
 use std::collections::BTreeSet;
 
-/// Document 01's table with document 02's request [5]: a command, its length field, and the codes of its row's tests.
+/// Document 01's table with document 02's requests [5] and [8]: a command, its length field, and the codes that its row
+/// has beside 00h.
 pub const ROWS: [(u8, usize, &[u8]); COMMANDS.len()] = [
+    (SEARCH, 8, &[0x01, 0x09, 0x0B, 0x0C]),
     (STORE, 6, &[0x01, 0x0B, 0x0C, 0x22]),
     (LOAD_CHAR, 6, &[0x01, 0x0B, 0x0C]),
     (UP_CHAR, 4, &[0x01, 0x0D]),
@@ -54,7 +56,7 @@ impl Coverage {
     }
 }
 
-/// Of each command: 00h, 01h for a wrong length, 21h while locked unless it is free, and each code of its row's tests.
+/// Of each command: 00h, 01h for a wrong length, 21h while locked unless it is free, and each other code of its row.
 fn awaited() -> Vec<Shown> {
     let mut awaited = Vec::new();
     for (command, _, codes) in ROWS {

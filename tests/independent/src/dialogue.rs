@@ -1,5 +1,5 @@
 //! The stored dialogue with the bench program: what a host sends, and beside it what it must get, written by hand from
-//! document 01 and document 02's requests [2], [3] and [5] to [7].
+//! document 01 and document 02's requests [2], [3] and [5] to [8].
 
 use crate::coverage::ROWS;
 use crate::examples::{bytes, count, COUNT, FINE, HAND_SHAKE};
@@ -37,6 +37,9 @@ const SCENES: &[fn(&mut Host)] = &[
     new_driver,
     stored_page,
     deleted_first,
+    searches,
+    search_codes,
+    searches_between,
     lock,
     locked,
     passwords,
@@ -65,6 +68,9 @@ fn fresh(host: &mut Host) {
 /// What the rows refuse while all is empty; where two tests fail, the left one gives the code.
 fn refused_rows(host: &mut Host) {
     host.commands(&[
+        ("Search buffer 0", "04 00 0000 0040", 0x01),
+        ("Search start 64, not filled: start first", "04 01 0040 0001", 0x0B),
+        ("Search not filled", "04 01 0000 0040", 0x0C),
         ("Store buffer 0", "06 00 0000", 0x01),
         ("Store buffer 3, page beyond: buffer first", "06 03 0040", 0x01),
         ("Store page 64, not filled: page first", "06 01 0040", 0x0B),
@@ -220,7 +226,7 @@ fn noise_inside(host: &mut Host) {
 }
 
 fn unknown_codes(host: &mut Host) {
-    for code in bytes("00 01 05 0A 0B 10 11 14 16 17 1A 1B 1C 1E 20 35 3F 41 C0 FF") {
+    for code in bytes("00 01 02 03 05 0A 0B 10 11 14 16 17 1A 1B 1C 1E 20 35 3F 41 C0 FF") {
         host.gets(&format!("unknown code {code:02X}"), &host.packet(COMMAND, &[code]), 0x19);
     }
     host.command("unknown code with parameters", "20 01 02 03 04", 0x19);
@@ -490,17 +496,86 @@ fn deleted_first(host: &mut Host) {
     host.upload("it is the old driver", 2, &third(), 128);
 }
 
+/// Pages 12 and 13 are stored, both buffers are filled, and all scores are the same: the lowest page is found.
+fn searches(host: &mut Host) {
+    host.parameters("nothing found so far", 0, 5, 2, 6);
+    host.searches("Search everywhere", "01 0000 0040", Some(12));
+    host.parameters("found: status 2", 2, 5, 2, 6);
+    host.searches("Search up to page 11", "01 0000 000C", None);
+    host.parameters("not found: status 0", 0, 5, 2, 6);
+    host.searches("Search up to page 12", "01 0000 000D", Some(12));
+    host.searches("Search page 12 alone", "02 000C 0001", Some(12));
+    host.searches("Search no page", "01 000C 0000", None);
+    host.searches("Search page 13 alone", "01 000D 0001", Some(13));
+    host.searches("Search from page 13 on", "02 000D 0033", Some(13));
+    host.searches("Search from page 14 on", "01 000E 0032", None);
+    host.searches("Search from page 12 on, cut at 64", "01 000C 0035", Some(12));
+    host.searches("Search from page 13 on, up to 65535", "01 000D FFF2", Some(13));
+    host.searches("Search from page 13 on, up to 65536", "01 000D FFF3", Some(13));
+    host.searches("Search from page 13 on, up to 65548", "01 000D FFFF", Some(13));
+    host.searches("Search page 63", "02 003F FFFF", None);
+    host.parameters("not found: status 0", 0, 5, 2, 6);
+}
+
+/// The other codes keep the found mark, and so do other commands; a Search ends a transfer.
+fn search_codes(host: &mut Host) {
+    let codes = [
+        ("Search buffer 0", "04 00 000C 0001", 0x01),
+        ("Search buffer 3, start beyond: buffer first", "04 03 0040 0001", 0x01),
+        ("Search start 64", "04 01 0040 0000", 0x0B),
+        ("Search start 268", "04 02 010C 0001", 0x0B),
+        ("Search start 65535", "04 02 FFFF 0001", 0x0B),
+        ("Search without a count", "04 01 000C", 0x01),
+    ];
+    host.commands(&codes);
+    host.parameters("still not found", 0, 5, 2, 6);
+    host.searches("Search page 12", "01 000C 0001", Some(12));
+    host.commands(&codes);
+    host.gets("Search page 14, wrong sum", &host.damaged(COMMAND, &bytes("04 01 000E 0001"), 1), 0x01);
+    host.parameters("still found", 2, 5, 2, 6);
+    host.command("DownChar 2", "09 02", 0x00);
+    host.silent("one part", &part(host));
+    host.searches("Search page 14 ends the transfer", "01 000E 0001", None);
+    closed(host, "closed");
+    host.command("DownChar 2", "09 02", 0x00);
+    host.searches("Search page 13 ends the transfer too", "01 000D 0001", Some(13));
+    closed(host, "closed");
+    host.command("Search buffer 2, not filled", "04 02 000D 0001", 0x0C);
+    host.command("Search buffer 2, start 64: start first", "04 02 0040 0001", 0x0B);
+    host.command("DownChar 2", "09 02", 0x00);
+    host.command("Search buffer 2, not filled, ends the transfer", "04 02 000D 0001", 0x0C);
+    closed(host, "closed");
+    host.parameters("still found", 2, 5, 2, 6);
+    host.command("LoadChar 2 from page 13", "07 02 000D", 0x00);
+}
+
+/// What is stored is found, and what is deleted is not.
+fn searches_between(host: &mut Host) {
+    host.searches("Search below 12", "01 0000 000C", None);
+    host.command("Store page 5", "06 01 0005", 0x00);
+    host.parameters("Store does not find", 0, 5, 2, 6);
+    host.searches("Search below 12 again", "02 0000 000C", Some(5));
+    host.command("DeletChar (5, 1)", "0C 0005 0001", 0x00);
+    host.parameters("the page is gone, the status stays", 2, 5, 2, 6);
+    host.command("Search buffer 1, wiped", "04 01 0000 000C", 0x0C);
+    host.searches("Search below 12, with buffer 2", "02 0000 000C", None);
+    host.command("LoadChar 1 from page 12", "07 01 000C", 0x00);
+}
+
 fn lock(host: &mut Host) {
     host.command("VfyPwd 1 while the password is 0", "13 00000001", 0x13);
     host.parameters("status 0", 0, 5, 2, 6);
     host.count("not locked all the same", 2);
     host.command("VfyPwd 0", "13 00000000", 0x00);
     host.parameters("status 4", 4, 5, 2, 6);
+    host.searches("Search everywhere", "01 0000 0040", Some(12));
+    host.parameters("status 6, both bits", 6, 5, 2, 6);
     host.command("SetPwd", "12 EF01A5FF", 0x00);
 }
 
 /// A locked reader: sum, code and length come before the lock, and the lock before the row's tests.
 fn locked(host: &mut Host) {
+    locked_out(host, "04 01 000E 0001, 04 01 000C 0001, 04 03 0000 0001, 04 01 0040 0001");
     locked_out(host, "06 01 0000, 06 00 0000, 06 01 000C, 06 02 000C, 07 01 0007, 08 01, 08 03, 09 01");
     locked_out(host, "0C 0000 0001, 0C FFFF FFFF, 0D, 0E 04 01, 0E 09 00, 0F, 12 00000000, 15 12345678");
     host.write_note("locked: WriteNotepad page 0", 0, &[0; NOTE], 0x21);
@@ -509,6 +584,7 @@ fn locked(host: &mut Host) {
     host.gets("locked, wrong sum", &host.damaged(COMMAND, &[0x1D], 1), 0x01);
     host.command("locked, unknown code", "21", 0x19);
     host.command("locked, wrong length", "1D 00", 0x01);
+    host.command("locked, Search of wrong length", "04 01 0000 00", 0x01);
     host.command("locked, VfyPwd of wrong length", "13 EF01A5", 0x01);
     host.silent("locked, data", &[host.packet(DATA, &[0x33]), host.damaged(LAST_DATA, &[0x33], 1)].concat());
     host.command("locked, HandShake", "40", 0x00);
@@ -528,6 +604,8 @@ fn passwords(host: &mut Host) {
     host.gets("right password with a wrong sum", &host.damaged(COMMAND, &bytes("13 EF01A5FF"), 1), 0x01);
     host.command("still locked", "1D", 0x21);
     host.command("right password", "13 EF01A5FF", 0x00);
+    host.parameters("status 6, still found", 6, 5, 2, 6);
+    host.searches("Search page 14", "01 000E 0001", None);
     host.parameters("status 4", 4, 5, 2, 6);
     host.count("nothing was lost: two stored", 2);
     host.upload("nothing was lost: buffer 2", 2, &third(), 128);

@@ -1,7 +1,9 @@
-//! The table of examples P1 to P12, and examples of document 02's requests [1] to [3] and [5] to [7].
+//! The table of examples P1 to P12, and examples of document 02's requests [1] to [3] and [5] to [8].
 
 use crate::examples_origins;
-use crate::reader::{Reader, SET};
+use crate::examples_search;
+use crate::host::{packet, FRESH};
+use crate::reader::{Reader, ACKNOWLEDGE, COMMAND, SET};
 use crate::readers::fresh_reader;
 use crate::receiver::Receiver;
 
@@ -21,6 +23,12 @@ pub struct Step {
     pub reply: Vec<u8>,
     /// The receiver after the step.
     pub receiver: Option<Receiver>,
+}
+
+/// A command by its content, at the fresh address, and what its acknowledge has.
+pub fn exchange(content: &str, acknowledge: &[u8]) -> Step {
+    let run = packet(FRESH, COMMAND, &bytes(content), 0);
+    Step { used: run.len(), run, reply: packet(FRESH, ACKNOWLEDGE, acknowledge, 0), receiver: None }
 }
 
 pub const HAND_SHAKE: &str = "EF 01 A 01 00 03 40 00 44";
@@ -59,8 +67,10 @@ pub fn all() -> Vec<Example> {
         of_size_code_3(),
         of_stores(),
         examples_origins::all(),
+        examples_search::all(),
         of_pages(),
         of_index_pages(),
+        of_pages_received(),
     ];
     all.into_iter().flatten().collect()
 }
@@ -327,6 +337,39 @@ fn of_pages() -> Vec<Example> {
     ]
 }
 
+/// A reader of 257 pages with an empty receiver and buffer 1 filled: page 256 stored, loaded, deleted and emptied.
+fn of_pages_received() -> Vec<Example> {
+    let mut reader = fresh_reader(257);
+    reader.settings.filled[0] = SET;
+    let steps = [
+        ("0F", "00 0000 0000 0101 0003 A 0002 0006"),
+        ("06 01 0100", "00"),
+        ("1D", "00 0001"),
+        ("07 02 0000", "0C"),
+        ("07 02 0100", "00"),
+        ("0C 00FF 0002", "00"),
+        ("1D", "00 0000"),
+        ("07 02 0100", "0C"),
+    ];
+    let mut emptied = reader.clone();
+    emptied.index[32] = 0x01;
+    let received = |name, reader: Reader, steps: &[(&str, &str)]| {
+        let step = |&(content, acknowledge): &(&str, &str)| Step {
+            receiver: Some(Receiver::empty()),
+            ..exchange(content, &bytes(acknowledge))
+        };
+        Example { name, receiver: Some(Receiver::empty()), reader, steps: steps.iter().map(step).collect() }
+    };
+    vec![
+        received("page 256 received", reader, &steps),
+        received(
+            "page 256 emptied by a receiver",
+            emptied,
+            &[("0C 0100 0001", "00"), ("06 01 0100", "00"), ("0D", "00")],
+        ),
+    ]
+}
+
 /// Readers of 1000 pages: none, all and the last page stored; and the reader of P11.
 fn of_index_pages() -> Vec<Example> {
     let none = fresh_reader(1000);
@@ -385,56 +428,61 @@ fn of_index_pages() -> Vec<Example> {
 }
 
 /// Fresh settings in a frame.
-const FRESH_SETTINGS: &str = "00000000 A 03 02 06 00 0000 0000 00 00 00 FFFF FFFF";
+const FRESH_SETTINGS: &str = "00000000 A 03 02 06 00 0000 0000 00 00 00 00 FFFF FFFF";
+
+/// A score and five thresholds in a frame in.
+const CHIP: &str = "1234 0001 0203 FFFF 8000 7FFF";
 
 /// A name, a frame in and the frame out, byte by byte.
 pub type Frames = (&'static str, Vec<u8>, Vec<u8>);
 
-pub fn of_frames() -> Vec<Frames> {
-    [of_settings(), of_unfit_indexes(), of_brought_over(), examples_origins::of_frames()].concat()
+/// Frames, part by part as they are asked for.
+pub fn of_frames() -> impl Iterator<Item = Frames> {
+    let parts: [fn() -> Vec<Frames>; 4] = [of_settings, of_unfit_indexes, of_brought_over, examples_origins::of_frames];
+    parts.into_iter().chain(examples_search::OF_FRAMES).flat_map(|part| part())
 }
 
 /// Fresh settings, and settings and held counts that do not fit or just fit.
 fn of_settings() -> Vec<Frames> {
     let example = |name, frame_in: &str, frame_out: &str| (name, bytes(frame_in), bytes(frame_out));
-    // C = 1, all memory zeroed, P1's run and a reply room of 700 bytes.
-    let lengths = "00000200 00000080 00000200 00000200 00000200 0000000C 000002BC";
+    // C = 1, all memory zeroed, one score and five thresholds, P1's run and a reply room of 700 bytes.
+    let lengths = "00000200 00000080 00000200 00000200 00000200 00000001 00000005 0000000C 000002BC";
     let memory = zeroes(512 + 128 + 3 * 512);
     let room = room();
-    let unfit = "00000000 A 03 04 06 00 0000 0000 00 00 00 FFFF FFFF";
+    let unfit = "00000000 A 03 04 06 00 0000 0000 00 00 00 00 FFFF FFFF";
     let held_268 = format!("010C{}", " 41".repeat(267));
     let held_267 = format!("010B{}", " 41".repeat(267));
     let held_none = format!("0000{}", zeroes(267));
     vec![
         example(
             "fresh settings for unfit ones, with unfit lengths",
-            "04 01234567 89ABCDEF 00 04 0D 07 1234 FFFF 02 80 FF FFFE 0000
-             00000003 00000001 00000000 00000002 00000001 00000002 00000004
-             010203 FF 0405 06 EF01 0708090A",
-            "00 00000000 00000000 00000000 A 03 02 06 00 0000 0000 00 00 00 FFFF FFFF
+            "04 01234567 89ABCDEF 00 04 0D 07 1234 FFFF 02 80 FF 03 FFFE 0000
+             00000003 00000001 00000000 00000002 00000001 00000002 00000001 00000002 00000004
+             010203 FF 0405 06 1234FFFF 8001 EF01 0708090A",
+            "00 00000000 00000000 00000000 A 03 02 06 00 0000 0000 00 00 00 00 FFFF FFFF
              010203 FF 0405 06 0708090A",
         ),
         example(
             "fresh settings for stored ones, with P1's run",
-            "04 00000005 89ABCDEF 05 01 0C 02 0001 0040 01 01 00 0007 FFFF
-             00000000 00000000 00000000 00000000 00000000 0000000C 00000001
+            "04 00000005 89ABCDEF 05 01 0C 02 0001 0040 01 01 00 01 0007 FFFF
+             00000000 00000000 00000000 00000000 00000000 00000000 00000000 0000000C 00000001
              EF 01 A 01 00 03 40 00 44 5A",
-            "00 00000000 00000000 00000000 A 03 02 06 00 0000 0000 00 00 00 FFFF FFFF
+            "00 00000000 00000000 00000000 A 03 02 06 00 0000 0000 00 00 00 00 FFFF FFFF
              5A",
         ),
         example(
             "refusal 3 for size code 4",
-            &format!("00 {unfit} {lengths} {memory} {HAND_SHAKE} {room}"),
+            &format!("00 {unfit} {lengths} {memory} {CHIP} {HAND_SHAKE} {room}"),
             &format!("03 00000000 00000000 {unfit} {memory} {room}"),
         ),
         example(
             "refusal 3 for a held count of 268",
-            &format!("02 {FRESH_SETTINGS} {lengths} {held_268} {memory} {HAND_SHAKE} {room}"),
+            &format!("02 {FRESH_SETTINGS} {lengths} {held_268} {memory} {CHIP} {HAND_SHAKE} {room}"),
             &format!("03 00000000 00000000 {FRESH_SETTINGS} {held_268} {memory} {room}"),
         ),
         example(
             "a held count of 267, all noise",
-            &format!("02 {FRESH_SETTINGS} {lengths} {held_267} {memory} {HAND_SHAKE} {room}"),
+            &format!("02 {FRESH_SETTINGS} {lengths} {held_267} {memory} {CHIP} {HAND_SHAKE} {room}"),
             &format!("00 00000000 00000000 {FRESH_SETTINGS} {held_none} {memory} {room}"),
         ),
     ]
@@ -449,9 +497,9 @@ fn room() -> String {
 fn of_unfit_indexes() -> Vec<Frames> {
     let room = room();
     let example = |name, refusal: &str, index_length: &str, index: &str| {
-        let lengths = format!("00000200 {index_length} 00000200 00000200 00000200 0000000C 000002BC");
+        let lengths = format!("00000200 {index_length} 00000200 00000200 00000200 00000001 00000005 0000000C 000002BC");
         let memory = format!("{} {index} {}", zeroes(512), zeroes(3 * 512));
-        let frame_in = format!("00 {FRESH_SETTINGS} {lengths} {memory} {HAND_SHAKE} {room}");
+        let frame_in = format!("00 {FRESH_SETTINGS} {lengths} {memory} {CHIP} {HAND_SHAKE} {room}");
         let frame_out = format!("{refusal} 00000000 00000000 {FRESH_SETTINGS} {memory} {room}");
         (name, bytes(&frame_in), bytes(&frame_out))
     };
@@ -459,6 +507,7 @@ fn of_unfit_indexes() -> Vec<Frames> {
         example("refusal 1 for an index of 32 bytes", "01", "00000020", &zeroes(32)),
         example("refusal 1 for an index of 127 bytes", "01", "0000007F", &zeroes(127)),
         example("refusal 1 for an index of 129 bytes", "01", "00000081", &zeroes(129)),
+        example("refusal 3 for page 1", "03", "00000080", &format!("02 {}", zeroes(127))),
         example("refusal 3 for page 256", "03", "00000080", &format!("{} 01 {}", zeroes(32), zeroes(95))),
         example("refusal 3 for page 1023", "03", "00000080", &format!("{} 80", zeroes(127))),
     ]
@@ -466,23 +515,41 @@ fn of_unfit_indexes() -> Vec<Frames> {
 
 /// A stored index that is brought over or not, with settings, templates and buffers that no call takes.
 fn of_brought_over() -> Vec<Frames> {
-    let settings = "01234567 89ABCDEF 00 04 0D 07 1234 FFFF 02 80 FF 03E8 FFFE";
+    let settings = "01234567 89ABCDEF 00 04 0D 07 1234 FFFF 02 80 FF FE 03E8 FFFE";
     let example = |name, refusal: &str, lent: (&str, &str), stored: (&str, &str), left: &str| {
-        let lengths = format!("00000003 {} 00000000 00000002 00000001 {} 00000004", lent.0, stored.0);
-        let frame_in = format!("05 {settings} {lengths} 010203 {} 0405 06 {} 0708090A", lent.1, stored.1);
+        let lengths = format!("00000003 {} 00000000 00000002 00000001 00000000 00000001 {} 00000004", lent.0, stored.0);
+        let frame_in = format!("05 {settings} {lengths} 010203 {} 0405 06 EF01 {} 0708090A", lent.1, stored.1);
         let frame_out = format!("{refusal} 00000000 00000000 {settings} 010203 {left} 0405 06 0708090A");
         (name, bytes(&frame_in), bytes(&frame_out))
     };
     let stored_31 = "01 02 04 08 10 20 40 80 FE FD FB F7 EF DF BF 7F 00 FF 0F F0 AA 55 12 34 56 78 9A BC DE F1 EF";
     let stored_32 = format!("{stored_31} 01");
     let stored_33 = format!("{stored_32} 00");
-    let [lent_127, lent_128, lent_129] = [127, 128, 129].map(|length| "A5".repeat(length));
+    let [lent_32, lent_127, lent_128, lent_129] = [32, 127, 128, 129].map(|length| "A5".repeat(length));
+    let stored_128 = "5A".repeat(128);
     let stored = ("00000020", &stored_32[..]);
     let lent = ("00000080", &lent_128[..]);
     vec![
         example("an index brought over", "00", lent, stored, &format!("{stored_32} {}", zeroes(96))),
         example("31 bytes not brought over", "01", lent, ("0000001F", stored_31), &lent_128),
         example("33 bytes not brought over", "01", lent, ("00000021", &stored_33), &lent_128),
+        example("128 bytes not brought over", "01", lent, ("00000080", &stored_128), &lent_128),
+        example("no bytes not brought over", "01", lent, ("00000000", ""), &lent_128),
+        example(
+            "31 bytes not brought over into 127",
+            "01",
+            ("0000007F", &lent_127),
+            ("0000001F", stored_31),
+            &lent_127,
+        ),
+        example(
+            "128 bytes not brought over into 32",
+            "01",
+            ("00000020", &lent_32),
+            ("00000080", &stored_128),
+            &lent_32,
+        ),
+        example("none brought over into 32 bytes", "01", ("00000020", &lent_32), stored, &lent_32),
         example("none brought over into 127 bytes", "01", ("0000007F", &lent_127), stored, &lent_127),
         example("none brought over into 129 bytes", "01", ("00000081", &lent_129), stored, &lent_129),
     ]

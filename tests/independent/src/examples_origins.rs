@@ -1,6 +1,6 @@
 //! Examples of document 02's request [7]: what a host sees of it, and the origins in frames.
 
-use crate::examples::{bytes, Example, Frames, Step};
+use crate::examples::{bytes, exchange, Example, Frames};
 use crate::host::{packet, FRESH};
 use crate::reader::{Reader, ACKNOWLEDGE, COMMAND, DATA, LAST_DATA, PAGE, ROOM, SET};
 use crate::readers::{fresh_reader, index_of};
@@ -53,10 +53,7 @@ pub fn all() -> Vec<Example> {
 }
 
 fn example(name: &'static str, reader: &Reader, exchanges: Exchanges) -> Example {
-    let step = |&(content, code): &(&str, u8)| {
-        let run = packet(FRESH, COMMAND, &bytes(content), 0);
-        Step { used: run.len(), run, reply: packet(FRESH, ACKNOWLEDGE, &[code], 0), receiver: None }
-    };
+    let step = |&(content, code): &(&str, u8)| exchange(content, &[code]);
     Example { name, receiver: None, reader: reader.clone(), steps: exchanges.iter().map(step).collect() }
 }
 
@@ -65,9 +62,9 @@ fn example(name: &'static str, reader: &Reader, exchanges: Exchanges) -> Example
 type Stand = (&'static str, [u8; 2], u8, [u8; 2]);
 
 /// Both pages are stored, and each buffer has one of them.
-const LOADED: Stand = ("00 0000 0000 00 01 01 0001 0000", [0x11, 0x22], 0x03, [0x22, 0x11]);
+const LOADED: Stand = ("00 0000 0000 00 01 01 00 0001 0000", [0x11, 0x22], 0x03, [0x22, 0x11]);
 /// Page 0 alone is stored, and buffer 2 has it.
-const HALF: Stand = ("00 0000 0000 00 01 01 FFFF 0000", [0x11, 0], 0x01, [0x33, 0x11]);
+const HALF: Stand = ("00 0000 0000 00 01 01 00 FFFF 0000", [0x11, 0], 0x01, [0x33, 0x11]);
 
 /// The password of a locked reader.
 const LOCKED: &str = "00000005";
@@ -88,11 +85,11 @@ pub fn of_frames() -> Vec<Frames> {
 
 /// What sets an origin and what leaves it.
 fn of_sets() -> Vec<Frames> {
-    let vacant = ("00 0000 0000 00 01 00 0000 FFFF", [0x11, 0], 0x01, [0x11, 0]);
-    let loaded_1 = stored("00 0000 0000 00 01 01 0000 0000", [0x11, 0x11]);
-    let loaded_2 = stored("00 0000 0000 00 01 01 0001 0001", [0x22, 0x22]);
-    let stored_1 = ("00 0000 0000 00 01 01 0001 0000", [0x11, 0x33], 0x03, HALF.3);
-    let stored_2 = ("00 0000 0000 00 01 01 FFFF 0001", [0x11, 0x11], 0x03, HALF.3);
+    let vacant = ("00 0000 0000 00 01 00 00 0000 FFFF", [0x11, 0], 0x01, [0x11, 0]);
+    let loaded_1 = stored("00 0000 0000 00 01 01 00 0000 0000", [0x11, 0x11]);
+    let loaded_2 = stored("00 0000 0000 00 01 01 00 0001 0001", [0x22, 0x22]);
+    let stored_1 = ("00 0000 0000 00 01 01 00 0001 0000", [0x11, 0x33], 0x03, HALF.3);
+    let stored_2 = ("00 0000 0000 00 01 01 00 FFFF 0001", [0x11, 0x11], 0x03, HALF.3);
     vec![
         command("LoadChar to buffer 1", LOADED, "07 01 0000", 0x00, loaded_1),
         command("LoadChar to buffer 2", LOADED, "07 02 0001", 0x00, loaded_2),
@@ -105,18 +102,18 @@ fn of_sets() -> Vec<Frames> {
         command("LoadChar of a page beyond", LOADED, "07 02 0002", 0x0B, LOADED),
         command("SetPwd 0", LOADED, "12 00000000", 0x00, LOADED),
         command("SetAdder", LOADED, "15 FFFFFFFF", 0x00, LOADED),
-        command("a right password", LOADED, "13 00000000", 0x00, with("00 0000 0000 01 01 01 0001 0000")),
+        command("a right password", LOADED, "13 00000000", 0x00, with("00 0000 0000 01 01 01 00 0001 0000")),
         command("a wrong password", LOADED, "13 00000001", 0x13, LOADED),
     ]
 }
 
 /// DownChar, and a transfer of buffer 1 while buffer 2 has an origin.
 fn of_none() -> Vec<Frames> {
-    let begun = stored("01 0000 0000 00 00 01 FFFF 0000", [0, 0x11]);
-    let first = stored("01 0000 0080 00 00 01 FFFF 0000", [0, 0x11]);
-    let open = stored("01 0000 0180 00 00 01 FFFF 0000", [0x44, 0x11]);
-    let whole = stored("00 0000 0000 00 01 01 FFFF 0000", [0x44, 0x11]);
-    let ended = stored("00 0000 0000 00 00 01 FFFF 0000", [0, 0x11]);
+    let begun = stored("01 0000 0000 00 00 01 00 FFFF 0000", [0, 0x11]);
+    let first = stored("01 0000 0080 00 00 01 00 FFFF 0000", [0, 0x11]);
+    let open = stored("01 0000 0180 00 00 01 00 FFFF 0000", [0x44, 0x11]);
+    let whole = stored("00 0000 0000 00 01 01 00 FFFF 0000", [0x44, 0x11]);
+    let ended = stored("00 0000 0000 00 00 01 00 FFFF 0000", [0, 0x11]);
     let data = packet(FRESH, DATA, &[0; 128], 0);
     let last = packet(FRESH, LAST_DATA, &[0x44; 128], 0);
     let failed = packet(FRESH, ACKNOWLEDGE, &[0x0E], 0);
@@ -131,13 +128,13 @@ fn of_none() -> Vec<Frames> {
 
 /// DeletChar and Empty.
 fn of_deletes() -> Vec<Frames> {
-    let both = stored("00 0000 0000 00 01 01 0001 0001", [0x22, 0x33]);
-    let both_wiped = ("00 0000 0000 00 00 00 FFFF FFFF", [0x11, 0], 0x01, [0, 0]);
-    let without = with("00 0000 0000 00 01 01 FFFF FFFF");
-    let wiped_1 = ("00 0000 0000 00 00 01 FFFF 0000", [0x11, 0], 0x01, [0, 0x11]);
-    let wiped_2 = ("00 0000 0000 00 01 00 0001 FFFF", [0, 0x22], 0x02, [0x22, 0]);
-    let empty = ("00 0000 0000 00 00 00 FFFF FFFF", [0, 0], 0x00, [0, 0]);
-    let half_empty = ("00 0000 0000 00 01 00 FFFF FFFF", [0, 0], 0x00, [0x33, 0]);
+    let both = stored("00 0000 0000 00 01 01 00 0001 0001", [0x22, 0x33]);
+    let both_wiped = ("00 0000 0000 00 00 00 00 FFFF FFFF", [0x11, 0], 0x01, [0, 0]);
+    let without = with("00 0000 0000 00 01 01 00 FFFF FFFF");
+    let wiped_1 = ("00 0000 0000 00 00 01 00 FFFF 0000", [0x11, 0], 0x01, [0, 0x11]);
+    let wiped_2 = ("00 0000 0000 00 01 00 00 0001 FFFF", [0, 0x22], 0x02, [0x22, 0]);
+    let empty = ("00 0000 0000 00 00 00 00 FFFF FFFF", [0, 0], 0x00, [0, 0]);
+    let half_empty = ("00 0000 0000 00 01 00 00 FFFF FFFF", [0, 0], 0x00, [0x33, 0]);
     vec![
         command("DeletChar of buffer 1's page", LOADED, "0C 0001 0001", 0x00, wiped_1),
         command("DeletChar of buffer 2's page", LOADED, "0C 0000 0001", 0x00, wiped_2),
@@ -160,23 +157,23 @@ fn of_deletes() -> Vec<Frames> {
 /// Origins that are taken, and refusal 3, of a locked reader too.
 fn of_refusals() -> Vec<Frames> {
     let refused = [
-        with("00 0000 0000 00 01 01 0002 0000"),
-        with("00 0000 0000 00 01 01 0003 FFFF"),
-        with("00 0000 0000 00 01 01 0001 0002"),
-        with("00 0000 0000 00 01 01 FFFF 03E8"),
-        with("00 0000 0000 00 01 01 FFFE FFFF"),
-        with("00 0000 0000 00 01 01 FFFF FFFE"),
-        with("00 0000 0000 00 01 01 8000 0001"),
-        with("00 0000 0000 00 01 01 0100 0001"),
-        with("00 0000 0000 00 00 01 0001 0000"),
-        with("00 0000 0000 00 01 00 0001 0000"),
-        with("00 0000 0000 00 00 00 FFFF 0001"),
+        with("00 0000 0000 00 01 01 00 0002 0000"),
+        with("00 0000 0000 00 01 01 00 0003 FFFF"),
+        with("00 0000 0000 00 01 01 00 0001 0002"),
+        with("00 0000 0000 00 01 01 00 FFFF 03E8"),
+        with("00 0000 0000 00 01 01 00 FFFE FFFF"),
+        with("00 0000 0000 00 01 01 00 FFFF FFFE"),
+        with("00 0000 0000 00 01 01 00 8000 0001"),
+        with("00 0000 0000 00 01 01 00 0100 0001"),
+        with("00 0000 0000 00 00 01 00 0001 0000"),
+        with("00 0000 0000 00 01 00 00 0001 0000"),
+        with("00 0000 0000 00 00 00 00 FFFF 0001"),
         (LOADED.0, LOADED.1, 0x01, LOADED.3),
         (LOADED.0, LOADED.1, 0x02, LOADED.3),
         (LOADED.0, LOADED.1, 0x00, LOADED.3),
     ];
     let run = packet(FRESH, COMMAND, &bytes("40"), 0);
-    let twice = with("00 0000 0000 00 01 01 0000 0000");
+    let twice = with("00 0000 0000 00 01 01 00 0000 0000");
     let mut all = vec![
         command("two legal origins", LOADED, "40", 0x00, LOADED),
         command("one origin twice", twice, "40", 0x00, twice),
@@ -190,13 +187,13 @@ fn of_refusals() -> Vec<Frames> {
 
 /// The line switch takes any origins.
 fn of_line_switches() -> Vec<Frames> {
-    let wiped = stored("00 0000 0000 00 00 00 FFFF FFFF", [0, 0]);
+    let wiped = stored("00 0000 0000 00 00 00 00 FFFF FFFF", [0, 0]);
     let settings = [
         LOADED.0,
-        "02 0000 0080 01 01 00 0001 0002",
-        "03 0000 FFFF 02 80 FF FFFE 1234",
-        "00 0000 0000 00 00 00 0001 FFFF",
-        "00 0000 0000 00 01 00 FFFF 0000",
+        "02 0000 0080 01 01 00 00 0001 0002",
+        "03 0000 FFFF 02 80 FF 00 FFFE 1234",
+        "00 0000 0000 00 00 00 00 0001 FFFF",
+        "00 0000 0000 00 01 00 00 FFFF 0000",
     ];
     settings.map(|settings| frames("the line switch with origins", 1, with(settings), &[], (0, 0, &[]), wiped)).into()
 }
@@ -233,9 +230,11 @@ fn frames_with(
 ) -> Frames {
     let settings = |stand: Stand| bytes(&format!("{password} A 03 02 06 {}", stand.0));
     let four = |number: usize| (number as u32).to_be_bytes().to_vec();
-    let lengths = [2 * PAGE, 128, PAGE, PAGE, PAGE, run.len(), ROOM].map(four).concat();
+    let lengths = [2 * PAGE, 128, PAGE, PAGE, PAGE, 2, 5, run.len(), ROOM].map(four).concat();
+    let chip = vec![0x77; 2 * (2 + 5)];
     let room = [reply, &vec![0x5A; ROOM - reply.len()]].concat();
-    let frame_in = [vec![kind], settings(before), lengths, memory(before), run.to_vec(), vec![0x5A; ROOM]].concat();
+    let frame_in =
+        [vec![kind], settings(before), lengths, memory(before), chip, run.to_vec(), vec![0x5A; ROOM]].concat();
     let frame_out = [vec![refusal], four(used), four(reply.len()), settings(after), memory(after), room].concat();
     (name, frame_in, frame_out)
 }

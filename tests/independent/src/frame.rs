@@ -1,6 +1,6 @@
 //! The frames that a probe takes and gives. All numbers are high byte first.
 
-use crate::reader::{self, Answer, Mark, Origin, Reader, Settings, COMMAND};
+use crate::reader::{self, Answer, Chip, Mark, Origin, Reader, Settings, COMMAND, SEARCH};
 use crate::receiver::{self, Receiver};
 use std::io::{Error, ErrorKind, Read, Result};
 
@@ -36,15 +36,17 @@ pub struct Outcome {
     pub room: Vec<u8>,
 }
 
-/// The most bytes of each memory, in the order of a frame in.
-const MOST: [(&str, usize); 7] = [
-    ("templates", 512_512),
-    ("index", 256),
-    ("notepad", 1024),
-    ("buffer 1", 1024),
-    ("buffer 2", 1024),
-    ("run", MOST_RUN),
-    ("reply room", 4096),
+/// The most of each memory, in the order of a frame in, and the bytes that one of it takes.
+const MOST: [(&str, usize, usize); 9] = [
+    ("templates", 512_512, 1),
+    ("index", 256, 1),
+    ("notepad", 1024, 1),
+    ("buffer 1", 1024, 1),
+    ("buffer 2", 1024, 1),
+    ("scores", 1001, 2),
+    ("thresholds", 10, 2),
+    ("run", MOST_RUN, 1),
+    ("reply room", 4096, 1),
 ];
 pub const MOST_RUN: usize = 4096;
 
@@ -140,14 +142,25 @@ impl Request {
         }
     }
 
+    /// The start and the count of a Search, if the request has one of the right length.
+    pub fn searched(&self) -> Option<(usize, usize)> {
+        match reader::find(&self.whole_run()).1?.content {
+            [SEARCH, _, numbers @ ..] if numbers.len() == 4 => {
+                Some((reader::number(&numbers[..2]), reader::number(&numbers[2..])))
+            }
+            _ => None,
+        }
+    }
+
     /// The frame in.
     pub fn frame(&self) -> Vec<u8> {
-        let Reader { settings, templates, index, notepad, buffers } = &self.reader;
-        let memories = [templates, index, notepad, &buffers[0], &buffers[1], &self.run, &self.room];
+        let Reader { settings, templates, index, notepad, buffers: [one, two], chip } = &self.reader;
+        let [scores, thresholds] = [&chip.scores, &chip.thresholds].map(|numbers| numbers_to_bytes(numbers));
+        let memories = [templates, index, notepad, one, two, &scores, &thresholds, &self.run, &self.room];
         let mut frame = vec![self.kind.number()];
         frame.extend(settings_to_bytes(settings));
-        for memory in memories {
-            frame.extend(four_bytes(memory.len()));
+        for (memory, (_, _, width)) in memories.iter().zip(MOST) {
+            frame.extend(four_bytes(memory.len() / width));
         }
         frame.extend(receiver_to_bytes(self.kind.receiver()));
         for memory in memories {
@@ -164,12 +177,12 @@ impl Request {
         };
         let settings = read_settings(input)?;
         let mut memories = Vec::new();
-        for (name, most) in MOST {
+        for (name, most, width) in MOST {
             let length = read_number(input)?;
             if length > most {
-                return Err(broken(format!("{name} of {length} bytes, more than {most}")));
+                return Err(broken(format!("{name} of length {length}, more than {most}")));
             }
-            memories.push(vec![0; length]);
+            memories.push(vec![0; length * width]);
         }
         if let Some(receiver) = kind.receiver_mut() {
             *receiver = read_receiver(input)?;
@@ -179,15 +192,17 @@ impl Request {
         }
         let mut memories = memories.into_iter();
         let mut next = || memories.next().unwrap_or_default();
-        let reader = Reader { settings, templates: next(), index: next(), notepad: next(), buffers: [next(), next()] };
+        let (templates, index, notepad, buffers) = (next(), next(), next(), [next(), next()]);
+        let chip = Chip { scores: numbers(&next()), thresholds: numbers(&next()) };
+        let reader = Reader { settings, templates, index, notepad, buffers, chip };
         Ok(Some(Request { kind, reader, run: next(), room: next() }))
     }
 }
 
 impl Outcome {
-    /// The frame out.
+    /// The frame out, without the scores and thresholds.
     pub fn frame(&self) -> Vec<u8> {
-        let Reader { settings, templates, index, notepad, buffers } = &self.reader;
+        let Reader { settings, templates, index, notepad, buffers, .. } = &self.reader;
         let mut frame = vec![self.answer.refusal];
         frame.extend(four_bytes(self.answer.used));
         frame.extend(four_bytes(self.answer.length));
@@ -243,7 +258,7 @@ fn settings_to_bytes(settings: &Settings) -> Vec<u8> {
     bytes.extend([settings.level, settings.size_code, settings.baud_factor, settings.transfer]);
     bytes.extend(settings.sensor_type.to_be_bytes());
     bytes.extend(settings.got.to_be_bytes());
-    bytes.extend([settings.verified, settings.filled[0], settings.filled[1]].map(|mark| mark.0));
+    bytes.extend([settings.verified, settings.filled[0], settings.filled[1], settings.found].map(|mark| mark.0));
     bytes.extend(settings.origins.iter().flat_map(|origin| origin.0.to_be_bytes()));
     bytes
 }
@@ -254,7 +269,7 @@ fn read_settings(input: &mut impl Read) -> Result<Settings> {
     let [level, size_code, baud_factor, transfer] = read_bytes(input)?;
     let sensor_type = u16::from_be_bytes(read_bytes(input)?);
     let got = u16::from_be_bytes(read_bytes(input)?);
-    let [verified, filled_1, filled_2] = read_bytes(input)?.map(Mark);
+    let [verified, filled_1, filled_2, found] = read_bytes(input)?.map(Mark);
     let filled = [filled_1, filled_2];
     let mut origin = || read_bytes(input).map(|bytes| Origin(u16::from_be_bytes(bytes)));
     let origins = [origin()?, origin()?];
@@ -269,8 +284,17 @@ fn read_settings(input: &mut impl Read) -> Result<Settings> {
         got,
         verified,
         filled,
+        found,
         origins,
     })
+}
+
+fn numbers_to_bytes(numbers: &[u16]) -> Vec<u8> {
+    numbers.iter().flat_map(|number| number.to_be_bytes()).collect()
+}
+
+fn numbers(bytes: &[u8]) -> Vec<u16> {
+    bytes.chunks_exact(2).map(|pair| u16::from_be_bytes([pair[0], pair[1]])).collect()
 }
 
 fn read_bytes<const N: usize>(input: &mut impl Read) -> Result<[u8; N]> {

@@ -3,8 +3,8 @@
 use crate::bench::PAGES;
 use crate::examples::bytes;
 use crate::reader::{
-    ACKNOWLEDGE, COMMAND, DATA, DOWN_CHAR, INDEX_PAGE, LAST_DATA, READ_SYS_PARA, SET_ADDER, TEMPLETE_NUM, UP_CHAR,
-    WRITE_NOTEPAD,
+    ACKNOWLEDGE, COMMAND, DATA, DOWN_CHAR, INDEX_PAGE, LAST_DATA, READ_SYS_PARA, SEARCH, SET_ADDER, TEMPLETE_NUM,
+    UP_CHAR, WRITE_NOTEPAD,
 };
 
 /// The address of a fresh reader.
@@ -80,6 +80,13 @@ impl Host {
     /// Sends a command and expects 00h and these bytes behind it.
     pub fn reads(&mut self, what: &str, content: &str, listed: &[u8]) {
         self.sends(what, &self.packet(COMMAND, &bytes(content)), &self.acknowledge(0x00, listed));
+    }
+
+    /// Search, by its parameters: finds this page, with the score 0 that every page has here, or none.
+    pub fn searches(&mut self, what: &str, parameters: &str, found: Option<u8>) {
+        let (code, page) = found.map_or((0x09, 0), |page| (0x00, page));
+        let sent = self.packet(COMMAND, &bytes(&format!("{SEARCH:02X} {parameters}")));
+        self.sends(what, &sent, &self.acknowledge(code, &[0, page, 0, 0]));
     }
 
     /// TempleteNum: so many are stored.

@@ -1,6 +1,6 @@
 //! What is counted of the calls, and which of it must occur.
 
-use crate::origins::CAPACITIES as CAPACITIES_OF_ORIGINS;
+use crate::origins::CAPACITIES as CAPACITIES_IN_TURN;
 use crate::reader::*;
 use crate::readers::FAR_CAPACITIES;
 use crate::receiver::HOLDS;
@@ -102,6 +102,36 @@ pub const ORIGINS_SWITCHED: usize = 77;
 pub const UNFIT_ORIGINS_SWITCHED: usize = 78;
 pub const FRESH_ORIGINS: usize = 79;
 pub const ORIGINS_BROUGHT_OVER: usize = 80;
+pub const SEARCHES: usize = 81;
+pub const STATUSES: usize = 82;
+pub const SEARCHES_NOT_FOUND: usize = 83;
+pub const SEARCHES_FOUND: usize = 84;
+pub const CODES_NOT_FOUND: usize = 85;
+pub const CODES_FOUND: usize = 86;
+pub const COMMANDS_NOT_FOUND: usize = 87;
+pub const COMMANDS_FOUND: usize = 88;
+pub const SEARCHES_IN_TRANSFER: usize = 89;
+pub const RANGES_SEARCHED: usize = 90;
+pub const LEVELS_THAT_MATTER: usize = 91;
+pub const SCORES_TOO_LOW: usize = 92;
+pub const SCORES_JUST_ENOUGH: usize = 93;
+pub const SCORES_FOUND: usize = 94;
+pub const PAGES_FOUND: usize = 95;
+pub const PAGES_TIED: usize = 96;
+pub const CAPACITIES_SEARCHED: usize = 97;
+pub const LAST_PAGES_FOUND: usize = 98;
+pub const PLACES_FOUND: usize = 99;
+pub const HIGHER_PASSED_OVER: usize = 100;
+pub const CHIPS_BEFORE: usize = 101;
+pub const CHIPS_BY_RUN: usize = 102;
+pub const CHIPS_BY_LOCK: usize = 103;
+pub const SCORES_REFUSED: usize = 104;
+pub const THRESHOLDS_REFUSED: usize = 105;
+pub const FOUND_MARKS_REFUSED: usize = 106;
+pub const FOUND_MARKS_SWITCHED: usize = 107;
+pub const FRESH_FOUND_MARKS: usize = 108;
+pub const FOUND_MARKS_BROUGHT_OVER: usize = 109;
+pub const SEARCHES_IN_PIECES: usize = 110;
 
 /// What a legal reader on a line brings about, in the stored dialogue too.
 pub const ON_A_LINE: &[usize] = &[
@@ -125,6 +155,8 @@ pub const ON_A_LINE: &[usize] = &[
     ORIGINS_REPLACED,
     ORIGINS_MADE_NONE,
     BUFFERS_KEPT,
+    SEARCHES,
+    STATUSES,
 ];
 /// What else calls and line switches bring about, with a receiver or without.
 pub const CALLED: &[usize] = &[
@@ -173,11 +205,36 @@ pub const CALLED: &[usize] = &[
     UNFIT_ORIGINS,
     ORIGINS_SWITCHED,
     UNFIT_ORIGINS_SWITCHED,
+    SEARCHES_NOT_FOUND,
+    SEARCHES_FOUND,
+    CODES_NOT_FOUND,
+    CODES_FOUND,
+    COMMANDS_NOT_FOUND,
+    COMMANDS_FOUND,
+    SEARCHES_IN_TRANSFER,
+    RANGES_SEARCHED,
+    LEVELS_THAT_MATTER,
+    SCORES_TOO_LOW,
+    SCORES_JUST_ENOUGH,
+    SCORES_FOUND,
+    PAGES_FOUND,
+    PAGES_TIED,
+    CAPACITIES_SEARCHED,
+    LAST_PAGES_FOUND,
+    PLACES_FOUND,
+    HIGHER_PASSED_OVER,
+    CHIPS_BEFORE,
+    CHIPS_BY_RUN,
+    CHIPS_BY_LOCK,
+    SCORES_REFUSED,
+    THRESHOLDS_REFUSED,
+    FOUND_MARKS_REFUSED,
+    FOUND_MARKS_SWITCHED,
 ];
 /// What needs a receiver.
-pub const RECEIVED: &[usize] = &[COUNTS, COUNTS_SWITCHED, PAST, LOCKED, PIECES, HELD];
+pub const RECEIVED: &[usize] = &[COUNTS, COUNTS_SWITCHED, PAST, LOCKED, PIECES, HELD, SEARCHES_IN_PIECES];
 /// What stands there when fresh settings are asked for.
-pub const FRESHENED: &[usize] = &[FRESH, FRESH_SIZES, FRESH_MARKS, FRESH_ORIGINS];
+pub const FRESHENED: &[usize] = &[FRESH, FRESH_SIZES, FRESH_MARKS, FRESH_ORIGINS, FRESH_FOUND_MARKS];
 /// What an index that is brought over meets.
 pub const BROUGHT: &[usize] = &[
     BROUGHT_OVER,
@@ -186,10 +243,17 @@ pub const BROUGHT: &[usize] = &[
     BOTH_INDEXES_REFUSED,
     MARKS_BROUGHT_OVER,
     ORIGINS_BROUGHT_OVER,
+    FOUND_MARKS_BROUGHT_OVER,
 ];
 
-/// The acknowledge codes of document 01, and 22h of document 02's request [5].
-pub const CODES: [u8; 14] = [0x00, 0x01, 0x0B, 0x0C, 0x0D, 0x0E, 0x10, 0x13, 0x19, 0x1A, 0x1B, 0x1C, 0x21, 0x22];
+/// The acknowledge codes of document 01, 22h of document 02's request [5] and 09h of its request [8].
+pub const CODES: [u8; 15] = [0x00, 0x01, 0x09, 0x0B, 0x0C, 0x0D, 0x0E, 0x10, 0x13, 0x19, 0x1A, 0x1B, 0x1C, 0x21, 0x22];
+
+/// The acknowledge codes of a Search of the right length.
+const CODES_OF_SEARCH: [u8; 6] = [0x00, 0x01, 0x09, 0x0B, 0x0C, 0x21];
+
+/// A level's number, ten times, and another's.
+const PAIRS_OF_LEVELS: [usize; 20] = [12, 13, 14, 15, 21, 23, 24, 25, 31, 32, 34, 35, 41, 42, 43, 45, 51, 52, 53, 54];
 
 /// The identifiers of document 01.
 const IDENTIFIERS: [usize; 4] = [COMMAND as usize, DATA as usize, ACKNOWLEDGE as usize, LAST_DATA as usize];
@@ -201,7 +265,7 @@ const UNFIT_SIZE_CODES: [usize; 2] = [MOST_SIZE_CODE + 1, 255];
 /// Pages about 256 and at the end.
 const FAR_PAGES: [usize; 5] = [255, 256, 257, 998, 999];
 
-pub const KINDS: [Kind; 81] = [
+pub const KINDS: [Kind; 111] = [
     Kind { name: "acknowledge codes", awaited: Codes(&CODES) },
     Kind { name: "commands answered 00h", awaited: Codes(&COMMANDS) },
     Kind { name: "uploads by size", awaited: Numbers(&SIZES) },
@@ -293,8 +357,8 @@ pub const KINDS: [Kind; 81] = [
         awaited: Numbers(&[0, 1, 2, 3]),
     },
     Kind { name: "calls carried out with two origins, by their pages", awaited: Numbers(&[1, 2]) },
-    Kind { name: "calls carried out with the origin C - 1, by C", awaited: Numbers(&CAPACITIES_OF_ORIGINS) },
-    Kind { name: "calls refused for the origin C alone, by C", awaited: Numbers(&CAPACITIES_OF_ORIGINS) },
+    Kind { name: "calls carried out with the origin C - 1, by C", awaited: Numbers(&CAPACITIES_IN_TURN) },
+    Kind { name: "calls refused for the origin C alone, by C", awaited: Numbers(&CAPACITIES_IN_TURN) },
     Kind {
         name: "calls refused for an origin above C alone, by the origin",
         awaited: Numbers(&[2, 256, 999, 1000, 1001, 1023, 1024, 0x8000, 0xFFFE]),
@@ -310,6 +374,67 @@ pub const KINDS: [Kind; 81] = [
     Kind { name: "line switches by refusal, with an origin that a call refuses", awaited: Numbers(&[0, 1]) },
     Kind { name: "fresh settings by the buffer that had an origin before", awaited: Numbers(&[1, 2]) },
     Kind { name: "bringing over by refusal, with an origin", awaited: Numbers(&[0, 1]) },
+    Kind { name: "Searches by code", awaited: Codes(&CODES_OF_SEARCH) },
+    Kind { name: "status words told", awaited: Numbers(&[0, 2, 4, 6]) },
+    Kind { name: "Searches while the found mark is clear by code", awaited: Codes(&CODES_OF_SEARCH) },
+    Kind { name: "Searches while the found mark is set by code", awaited: Codes(&CODES_OF_SEARCH) },
+    Kind { name: "acknowledge codes while the found mark is clear", awaited: Codes(&CODES) },
+    Kind { name: "acknowledge codes while the found mark is set", awaited: Codes(&CODES) },
+    Kind { name: "commands answered 00h while the found mark is clear", awaited: Codes(&COMMANDS) },
+    Kind { name: "commands answered 00h while the found mark is set", awaited: Codes(&COMMANDS) },
+    Kind { name: "Searches that ended a transfer by code", awaited: Codes(&[0x00, 0x01, 0x09, 0x0B, 0x0C]) },
+    Kind {
+        name: "ranges searched: 0 of none, 1 below C, 2 to C, 3 cut at C, 4 to 65536, 5 past it",
+        awaited: Numbers(&[0, 1, 2, 3, 4, 5]),
+    },
+    Kind {
+        name: "Searches by level and by another level, after it, that would find otherwise",
+        awaited: Numbers(&PAIRS_OF_LEVELS),
+    },
+    Kind { name: "Searches for which the highest score is one too low, by level", awaited: Numbers(&[1, 2, 3, 4, 5]) },
+    Kind { name: "Searches for which the highest score is just enough, by level", awaited: Numbers(&[1, 2, 3, 4, 5]) },
+    Kind { name: "scores found", awaited: Numbers(&[0, 0x00FF, 0x0100, 0x7FFF, 0x8000, 0xFFFF]) },
+    Kind { name: "pages found", awaited: Numbers(&[0, 255, 256, 257, 998, 999]) },
+    Kind { name: "pages that share the highest score: 1, 2, or 3 for more", awaited: Numbers(&[1, 2, 3]) },
+    Kind { name: "pages found by C", awaited: Numbers(&CAPACITIES_IN_TURN) },
+    Kind { name: "last pages found by C", awaited: Numbers(&CAPACITIES_IN_TURN) },
+    Kind {
+        name: "pages found by place: 0 inside the range, 1 first of it, 2 last, 3 alone",
+        awaited: Numbers(&[0, 1, 2, 3]),
+    },
+    Kind {
+        name: "pages of a higher score passed over: 0 just before the range, 1 just past it, 2 vacant in it",
+        awaited: Numbers(&[0, 1, 2]),
+    },
+    Kind {
+        name: "calls refused for scores or thresholds, by the refusal that would come next",
+        awaited: Numbers(&[0, 1, 2, 3]),
+    },
+    Kind {
+        name:
+            "calls refused for scores or thresholds alone: 0 with another packet than a Search, 1 with one, 2 with none",
+        awaited: Numbers(&[0, 1, 2]),
+    },
+    Kind {
+        name: "calls refused for scores or thresholds alone: 0 of a reader that is not locked, 1 of a locked one",
+        awaited: Numbers(&[0, 1]),
+    },
+    Kind { name: "calls refused for scores alone: 0 for too few of them, 2 for too many", awaited: Numbers(&[0, 2]) },
+    Kind { name: "calls refused for thresholds alone, by their number", awaited: Numbers(&[0, 1, 4, 6, 10]) },
+    Kind {
+        name: "calls refused for the found mark alone: 0 of a reader that is not locked, 1 of a locked one",
+        awaited: Numbers(&[0, 1]),
+    },
+    Kind {
+        name: "line switches with a found mark: 0 not legal, 1 set; 2 and 3 the same, refused",
+        awaited: Numbers(&[0, 1, 2, 3]),
+    },
+    Kind { name: "fresh settings with a found mark before: 0 not legal, 1 set", awaited: Numbers(&[0, 1]) },
+    Kind {
+        name: "bringing over with a found mark: 0 not legal, 1 set; 2 and 3 the same, refused",
+        awaited: Numbers(&[0, 1, 2, 3]),
+    },
+    Kind { name: "Searches of which a part was held by code", awaited: Codes(&CODES_OF_SEARCH) },
 ];
 
 impl Kind {

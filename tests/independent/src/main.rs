@@ -1,15 +1,17 @@
-//! Pits a reader and a receiver, written from document 01 and document 02's requests [1] to [3] and [5] to [7] alone,
+//! Pits a reader and a receiver, written from document 01 and document 02's requests [1] to [3] and [5] to [8] alone,
 //! against another implementation of the papers, and writes the stored dialogue of the bench program with them.
 
 mod bench;
 mod bringing_over;
 mod cases;
 mod chance;
+mod chips;
 mod counts;
 mod coverage;
 mod dialogue;
 mod examples;
 mod examples_origins;
+mod examples_search;
 mod frame;
 mod host;
 mod kinds;
@@ -22,16 +24,21 @@ mod readers;
 mod receiver;
 mod receivers;
 mod report;
+mod search;
 mod shrink;
 mod tally;
 mod tally_origins;
+mod tally_search;
 mod templates;
 mod thousand;
 mod wrong;
 mod wrong_bringing_over;
+mod wrong_chips;
+mod wrong_found;
 mod wrong_limits;
 mod wrong_origins;
 mod wrong_refusals;
+mod wrong_search;
 mod wrong_stores;
 mod wrong_thousand;
 mod wrong_wipes;
@@ -56,9 +63,9 @@ const USAGE: &str = "usage: independent [--cases N] [--seed S] [--quiet] -- PROG
 const DEFAULT_CASES: u64 = 10_000;
 /// So many cases or more must reach all that is counted; the examples do not count.
 const COVERING_CASES: u64 = 2000;
-/// In so many cases there are one dialogue with a reader, one caller of a receiver and two single receivers; the others
-/// are single readers.
-const TURN: u64 = 7;
+/// In so many cases there are one dialogue with a reader, one caller of a receiver, two single receivers and one Search;
+/// the others are single readers.
+const TURN: u64 = 8;
 /// How often a long run tells how far it is.
 const PROGRESS: Duration = Duration::from_secs(10);
 
@@ -194,6 +201,7 @@ fn compare(options: Options) -> Result<(), End> {
             0 => comparer.dialogue(Dialogue::new(chance))?,
             1 => comparer.caller(Caller::new(chance))?,
             2 | 3 => drop(comparer.agreed(&receivers::single(chance))?),
+            4 => drop(comparer.agreed(&search::by_chance(chance))?),
             _ => drop(comparer.agreed(&cases::single(chance))?),
         }
         if !quiet && told.elapsed() > PROGRESS {
@@ -205,6 +213,7 @@ fn compare(options: Options) -> Result<(), End> {
     comparer.limits(seed)?;
     comparer.counts()?;
     comparer.origins()?;
+    comparer.searches()?;
     comparer.receivers_in_turn(seed)?;
     comparer.probe.finish()?;
 
@@ -288,9 +297,9 @@ impl Comparer {
         Ok(())
     }
 
-    /// Readers of up to 1001 pages, and indexes that are brought over.
+    /// Indexes that are brought over, and readers of up to 1001 pages.
     fn thousand(&mut self, seed: u64) -> Result<(), End> {
-        for (place, request) in thousand::all(seed).chain(bringing_over::all(seed)).enumerate() {
+        for (place, request) in bringing_over::all(seed).chain(thousand::all(seed)).enumerate() {
             self.case = format!("case {place} of the thousand pages, seed {seed}");
             self.agreed(&request)?;
         }
@@ -325,14 +334,23 @@ impl Comparer {
         Ok(())
     }
 
-    /// Every length of a piece and every held count, and transfers cut at every place.
+    /// Searches, and what becomes of the found mark.
+    fn searches(&mut self) -> Result<(), End> {
+        for (place, request) in search::all().enumerate() {
+            self.case = format!("case {place} of the searches");
+            self.agreed(&request)?;
+        }
+        Ok(())
+    }
+
+    /// Every length of a piece and every held count, and transfers and Searches cut at every place.
     fn receivers_in_turn(&mut self, seed: u64) -> Result<(), End> {
         for (place, request) in receivers::every_length(seed).enumerate() {
             self.case = format!("piece {place} of seed {seed}");
             self.agreed(&request)?;
         }
-        for (place, caller) in receivers::cut_transfers(seed).enumerate() {
-            self.case = format!("cut transfer {place} of seed {seed}");
+        for (place, caller) in receivers::cut_transfers(seed).chain(receivers::cut_searches(seed)).enumerate() {
+            self.case = format!("cut run {place} of seed {seed}");
             self.caller(caller)?;
         }
         Ok(())

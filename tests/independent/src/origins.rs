@@ -62,7 +62,7 @@ fn commands() -> Vec<Request> {
         contents.extend([SET_PWD, VFY_PWD, SET_ADDER].map(|command| vec![command, 0, 0, 0, password]));
     }
     contents.extend([[6, 1], [6, 4], [7, 1]].map(|[number, value]| vec![SET_SYS_PARA, number, value]));
-    contents.extend([vec![READ_NOTEPAD, 16], vec![0xFF]]);
+    contents.extend([vec![READ_NOTEPAD, 16], vec![0xFF], delete([2, 1])]);
     let mut requests = Vec::new();
     for reader in PAIRS.iter().flat_map(|&origins| open_and_locked(&few(origins))) {
         requests.extend(contents.iter().flat_map(|content| calls(reader.clone(), content)));

@@ -1,6 +1,6 @@
 //! The reader of document 01, with the fresh settings of document 02's request [2], the limits of its request [3], the
-//! Store of its request [5], the thousand pages of its request [6] and the origins of its request [7], written from
-//! those papers alone and in document 01's order.
+//! Store of its request [5], the thousand pages of its request [6], the origins of its request [7] and the Search of its
+//! request [8], written from those papers alone and in document 01's order.
 
 use std::ops::{Range, RangeInclusive};
 
@@ -22,6 +22,8 @@ pub const NOTE: usize = 32;
 pub const ROOM: usize = 700;
 
 pub const LEVELS: RangeInclusive<u8> = 1..=5;
+/// A threshold for each level.
+pub const THRESHOLDS: usize = 5;
 pub const SIZE_CODES: RangeInclusive<u8> = 0..=SIZES.len() as u8 - 1;
 pub const BAUD_FACTORS: RangeInclusive<u8> = 1..=12;
 /// The data bytes that the size codes mean, from code 0 on.
@@ -37,6 +39,7 @@ pub const DATA: u8 = 2;
 pub const ACKNOWLEDGE: u8 = 7;
 pub const LAST_DATA: u8 = 8;
 
+pub const SEARCH: u8 = 0x04;
 pub const STORE: u8 = 0x06;
 pub const LOAD_CHAR: u8 = 0x07;
 pub const UP_CHAR: u8 = 0x08;
@@ -53,7 +56,8 @@ pub const READ_NOTEPAD: u8 = 0x19;
 pub const TEMPLETE_NUM: u8 = 0x1D;
 pub const READ_INDEX_TABLE: u8 = 0x1F;
 pub const HAND_SHAKE: u8 = 0x40;
-pub const COMMANDS: [u8; 16] = [
+pub const COMMANDS: [u8; 17] = [
+    SEARCH,
     STORE,
     LOAD_CHAR,
     UP_CHAR,
@@ -132,8 +136,17 @@ pub struct Settings {
     pub got: u16,
     pub verified: Mark,
     pub filled: [Mark; 2],
+    /// Status bit 1: set by the 00h of a Search, cleared by its 09h and by a line switch.
+    pub found: Mark,
     /// The page that each buffer was loaded from or stored to.
     pub origins: [Origin; 2],
+}
+
+/// What the sensor chip gives: a score for each page, and a threshold for each level from 1 on. No call writes them.
+#[derive(Clone, Debug, PartialEq, Eq)]
+pub struct Chip {
+    pub scores: Vec<u16>,
+    pub thresholds: Vec<u16>,
 }
 
 /// The settings and the lent memory, the reply room apart.
@@ -144,6 +157,8 @@ pub struct Reader {
     pub index: Vec<u8>,
     pub notepad: Vec<u8>,
     pub buffers: [Vec<u8>; 2],
+    /// It may be another at each call.
+    pub chip: Chip,
 }
 
 #[derive(Clone, Debug, PartialEq, Eq)]
@@ -181,6 +196,7 @@ pub fn line_switch(reader: &mut Reader) -> Answer {
         return Answer::without_reply(1);
     }
     reader.settings.verified = CLEAR;
+    reader.settings.found = CLEAR;
     reader.settings.close_transfer();
     for buffer in 0..2 {
         reader.wipe(buffer);
@@ -200,6 +216,13 @@ pub fn bring_over(stored: &[u8], index: &mut [u8]) -> Answer {
     Answer::without_reply(0)
 }
 
+impl Chip {
+    /// The chip of so many pages that gives 0 for every score and every threshold.
+    pub fn zero(pages: usize) -> Chip {
+        Chip { scores: vec![0; pages], thresholds: vec![0; THRESHOLDS] }
+    }
+}
+
 impl Settings {
     pub fn fresh() -> Settings {
         Settings {
@@ -213,6 +236,7 @@ impl Settings {
             got: 0,
             verified: CLEAR,
             filled: [CLEAR; 2],
+            found: CLEAR,
             origins: [NONE; 2],
         }
     }
@@ -235,7 +259,7 @@ impl Settings {
     }
 
     pub fn marks_legal(&self) -> bool {
-        self.verified.legal() && self.filled.iter().all(|mark| mark.legal())
+        self.verified.legal() && self.found.legal() && self.filled.iter().all(|mark| mark.legal())
     }
 
     fn transfer_legal(&self) -> bool {
@@ -289,6 +313,11 @@ impl Reader {
             && self.index.len() == INDEX
             && self.notepad.len() == PAGE
             && self.buffers_fit()
+            && self.chip_fits()
+    }
+
+    pub fn chip_fits(&self) -> bool {
+        self.chip.scores.len() == self.capacity() && self.chip.thresholds.len() == THRESHOLDS
     }
 
     /// The first page at or above C whose bit is set.
@@ -391,6 +420,11 @@ impl Reader {
     fn carry_out(&mut self, code: u8, parameters: &[u8]) -> Result<Vec<u8>, u8> {
         let mut listed = Vec::new();
         match code {
+            SEARCH => {
+                let (buffer, start) = self.buffer_and_page(&parameters[..3])?;
+                demand(self.settings.filled[buffer].is_set(), 0x0C)?;
+                return Ok(self.search(start, number(&parameters[3..])));
+            }
             STORE => {
                 let (buffer, page) = self.buffer_and_page(parameters)?;
                 demand(self.settings.filled[buffer].is_set(), 0x0C)?;
@@ -473,7 +507,7 @@ impl Reader {
         Ok(self.acknowledge(0x00, &listed))
     }
 
-    /// The first two tests of Store and LoadChar.
+    /// The first two tests of Search, Store and LoadChar.
     pub fn buffer_and_page(&self, parameters: &[u8]) -> Result<(usize, usize), u8> {
         let buffer = buffer(parameters[0])?;
         let page = number(&parameters[1..]);
@@ -481,9 +515,35 @@ impl Reader {
         Ok((buffer, page))
     }
 
+    /// The reply of a Search that passed its tests: 00h, page and score, or 09h and zeroes. It sets the found mark or
+    /// clears it.
+    fn search(&mut self, start: usize, count: usize) -> Vec<u8> {
+        let best = self.best(start..start + count);
+        self.settings.found = Mark::of(best.is_some());
+        let code = if best.is_some() { 0x00 } else { 0x09 };
+        let (page, score) = best.unwrap_or((0, 0));
+        self.acknowledge(code, &[two_bytes(page), score.to_be_bytes()].concat())
+    }
+
+    /// The stored page among these, as far as they are below C, with the highest score that reaches the threshold of
+    /// the level in force, and this score. On a tie it is the lowest page.
+    fn best(&self, pages: Range<usize>) -> Option<(usize, u16)> {
+        let threshold = self.chip.thresholds[usize::from(self.settings.level) - 1];
+        let mut best = None;
+        for page in pages.start..pages.end.min(self.capacity()) {
+            let score = self.chip.scores[page];
+            let better = best.map_or(true, |(_, highest)| score > highest);
+            if self.stored(page) && score >= threshold && better {
+                best = Some((page, score));
+            }
+        }
+        best
+    }
+
     fn system_parameters(&self) -> Vec<u8> {
         let settings = &self.settings;
-        let status = if settings.verified.is_set() { 4 } else { 0 };
+        let weight = |mark: Mark, weight| if mark.is_set() { weight } else { 0 };
+        let status = weight(settings.found, 2) + weight(settings.verified, 4);
         let mut listed = Vec::new();
         listed.extend(two_bytes(status));
         listed.extend(settings.sensor_type.to_be_bytes());
@@ -599,6 +659,7 @@ fn length_field(code: u8) -> Option<usize> {
         SET_SYS_PARA => Some(5),
         STORE | LOAD_CHAR => Some(6),
         DELET_CHAR | SET_PWD | VFY_PWD | SET_ADDER => Some(7),
+        SEARCH => Some(8),
         WRITE_NOTEPAD => Some(36),
         _ => None,
     }

@@ -1,6 +1,7 @@
 //! Readers by chance, legal and not.
 
 use crate::chance::Chance;
+use crate::chips;
 use crate::reader::*;
 use std::ops::RangeInclusive;
 
@@ -38,7 +39,7 @@ pub fn capacity(chance: &mut Chance) -> usize {
     }
 }
 
-/// Fresh settings and zeroed memory.
+/// Fresh settings, zeroed memory, and a chip that gives zeroes.
 pub fn fresh_reader(capacity: usize) -> Reader {
     Reader {
         settings: Settings::fresh(),
@@ -46,11 +47,12 @@ pub fn fresh_reader(capacity: usize) -> Reader {
         index: vec![0; INDEX],
         notepad: vec![0; PAGE],
         buffers: [vec![0; PAGE], vec![0; PAGE]],
+        chip: Chip::zero(capacity),
     }
 }
 
-/// Fresh settings with both buffers filled, so many bytes of templates in which each page has bytes of its own, and
-/// this index.
+/// Fresh settings with both buffers filled, so many bytes of templates in which each page has bytes and a score of its
+/// own, and this index.
 pub fn numbered_reader(templates: usize, index: Vec<u8>) -> Reader {
     let page = |page: usize| (0xA000 + page as u16).to_be_bytes().repeat(PAGE / 2);
     let mut numbered = (0..=templates / PAGE).map(page).collect::<Vec<_>>().concat();
@@ -61,6 +63,7 @@ pub fn numbered_reader(templates: usize, index: Vec<u8>) -> Reader {
         index,
         notepad: vec![0x33; PAGE],
         buffers: [vec![0x11; PAGE], vec![0x22; PAGE]],
+        chip: Chip { scores: (0..(templates / PAGE) as u16).collect(), thresholds: vec![0; THRESHOLDS] },
     }
 }
 
@@ -86,6 +89,7 @@ pub fn legal_reader(chance: &mut Chance, capacity: usize) -> Reader {
         templates: memory(chance, PAGE * capacity),
         notepad: memory(chance, PAGE),
         buffers: [memory(chance, PAGE), memory(chance, PAGE)],
+        chip: chips::any(chance, capacity),
     };
     lay_origins(chance, &mut reader);
     reader
@@ -126,6 +130,7 @@ fn legal_settings(chance: &mut Chance) -> Settings {
         got: 0,
         verified: Mark::of(chance.percent(50)),
         filled: [Mark::of(chance.percent(60)), Mark::of(chance.percent(60))],
+        found: Mark::of(chance.percent(50)),
         origins: [NONE; 2],
     };
     if !settings.locked() && chance.percent(40) {
@@ -175,11 +180,12 @@ pub fn size(settings: &Settings) -> usize {
 /// Makes something wrong that a refusal is for.
 fn spoil(chance: &mut Chance, reader: &mut Reader, room: &mut usize) {
     let settings = &mut reader.settings;
-    match chance.below(23) {
+    match chance.below(28) {
         0 | 1 => {
             let length = reader.templates.len().clamp(1, PAGE * MOST_PAGES);
             let far = if chance.percent(10) { PAGE * (MOST_PAGES + 1) } else { 0 };
             resize(chance, &mut reader.templates, &[1, PAGE - 1, length - 1, length + 1, length + PAGE / 2, far]);
+            reader.chip.scores.resize(reader.capacity(), 0);
         }
         2 => resize(chance, &mut reader.index, &[0, SHORT_INDEX, INDEX - 1, INDEX + 1, 2 * INDEX]),
         3 => resize(chance, &mut reader.notepad, &[0, PAGE - 1, PAGE + 1, 2 * PAGE]),
@@ -217,9 +223,19 @@ fn spoil(chance: &mut Chance, reader: &mut Reader, room: &mut usize) {
         17 => {
             settings.verified = Mark(chance.byte());
             settings.filled = [Mark(chance.byte()), Mark(chance.byte())];
+            settings.found = Mark(chance.byte());
         }
         18..=20 => lay_unfit_origin(chance, reader),
         21 => settings.origins[chance.below(2)] = Origin::of(chance.within(0, 0xFFFF)),
+        22 => settings.found = unfit_mark(chance),
+        23 | 24 => {
+            let pages = reader.capacity().clamp(1, MOST_PAGES);
+            resize(chance, &mut reader.chip.scores, &[0, pages - 1, pages + 1, (2 * pages).min(MOST_PAGES)]);
+        }
+        25 | 26 => {
+            let any = chance.below(2 * THRESHOLDS);
+            resize(chance, &mut reader.chip.thresholds, &[0, THRESHOLDS - 1, THRESHOLDS + 1, any]);
+        }
         _ => {
             let (first, end) = (reader.capacity(), 8 * reader.index.len());
             if first < end {
@@ -259,9 +275,7 @@ fn unfit_mark(chance: &mut Chance) -> Mark {
 }
 
 /// Gives a memory one of these lengths, with bytes by chance where it grows.
-fn resize(chance: &mut Chance, memory: &mut Vec<u8>, lengths: &[usize]) {
+fn resize<T: From<u8>>(chance: &mut Chance, memory: &mut Vec<T>, lengths: &[usize]) {
     let length = chance.pick(lengths);
-    let more = chance.bytes(length.saturating_sub(memory.len()));
-    memory.truncate(length);
-    memory.extend(more);
+    memory.resize_with(length, || chance.byte().into());
 }

@@ -3,6 +3,7 @@
 
 use crate::cases::{Author, Event};
 use crate::chance::Chance;
+use crate::chips;
 use crate::frame::{Kind, Outcome, Request};
 use crate::reader::*;
 use crate::readers::{any_legal_reader, legal_reader, sized_reader, spoiled_reader};
@@ -22,7 +23,7 @@ pub fn single(mut chance: Chance) -> Request {
     let length = chance.within(0, MOST_PIECE);
     let (receiver, run) = offered(&mut chance, &reader, count, length);
     let kind = if chance.percent(25) { Kind::ReceiverLineSwitch } else { Kind::ReceiverCall };
-    Request { kind: kind(receiver), reader, run, room }
+    chips::suited(&mut chance, Request { kind: kind(receiver), reader, run, room })
 }
 
 /// Calls of legal readers, with pieces of every length and with every legal held count.
@@ -34,7 +35,7 @@ pub fn every_length(seed: u64) -> impl Iterator<Item = Request> {
         // 5 has no factor in common with the number of counts, so that each has its turn.
         let (receiver, run) = offered(&mut chance, &reader, 5 * place % (HOLDS + 1), place % (MOST_PIECE + 1));
         let room = chance.bytes(ROOM);
-        Request { kind: Kind::ReceiverCall(receiver), reader, run, room }
+        chips::suited(&mut chance, Request { kind: Kind::ReceiverCall(receiver), reader, run, room })
     })
 }
 
@@ -99,11 +100,11 @@ pub struct Caller {
     stretch: Stretch,
 }
 
-/// What happened since the start or the last line switch.
+/// What happened since the start, the last line switch or the last new scores and thresholds.
 struct Stretch {
     /// The reader at the start of it.
     start: Reader,
-    /// All bytes that came in.
+    /// The bytes that were held then, and all that came in.
     run: Vec<u8>,
     /// All replies in order.
     replies: Vec<u8>,
@@ -131,7 +132,7 @@ impl Caller {
             hasty: false,
             most: 0,
             scenes: 0,
-            stretch: Stretch::from(&reader),
+            stretch: Stretch::from(&reader, &[]),
             reader,
         }
     }
@@ -142,6 +143,10 @@ impl Caller {
         if self.at_rest || self.hurries() {
             while self.events.is_empty() {
                 self.next_scene()?;
+            }
+            if self.at_rest && self.chance.percent(25) {
+                self.reader.chip = chips::any(&mut self.chance, self.reader.capacity());
+                self.stretch = Stretch::from(&self.reader, self.receiver.held());
             }
             match self.events.pop_front()? {
                 Event::Bytes(piece) => {
@@ -170,7 +175,7 @@ impl Caller {
         self.reader = outcome.reader;
         self.receiver = outcome.receiver.unwrap_or_else(Receiver::empty);
         if request.kind.is_line_switch() {
-            self.stretch = Stretch::from(&self.reader);
+            self.stretch = Stretch::from(&self.reader, &[]);
         }
     }
 
@@ -207,8 +212,8 @@ impl Caller {
 }
 
 impl Stretch {
-    fn from(start: &Reader) -> Stretch {
-        Stretch { start: start.clone(), run: Vec::new(), replies: Vec::new() }
+    fn from(start: &Reader, held: &[u8]) -> Stretch {
+        Stretch { start: start.clone(), run: held.to_vec(), replies: Vec::new() }
     }
 }
 
@@ -222,6 +227,21 @@ pub fn cut_transfers(seed: u64) -> impl Iterator<Item = Caller> {
             let (one, other) = run.split_at(place);
             Caller::with(chance(size_code), reader.clone(), &[one, other])
         })
+    })
+}
+
+/// Callers with a Search and what leads to it and follows, in two pieces, cut at every place; at times the second piece
+/// comes with new scores and thresholds.
+pub fn cut_searches(seed: u64) -> impl Iterator<Item = Caller> {
+    let mut chance = Chance::new(seed, 0);
+    let mut reader = legal_reader(&mut chance, 9);
+    reader.settings = Settings { filled: [SET; 2], ..Settings::fresh() };
+    let contents: [&[u8]; 4] =
+        [&[DELET_CHAR, 0, 0, 0, 1], &[STORE, 1, 0, 0], &[SEARCH, 1, 0, 0, 0, 9], &[READ_SYS_PARA]];
+    let run = contents.map(|content| packet(reader.settings.address, COMMAND, content)).concat();
+    (0..=run.len()).map(move |place| {
+        let (one, other) = run.split_at(place);
+        Caller::with(Chance::new(seed, place as u64), reader.clone(), &[one, other])
     })
 }
 

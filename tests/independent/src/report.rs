@@ -26,6 +26,8 @@ pub fn case(request: &Request) -> Vec<String> {
     lines.push(memory("notepad", &reader.notepad));
     lines.push(memory("buffer 1", &reader.buffers[0]));
     lines.push(memory("buffer 2", &reader.buffers[1]));
+    lines.push(numbers("scores", &reader.chip.scores));
+    lines.push(numbers("thresholds", &reader.chip.thresholds));
     lines.push(memory("reply room", &request.room));
     if let Some(receiver) = request.kind.receiver() {
         lines.push(format!("held count {}, {}", receiver.count, memory("cells", &receiver.cells)));
@@ -76,7 +78,7 @@ fn fields(outcome: &Outcome) -> Vec<(&'static str, String)> {
     fields
 }
 
-fn settings(settings: &Settings) -> [(&'static str, String); 12] {
+fn settings(settings: &Settings) -> [(&'static str, String); 13] {
     let mark = |mark| match mark {
         CLEAR => "clear".to_string(),
         SET => "set".to_string(),
@@ -97,6 +99,7 @@ fn settings(settings: &Settings) -> [(&'static str, String); 12] {
         ("verified", mark(settings.verified)),
         ("filled 1", mark(settings.filled[0])),
         ("filled 2", mark(settings.filled[1])),
+        ("found", mark(settings.found)),
         ("origin 1", origin(settings.origins[0])),
         ("origin 2", origin(settings.origins[1])),
         ("transfer", transfer),
@@ -140,6 +143,13 @@ fn memory(name: &str, bytes: &[u8]) -> String {
             format!("{name} of {length} bytes: from {first} {}, and {more} more not zero", hex(shown))
         }
     }
+}
+
+/// So many numbers of 16 bits, and those that are not zero by their places.
+fn numbers(name: &str, numbers: &[u16]) -> String {
+    let places = numbers.iter().enumerate().filter(|(_, &number)| number != 0);
+    let told: Vec<String> = places.map(|(place, number)| format!(", {number:04X} at {place}")).collect();
+    format!("{} {name}: zero{}", numbers.len(), told.concat())
 }
 
 pub fn hex(bytes: &[u8]) -> String {

@@ -10,7 +10,7 @@ const TRIES: usize = 4000;
 /// Sets one field of the settings to its fresh value.
 type Freshen = fn(&mut Settings, Settings);
 
-const FIELDS: [Freshen; 12] = [
+const FIELDS: [Freshen; 13] = [
     |settings, fresh| settings.password = fresh.password,
     |settings, fresh| settings.address = fresh.address,
     |settings, fresh| settings.level = fresh.level,
@@ -18,6 +18,7 @@ const FIELDS: [Freshen; 12] = [
     |settings, fresh| settings.baud_factor = fresh.baud_factor,
     |settings, fresh| settings.sensor_type = fresh.sensor_type,
     |settings, fresh| settings.verified = fresh.verified,
+    |settings, fresh| settings.found = fresh.found,
     |settings, fresh| settings.origins[0] = fresh.origins[0],
     |settings, fresh| settings.origins[1] = fresh.origins[1],
     |settings, fresh| settings.filled[0] = fresh.filled[0],
@@ -53,10 +54,13 @@ pub fn shrink(
         shrinker.shorten_run();
         shrinker.empty_receiver();
         shrinker.freshen_settings();
-        for memory in 0..MEMORIES {
-            shrinker.right_length(memory);
-            shrinker.zero(memory);
+        for which in 0..MEMORIES {
+            shrinker.right_length(which);
+            shrinker.zero(|case| memory(case, which));
         }
+        shrinker.right_chip();
+        shrinker.zero(|case| &mut case.reader.chip.scores);
+        shrinker.zero(|case| &mut case.reader.chip.thresholds);
         if shrinker.case == before {
             return (shrinker.case, shrinker.outcome);
         }
@@ -151,16 +155,24 @@ impl<F: FnMut(&Request) -> Result<Outcome, String>> Shrinker<F> {
         self.attempt(|case| memory(case, which).resize(lengths[which], 0));
     }
 
+    /// Gives the scores and the thresholds their right lengths.
+    fn right_chip(&mut self) {
+        let pages = self.case.reader.capacity();
+        self.attempt(|case| case.reader.chip.scores.resize(pages, 0));
+        self.attempt(|case| case.reader.chip.thresholds.resize(THRESHOLDS, 0));
+    }
+
     /// Zeroes a memory, or those parts of it that do not matter.
-    fn zero(&mut self, which: usize) {
-        let length = memory(&mut self.case, which).len();
+    fn zero<T: Copy + From<u8> + PartialEq>(&mut self, memory: impl Fn(&mut Request) -> &mut Vec<T>) {
+        let zero = T::from(0);
+        let length = memory(&mut self.case).len();
         let least = (length / 64).max(1);
         let mut piece = length;
         while piece >= least {
             for start in (0..length).step_by(piece) {
                 let end = length.min(start + piece);
-                if memory(&mut self.case, which)[start..end].iter().any(|&byte| byte != 0) {
-                    self.attempt(|case| memory(case, which)[start..end].fill(0));
+                if memory(&mut self.case)[start..end].iter().any(|&part| part != zero) {
+                    self.attempt(|case| memory(case)[start..end].fill(zero));
                 }
             }
             piece /= 2;
@@ -168,7 +180,7 @@ impl<F: FnMut(&Request) -> Result<Outcome, String>> Shrinker<F> {
     }
 }
 
-/// Takes away the pages from this one on, and their bits.
+/// Takes away the pages from this one on, their bits and their scores.
 fn keep_pages(case: &mut Request, pages: usize) {
     for page in pages..case.reader.capacity() {
         if let Some(byte) = case.reader.index.get_mut(page / 8) {
@@ -176,6 +188,7 @@ fn keep_pages(case: &mut Request, pages: usize) {
         }
     }
     case.reader.templates.truncate(PAGE * pages);
+    case.reader.chip.scores.truncate(pages);
 }
 
 /// Changes the held bytes of a receiver with a legal count; the cells past them keep their bytes as far as they can.

@@ -38,6 +38,7 @@ impl Tally {
             self.count(marks, refusal);
         }
         self.add_origins(request, outcome);
+        self.add_search(request, outcome);
     }
 
     fn add_bringing_over(&mut self, request: &Request, refusal: u8) {
@@ -70,7 +71,11 @@ impl Tally {
         if refused_for(|reader| reader.settings.size_code = Settings::fresh().size_code, request) {
             self.count(SIZES_REFUSED, settings.size_code);
         }
-        if capacity > MOST_PAGES && refused_for(|reader| reader.templates.truncate(PAGE * MOST_PAGES), request) {
+        let with_most_pages = |reader: &mut Reader| {
+            reader.templates.truncate(PAGE * MOST_PAGES);
+            reader.chip.scores.truncate(MOST_PAGES);
+        };
+        if capacity > MOST_PAGES && refused_for(with_most_pages, request) {
             self.count(CAPACITIES_REFUSED, capacity);
         }
         if refused_for(|reader| reader.index = vec![0; INDEX], request) {

@@ -5,9 +5,12 @@ use crate::frame::{Kind, Outcome, Request};
 use crate::reader::*;
 use crate::receiver::{Receiver, HOLDS};
 use crate::wrong_bringing_over;
+use crate::wrong_chips;
+use crate::wrong_found;
 use crate::wrong_limits;
 use crate::wrong_origins;
 use crate::wrong_refusals;
+use crate::wrong_search;
 use crate::wrong_stores;
 use crate::wrong_thousand;
 use crate::wrong_wipes;
@@ -43,7 +46,8 @@ impl Error {
 pub fn errors() -> impl Iterator<Item = &'static (&'static str, Error)> {
     let of_requests = wrong_limits::ERRORS.iter().chain(&wrong_stores::ERRORS).chain(&wrong_thousand::ERRORS);
     let of_origins = wrong_origins::ERRORS.iter().chain(&wrong_wipes::ERRORS).chain(&wrong_refusals::ERRORS);
-    ERRORS.iter().chain(of_requests).chain(&wrong_bringing_over::ERRORS).chain(of_origins)
+    let of_search = wrong_search::ERRORS.iter().chain(&wrong_found::ERRORS).chain(&wrong_chips::ERRORS);
+    ERRORS.iter().chain(of_requests).chain(&wrong_bringing_over::ERRORS).chain(of_origins).chain(of_search)
 }
 
 const ERRORS: [(&str, Error); 54] = [
@@ -330,8 +334,8 @@ fn switch_keeps_buffers(request: &Request) -> Outcome {
 /// A mark of any byte but 0 is taken for set.
 fn takes_any_mark(request: &Request) -> Outcome {
     let mut asked = request.clone();
-    let Settings { verified, filled: [one, two], .. } = &mut asked.reader.settings;
-    for mark in [verified, one, two] {
+    let Settings { verified, filled: [one, two], found, .. } = &mut asked.reader.settings;
+    for mark in [verified, one, two, found] {
         *mark = Mark::of(*mark != CLEAR);
     }
     asked.carried_out()

@@ -191,8 +191,8 @@ fn zeroes_vacant_pages(request: &Request) -> Outcome {
 /// A mark of any byte but 0 becomes set.
 fn makes_marks_legal(request: &Request) -> Outcome {
     let legal = |outcome: &mut Outcome| {
-        let Settings { verified, filled: [one, two], .. } = &mut outcome.reader.settings;
-        for mark in [verified, one, two] {
+        let Settings { verified, filled: [one, two], found, .. } = &mut outcome.reader.settings;
+        for mark in [verified, one, two, found] {
             *mark = Mark::of(*mark != CLEAR);
         }
     };

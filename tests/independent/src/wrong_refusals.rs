@@ -195,7 +195,7 @@ fn refuses_origin_when_locked(request: &Request) -> Outcome {
 }
 
 /// A legal reader gets refusal 3 if it is such.
-fn refuses(such: fn(&Reader) -> bool, request: &Request) -> Outcome {
+pub fn refuses(such: fn(&Reader) -> bool, request: &Request) -> Outcome {
     let outcome = request.carried_out();
     if carried_out(request, &outcome) && such(&request.reader) {
         return refused_with(3, request);

@@ -123,6 +123,7 @@ fn most_pages_1001(request: &Request) -> Outcome {
     }
     let mut asked = request.clone();
     let last = asked.reader.templates.split_off(most);
+    asked.reader.chip.scores.truncate(MOST_PAGES);
     let mut outcome = asked.carried_out();
     outcome.reader.templates.extend(last);
     outcome
@@ -292,7 +293,7 @@ pub fn range(content: &[u8]) -> Range<usize> {
 }
 
 /// A command with this code that gets one of these codes is taken for one of another content.
-fn with_content(command: u8, codes: &[u8], change: impl Fn(&mut [u8]), request: &Request) -> Outcome {
+pub fn with_content(command: u8, codes: &[u8], change: impl Fn(&mut [u8]), request: &Request) -> Outcome {
     let outcome = request.carried_out();
     let such = is_command(request, command) && code(&outcome).map_or(false, |code| codes.contains(&code));
     match find(&request.run) {
@@ -503,7 +504,8 @@ fn switch_tests_pages(request: &Request) -> Outcome {
     switch_refuses(request.reader.capacity() > MOST_PAGES, request)
 }
 
-fn switch_refuses(refuses: bool, request: &Request) -> Outcome {
+/// The line switch gives refusal 1 in such a case.
+pub fn switch_refuses(refuses: bool, request: &Request) -> Outcome {
     if request.kind.is_line_switch() && refuses {
         return refused_with(1, request);
     }

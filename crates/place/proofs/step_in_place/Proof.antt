@@ -25,7 +25,7 @@ use sound.WpLaws.{FmC, fmOf, WpFn-mono}
 use denote.RattleType.{RattleType, owns}
 use denote.Laws.{Is, shows}
 use denote.Memory.{mem}
-use denote.Builtin.{u8}
+use denote.Builtin.{u8, u16}
 use denote.Ref.{RefT, MutRef, ptr-vals, mut-tells}
 use denote.Slice.{slice-vals, MutSlice, ShrSlice, mut-slice-tells, shr-slice-tells}
 use denote.Signature.{plain}
@@ -86,23 +86,23 @@ G 𝓤 H A at-mem run = tripleOf 𝓤 H A g.signature (g.spec 𝓤 H A at-mem ru
 
 -- the slices, which both functions take
 abbrev Slices : Type 0
-Slices = RefT (List ℕ) × (RefT (List ℕ) × (RefT (List ℕ) × (RefT (List ℕ) × (RefT (List ℕ) × (RefT (List ℕ) × (RefT (List ℕ) × Unit {0}))))))
+Slices = RefT (List ℕ) × (RefT (List ℕ) × (RefT (List ℕ) × (RefT (List ℕ) × (RefT (List ℕ) × (RefT (List ℕ) × (RefT (List ℕ) × (RefT (List ℕ) × (RefT (List ℕ) × Unit {0}))))))))
 
-abbrev rows : Lfts 7 → List RattleType
-rows κs = MutSlice (named 1) (κs .0) u8 ∷ MutSlice (named 2) (κs .1 .0) u8 ∷ MutSlice (named 3) (κs .1 .1 .0) u8 ∷ MutSlice (named 4) (κs .1 .1 .1 .0) u8 ∷ MutSlice (named 5) (κs .1 .1 .1 .1 .0) u8 ∷ ShrSlice (named 6) (κs .1 .1 .1 .1 .1 .0) u8 ∷ MutSlice (named 7) (κs .1 .1 .1 .1 .1 .1 .0) u8 ∷ []
+abbrev rows : Lfts 9 → List RattleType
+rows κs = MutSlice (named 1) (κs .0) u8 ∷ MutSlice (named 2) (κs .1 .0) u8 ∷ MutSlice (named 3) (κs .1 .1 .0) u8 ∷ MutSlice (named 4) (κs .1 .1 .1 .0) u8 ∷ MutSlice (named 5) (κs .1 .1 .1 .1 .0) u8 ∷ ShrSlice (named 6) (κs .1 .1 .1 .1 .1 .0) u16 ∷ ShrSlice (named 7) (κs .1 .1 .1 .1 .1 .1 .0) u16 ∷ ShrSlice (named 8) (κs .1 .1 .1 .1 .1 .1 .1 .0) u8 ∷ MutSlice (named 9) (κs .1 .1 .1 .1 .1 .1 .1 .1 .0) u8 ∷ []
 
-abbrev vals : Slices → List Val × (List Val × (List Val × (List Val × (List Val × (List Val × (List Val × Unit {0}))))))
-vals xs = (slice (xs .0) ∷ [], (slice (xs .1 .0) ∷ [], (slice (xs .1 .1 .0) ∷ [], (slice (xs .1 .1 .1 .0) ∷ [], (slice (xs .1 .1 .1 .1 .0) ∷ [], (slice (xs .1 .1 .1 .1 .1 .0) ∷ [], (slice (xs .1 .1 .1 .1 .1 .1 .0) ∷ [], tt)))))))
+abbrev vals : Slices → List Val × (List Val × (List Val × (List Val × (List Val × (List Val × (List Val × (List Val × (List Val × Unit {0}))))))))
+vals xs = (slice (xs .0) ∷ [], (slice (xs .1 .0) ∷ [], (slice (xs .1 .1 .0) ∷ [], (slice (xs .1 .1 .1 .0) ∷ [], (slice (xs .1 .1 .1 .1 .0) ∷ [], (slice (xs .1 .1 .1 .1 .1 .0) ∷ [], (slice (xs .1 .1 .1 .1 .1 .1 .0) ∷ [], (slice (xs .1 .1 .1 .1 .1 .1 .1 .0) ∷ [], (slice (xs .1 .1 .1 .1 .1 .1 .1 .1 .0) ∷ [], tt)))))))))
 
-module _ {M : Type 1} (𝓤 : URA M) (H : Heap 𝓤) (A : Atoms 𝓤) (W : Given 𝓤 H A) (at-mem : Memory → SProp 𝓤) (run : Routine → Fun 𝓤) (κ : Lft) (κs : Lfts 7) (q : Share) (qs : Shares 7) (b o : ℕ) (γ : GName) (h : Settings) (xs : Slices) where
+module _ {M : Type 1} (𝓤 : URA M) (H : Heap 𝓤) (A : Atoms 𝓤) (W : Given 𝓤 H A) (at-mem : Memory → SProp 𝓤) (run : Routine → Fun 𝓤) (κ : Lft) (κs : Lfts 9) (q : Share) (qs : Shares 9) (b o : ℕ) (γ : GName) (h : Settings) (xs : Slices) where
   abbrev x : RefT Settings × Slices
   x = (record { ptr = (b, o); name = γ; now = h }, xs)
 
-  abbrev at : List Val × (List Val × (List Val × (List Val × (List Val × (List Val × (List Val × (List Val × Unit {0})))))))
+  abbrev at : List Val × (List Val × (List Val × (List Val × (List Val × (List Val × (List Val × (List Val × (List Val × (List Val × Unit {0})))))))))
   at = (vptr b o ∷ [], vals xs)
 
   abbrev passed : List Val
-  passed = vptr b o ∷ slice (xs .0) ∷ slice (xs .1 .0) ∷ slice (xs .1 .1 .0) ∷ slice (xs .1 .1 .1 .0) ∷ slice (xs .1 .1 .1 .1 .0) ∷ slice (xs .1 .1 .1 .1 .1 .0) ∷ slice (xs .1 .1 .1 .1 .1 .1 .0) ∷ []
+  passed = vptr b o ∷ slice (xs .0) ∷ slice (xs .1 .0) ∷ slice (xs .1 .1 .0) ∷ slice (xs .1 .1 .1 .0) ∷ slice (xs .1 .1 .1 .1 .0) ∷ slice (xs .1 .1 .1 .1 .1 .0) ∷ slice (xs .1 .1 .1 .1 .1 .1 .0) ∷ slice (xs .1 .1 .1 .1 .1 .1 .1 .0) ∷ slice (xs .1 .1 .1 .1 .1 .1 .1 .1 .0) ∷ []
 
   -- the callee's last values, what it requires, and what it ensures of them and of what it returns
   abbrev Ws : Type 0
@@ -151,61 +151,61 @@ module _ {M : Type 1} (𝓤 : URA M) (H : Heap 𝓤) (A : Atoms 𝓤) (W : Given
   goes-g = qed W (‵ (T.the-row .own h (val h ∷ [])) ∷ (raw Toks ⊛ raw Asks) ∷ ‵ Owns ∷ []) ∵ move ! (0 ∷ 2 ∷ []) $ fjoin ! $ move ! (1 ∷ []) $ split ! $ move ! (0 ∷ 2 ∷ []) $ join ! $ frame ! $ done !
 
   module _ (C : Calls 𝓤 H) (Λ : Loops 𝓤 H) (fm : FmC 𝓤 H (W .laws) C) (known : Triple 𝓤 (C #g) (G 𝓤 H A at-mem run)) where
-    walk : Fits (xs .0) → Fits (xs .1 .0) → Fits (xs .1 .1 .0) → Fits (xs .1 .1 .1 .0) → Fits (xs .1 .1 .1 .1 .0) → Fits (xs .1 .1 .1 .1 .1 .0) → Fits (xs .1 .1 .1 .1 .1 .1 .0)
+    walk : Fits u8 (xs .0) → Fits u8 (xs .1 .0) → Fits u8 (xs .1 .1 .0) → Fits u8 (xs .1 .1 .1 .0) → Fits u8 (xs .1 .1 .1 .1 .0) → Fits u16 (xs .1 .1 .1 .1 .1 .0) → Fits u16 (xs .1 .1 .1 .1 .1 .1 .0) → Fits u8 (xs .1 .1 .1 .1 .1 .1 .1 .0) → Fits u8 (xs .1 .1 .1 .1 .1 .1 .1 .1 .0)
         → ent 𝓤 (sep 𝓤 (onEntry 𝓤 H A f.signature (κ, κs) (q, qs) x at) Asks) (WpFn 𝓤 H C Λ code.function passed Post)
-    walk fit₀ fit₁ fit₂ fit₃ fit₄ fit₅ fit₆ =
+    walk fit₀ fit₁ fit₂ fit₃ fit₄ fit₅ fit₆ fit₇ fit₈ =
         qed W (((‵ (flft κ q) ⊛ raw Toks) ⊛ ‵ (owns (MutRef (named 0) κ T.the-row ∷ rows κs) x at)) ∷ raw Asks ∷ []) ∵ split ! $ split ! $ move ! (1 ∷ 3 ∷ []) $ join ! $ move ! (2 ∷ []) $ fsplit ! $ fsplit3 ! $ drop ! $ move ! (0 ∷ 1 ∷ 4 ∷ 3 ∷ 2 ∷ []) $
         -- [obs; the borrow; its token; the slices' tokens and the `requires`; what the slices own]
         enter ! C Λ code.function passed _ $
-        alloc1 ! (λ l₀. alloc1 ! (λ l₁. alloc1 ! (λ l₂. alloc1 ! (λ l₃. alloc1 ! (λ l₄. alloc1 ! (λ l₅. alloc1 ! (λ l₆. alloc1 ! (λ l₇. alloc1 ! (λ l₈. alloc1 ! (λ l₉. alloc1 ! (λ l₁₀. alloc1 ! (λ l₁₁. alloc1 ! (λ l₁₂. alloc1 ! (λ l₁₃. alloc1 ! (λ l₁₄. alloc1 ! (λ l₁₅. alloc1 ! (λ l₁₆. alloc1 ! (λ l₁₇. alloc1 ! (λ l₁₈. alloc1 ! (λ l₁₉. alloc1 ! (λ l₂₀. alloc1 ! (λ l₂₁. alloc1 ! (λ l₂₂. alloc0 ! $ params1 ! $
-        pass1 ! (init ! 42 refl (tt, tt)) $ pass1 ! (init ! 40 refl (tt, (tt, (record { fits = fit₀ .0 }, tt)))) $ pass1 ! (init ! 38 refl (tt, (tt, (record { fits = fit₁ .0 }, tt)))) $ pass1 ! (init ! 36 refl (tt, (tt, (record { fits = fit₂ .0 }, tt)))) $ pass1 ! (init ! 34 refl (tt, (tt, (record { fits = fit₃ .0 }, tt)))) $ pass1 ! (init ! 32 refl (tt, (tt, (record { fits = fit₄ .0 }, tt)))) $ pass1 ! (init ! 30 refl (tt, (tt, (record { fits = fit₅ .0 }, tt)))) $ pass1 ! (init ! 28 refl (tt, (tt, (record { fits = fit₆ .0 }, tt)))) $ pass0 ! $
-        move ! (46 ∷ 47 ∷ 48 ∷ []) $ opens ! tt T.the-row {h = h} b o (λ vs. spelt ! T.the-row (Is T.the-row) (shows 𝓤 H A T.the-row) (LL.vals T.the-type T′.the-laws) (LL.tells T.the-type T′.the-laws) fullShare h vs b o $
+        alloc1 ! (λ l₀. alloc1 ! (λ l₁. alloc1 ! (λ l₂. alloc1 ! (λ l₃. alloc1 ! (λ l₄. alloc1 ! (λ l₅. alloc1 ! (λ l₆. alloc1 ! (λ l₇. alloc1 ! (λ l₈. alloc1 ! (λ l₉. alloc1 ! (λ l₁₀. alloc1 ! (λ l₁₁. alloc1 ! (λ l₁₂. alloc1 ! (λ l₁₃. alloc1 ! (λ l₁₄. alloc1 ! (λ l₁₅. alloc1 ! (λ l₁₆. alloc1 ! (λ l₁₇. alloc1 ! (λ l₁₈. alloc1 ! (λ l₁₉. alloc1 ! (λ l₂₀. alloc1 ! (λ l₂₁. alloc1 ! (λ l₂₂. alloc1 ! (λ l₂₃. alloc1 ! (λ l₂₄. alloc0 ! $ params1 ! $
+        pass1 ! (init ! 46 refl (tt, tt)) $ pass1 ! (init ! 44 refl (tt, (tt, (record { fits = fit₀ .0 }, tt)))) $ pass1 ! (init ! 42 refl (tt, (tt, (record { fits = fit₁ .0 }, tt)))) $ pass1 ! (init ! 40 refl (tt, (tt, (record { fits = fit₂ .0 }, tt)))) $ pass1 ! (init ! 38 refl (tt, (tt, (record { fits = fit₃ .0 }, tt)))) $ pass1 ! (init ! 36 refl (tt, (tt, (record { fits = fit₄ .0 }, tt)))) $ pass1 ! (init ! 34 refl (tt, (tt, (record { fits = fit₅ .0 }, tt)))) $ pass1 ! (init ! 32 refl (tt, (tt, (record { fits = fit₆ .0 }, tt)))) $ pass1 ! (init ! 30 refl (tt, (tt, (record { fits = fit₇ .0 }, tt)))) $ pass1 ! (init ! 28 refl (tt, (tt, (record { fits = fit₈ .0 }, tt)))) $ pass0 ! $
+        move ! (50 ∷ 51 ∷ 52 ∷ []) $ opens ! tt T.the-row {h = h} b o (λ vs. spelt ! T.the-row (Is T.the-row) (shows 𝓤 H A T.the-row) (LL.vals T.the-type T′.the-laws) (LL.tells T.the-type T′.the-laws) fullShare h vs b o $
         move ! (1 ∷ []) $ peeks ! T.the-row (Is T.the-row) (shows 𝓤 H A T.the-row) h (val h ∷ []) (λ was.
-        -- [what the record owns; its cell; the open borrow; obs; auth; _22; …; _0; …; the slices' tokens; what the slices own]
-        -- _10 = *_1, and each `&mut` slice is lent on: a pointer, and the slice of it
-        assigns ! (of-opd ! (load ! (from ! (hop ! (look ! 47 refl) (stop !))) (look-raw ! 1 refl))) (from ! (stop !)) (init ! 29 refl (LL.lawful T.the-type T′.the-laws 𝓤 H A W .typed h _ was .0)) $
-        assigns ! (addr ! (from ! (fld ! refl (hop ! (look-in ! 45 (sub ! 0 refl (whole !))) (stop !))))) (from ! (stop !)) (init ! 27 refl (tt, tt)) $
-        assigns ! (agg ! (and-then ! (load ! (from ! (stop !)) (look ! 27 refl)) (and-then ! (load ! (from ! (fld ! refl (stop !))) (look-in ! 45 (sub ! 1 refl (whole !)))) (no-more !)))) (from ! (stop !)) (init ! 25 refl (tt, (tt, (record { fits = fit₀ .0 }, tt)))) $
-        assigns ! (addr ! (from ! (fld ! refl (hop ! (look-in ! 43 (sub ! 0 refl (whole !))) (stop !))))) (from ! (stop !)) (init ! 23 refl (tt, tt)) $
-        assigns ! (agg ! (and-then ! (load ! (from ! (stop !)) (look ! 23 refl)) (and-then ! (load ! (from ! (fld ! refl (stop !))) (look-in ! 43 (sub ! 1 refl (whole !)))) (no-more !)))) (from ! (stop !)) (init ! 21 refl (tt, (tt, (record { fits = fit₁ .0 }, tt)))) $
-        assigns ! (addr ! (from ! (fld ! refl (hop ! (look-in ! 41 (sub ! 0 refl (whole !))) (stop !))))) (from ! (stop !)) (init ! 19 refl (tt, tt)) $
-        assigns ! (agg ! (and-then ! (load ! (from ! (stop !)) (look ! 19 refl)) (and-then ! (load ! (from ! (fld ! refl (stop !))) (look-in ! 41 (sub ! 1 refl (whole !)))) (no-more !)))) (from ! (stop !)) (init ! 17 refl (tt, (tt, (record { fits = fit₂ .0 }, tt)))) $
-        assigns ! (addr ! (from ! (fld ! refl (hop ! (look-in ! 39 (sub ! 0 refl (whole !))) (stop !))))) (from ! (stop !)) (init ! 15 refl (tt, tt)) $
-        assigns ! (agg ! (and-then ! (load ! (from ! (stop !)) (look ! 15 refl)) (and-then ! (load ! (from ! (fld ! refl (stop !))) (look-in ! 39 (sub ! 1 refl (whole !)))) (no-more !)))) (from ! (stop !)) (init ! 13 refl (tt, (tt, (record { fits = fit₃ .0 }, tt)))) $
-        assigns ! (addr ! (from ! (fld ! refl (hop ! (look-in ! 37 (sub ! 0 refl (whole !))) (stop !))))) (from ! (stop !)) (init ! 11 refl (tt, tt)) $
-        assigns ! (agg ! (and-then ! (load ! (from ! (stop !)) (look ! 11 refl)) (and-then ! (load ! (from ! (fld ! refl (stop !))) (look-in ! 37 (sub ! 1 refl (whole !)))) (no-more !)))) (from ! (stop !)) (init ! 9 refl (tt, (tt, (record { fits = fit₄ .0 }, tt)))) $
+        -- [what the record owns; its cell; the open borrow; obs; auth; _24; …; _0; …; the slices' tokens; what the slices own]
+        -- _12 = *_1, and each `&mut` slice is lent on: a pointer, and the slice of it
+        assigns ! (of-opd ! (load ! (from ! (hop ! (look ! 51 refl) (stop !))) (look-raw ! 1 refl))) (from ! (stop !)) (init ! 29 refl (LL.lawful T.the-type T′.the-laws 𝓤 H A W .typed h _ was .0)) $
+        assigns ! (addr ! (from ! (fld ! refl (hop ! (look-in ! 49 (sub ! 0 refl (whole !))) (stop !))))) (from ! (stop !)) (init ! 27 refl (tt, tt)) $
+        assigns ! (agg ! (and-then ! (load ! (from ! (stop !)) (look ! 27 refl)) (and-then ! (load ! (from ! (fld ! refl (stop !))) (look-in ! 49 (sub ! 1 refl (whole !)))) (no-more !)))) (from ! (stop !)) (init ! 25 refl (tt, (tt, (record { fits = fit₀ .0 }, tt)))) $
+        assigns ! (addr ! (from ! (fld ! refl (hop ! (look-in ! 47 (sub ! 0 refl (whole !))) (stop !))))) (from ! (stop !)) (init ! 23 refl (tt, tt)) $
+        assigns ! (agg ! (and-then ! (load ! (from ! (stop !)) (look ! 23 refl)) (and-then ! (load ! (from ! (fld ! refl (stop !))) (look-in ! 47 (sub ! 1 refl (whole !)))) (no-more !)))) (from ! (stop !)) (init ! 21 refl (tt, (tt, (record { fits = fit₁ .0 }, tt)))) $
+        assigns ! (addr ! (from ! (fld ! refl (hop ! (look-in ! 45 (sub ! 0 refl (whole !))) (stop !))))) (from ! (stop !)) (init ! 19 refl (tt, tt)) $
+        assigns ! (agg ! (and-then ! (load ! (from ! (stop !)) (look ! 19 refl)) (and-then ! (load ! (from ! (fld ! refl (stop !))) (look-in ! 45 (sub ! 1 refl (whole !)))) (no-more !)))) (from ! (stop !)) (init ! 17 refl (tt, (tt, (record { fits = fit₂ .0 }, tt)))) $
+        assigns ! (addr ! (from ! (fld ! refl (hop ! (look-in ! 43 (sub ! 0 refl (whole !))) (stop !))))) (from ! (stop !)) (init ! 15 refl (tt, tt)) $
+        assigns ! (agg ! (and-then ! (load ! (from ! (stop !)) (look ! 15 refl)) (and-then ! (load ! (from ! (fld ! refl (stop !))) (look-in ! 43 (sub ! 1 refl (whole !)))) (no-more !)))) (from ! (stop !)) (init ! 13 refl (tt, (tt, (record { fits = fit₃ .0 }, tt)))) $
+        assigns ! (addr ! (from ! (fld ! refl (hop ! (look-in ! 41 (sub ! 0 refl (whole !))) (stop !))))) (from ! (stop !)) (init ! 11 refl (tt, tt)) $
+        assigns ! (agg ! (and-then ! (load ! (from ! (stop !)) (look ! 11 refl)) (and-then ! (load ! (from ! (fld ! refl (stop !))) (look-in ! 41 (sub ! 1 refl (whole !)))) (no-more !)))) (from ! (stop !)) (init ! 9 refl (tt, (tt, (record { fits = fit₄ .0 }, tt)))) $
         assigns ! (addr ! (from ! (fld ! refl (hop ! (look-in ! 33 (sub ! 0 refl (whole !))) (stop !))))) (from ! (stop !)) (init ! 7 refl (tt, tt)) $
-        assigns ! (agg ! (and-then ! (load ! (from ! (stop !)) (look ! 7 refl)) (and-then ! (load ! (from ! (fld ! refl (stop !))) (look-in ! 33 (sub ! 1 refl (whole !)))) (no-more !)))) (from ! (stop !)) (init ! 5 refl (tt, (tt, (record { fits = fit₆ .0 }, tt)))) $
+        assigns ! (agg ! (and-then ! (load ! (from ! (stop !)) (look ! 7 refl)) (and-then ! (load ! (from ! (fld ! refl (stop !))) (look-in ! 33 (sub ! 1 refl (whole !)))) (no-more !)))) (from ! (stop !)) (init ! 5 refl (tt, (tt, (record { fits = fit₈ .0 }, tt)))) $
         -- the call
-        move ! (0 ∷ 51 ∷ 52 ∷ []) $ use3 W (raw (G 𝓤 H A at-mem run .pre to-g)) goes-g $
-        calls-at ! fm (G 𝓤 H A at-mem run) known to-g (and-then ! (load ! (from ! (stop !)) (look ! 29 refl)) (and-then ! (load ! (from ! (stop !)) (look ! 25 refl)) (and-then ! (load ! (from ! (stop !)) (look ! 21 refl)) (and-then ! (load ! (from ! (stop !)) (look ! 17 refl)) (and-then ! (load ! (from ! (stop !)) (look ! 13 refl)) (and-then ! (load ! (from ! (stop !)) (look ! 9 refl)) (and-then ! (load ! (from ! (stop !)) (look ! 35 refl)) (and-then ! (load ! (from ! (stop !)) (look ! 5 refl)) (no-more !))))))))) (λ v.
+        move ! (0 ∷ 55 ∷ 56 ∷ []) $ use3 W (raw (G 𝓤 H A at-mem run .pre to-g)) goes-g $
+        calls-at ! fm (G 𝓤 H A at-mem run) known to-g (and-then ! (load ! (from ! (stop !)) (look ! 29 refl)) (and-then ! (load ! (from ! (stop !)) (look ! 25 refl)) (and-then ! (load ! (from ! (stop !)) (look ! 21 refl)) (and-then ! (load ! (from ! (stop !)) (look ! 17 refl)) (and-then ! (load ! (from ! (stop !)) (look ! 13 refl)) (and-then ! (load ! (from ! (stop !)) (look ! 9 refl)) (and-then ! (load ! (from ! (stop !)) (look ! 39 refl)) (and-then ! (load ! (from ! (stop !)) (look ! 37 refl)) (and-then ! (load ! (from ! (stop !)) (look ! 35 refl)) (and-then ! (load ! (from ! (stop !)) (look ! 5 refl)) (no-more !))))))))))) (λ v.
         use1 W (later (some (λ (r : Called). (raw Toks ⊛ ‵ (D.the-row .own r (v ∷ []))) ⊛ raw (ensured 𝓤 H A g.ended (g.clauses 𝓤 H A at-mem run) κs (h, xs) tt r)))) (id⊢ 𝓤 _) $ await ! tt $ pick ! (λ r.
         split ! $ move ! (1 ∷ []) $ use1 W (some (λ (ws : Ws). ‵ (lasts g.ended κs (h, xs) ws) ⊛ raw (Says r ws))) (id⊢ 𝓤 _) $ pick ! (λ ws.
         split ! $ fsplit ! $ drop ! $ move ! (2 ∷ []) $ split ! $ move ! (1 ∷ []) $
         peeks ! D.the-row (Is D.the-row) (shows 𝓤 H A D.the-row) r (v ∷ []) (λ is.
-        -- [what the result owns; the slices' tokens; what is said of the slices; the `ensures`; the record's cell; the open borrow; obs; auth; _22; …; _0; …]
+        -- [what the result owns; the slices' tokens; what is said of the slices; the `ensures`; the record's cell; the open borrow; obs; auth; _24; …; _0; …]
         land ! (from ! (stop !)) (init ! 34 refl (LL.lawful D.the-type D′.the-laws 𝓤 H A W .typed r _ is .0)) $
-        rewrite ! 34 (λ (u : Val). ‵ (fat fullShare D′.mir l₉ 0 u)) (ap only (LL.tells D.the-type D′.the-laws r (v ∷ []) is)) refl $
-        -- *_1 = _9.0, and the result
-        assigns ! (of-opd ! (load ! (from ! (fld ! refl (stop !))) (look-in ! 34 (sub ! 0 refl (whole !))))) (from ! (hop ! (look ! 50 refl) (stop !))) (store-raw ! 4 refl (LL.lawful T.the-type T′.the-laws 𝓤 H A W .typed (r .settings) _ (new-is r v is) .0)) $
+        rewrite ! 34 (λ (u : Val). ‵ (fat fullShare D′.mir l₁₁ 0 u)) (ap only (LL.tells D.the-type D′.the-laws r (v ∷ []) is)) refl $
+        -- *_1 = _11.0, and the result
+        assigns ! (of-opd ! (load ! (from ! (fld ! refl (stop !))) (look-in ! 34 (sub ! 0 refl (whole !))))) (from ! (hop ! (look ! 54 refl) (stop !))) (store-raw ! 4 refl (LL.lawful T.the-type T′.the-laws 𝓤 H A W .typed (r .settings) _ (new-is r v is) .0)) $
         assigns ! (agg ! (and-then ! (load ! (from ! (fld ! refl (stop !))) (look-in ! 34 (sub ! 1 refl (whole !)))) (and-then ! (load ! (from ! (fld ! refl (stop !))) (look-in ! 34 (sub ! 2 refl (whole !)))) (and-then ! (load ! (from ! (fld ! refl (stop !))) (look-in ! 34 (sub ! 3 refl (whole !)))) (no-more !)))))
-        (from ! (stop !)) (init ! 52 refl (LL.lawful K.the-type K′.the-laws 𝓤 H A W .typed (taken r) _ (taken-is r v is) .0)) $
+        (from ! (stop !)) (init ! 56 refl (LL.lawful K.the-type K′.the-laws 𝓤 H A W .typed (taken r) _ (taken-is r v is) .0)) $
         drop ! $ owned ! T.the-row (Is T.the-row) (LL.makes T.the-type T′.the-plain 𝓤 H A) (r .settings) _ (new-is r v is) $ move ! (4 ∷ 0 ∷ 5 ∷ 6 ∷ 7 ∷ []) $ closes ! tt T.the-row (r .settings) (val (r .settings) ∷ []) b o $
-        -- [obs; the borrow; its token; the slices' tokens; what is said of the slices; the `ensures`; _22; …; _0; …]
-        returns ! (look ! 50 refl) $ forget ! 6 refl $ forget ! 8 refl $ forget ! 10 refl $ forget ! 12 refl $ forget ! 14 refl $ forget ! 16 refl $ forget ! 18 refl $ forget ! 20 refl $ forget ! 22 refl $ forget ! 24 refl $ forget ! 26 refl $ forget ! 28 refl $ forget ! 30 refl $ forget ! 32 refl $ forget ! 34 refl $ forget ! 36 refl $ forget ! 38 refl $ forget ! 40 refl $ forget ! 42 refl $ forget ! 44 refl $ forget ! 46 refl $ forget ! 48 refl $ forget ! 50 refl $
-        move ! (50 ∷ 51 ∷ []) $ free1 ! $ move ! (48 ∷ 49 ∷ []) $ free1 ! $ move ! (46 ∷ 47 ∷ []) $ free1 ! $ move ! (44 ∷ 45 ∷ []) $ free1 ! $ move ! (42 ∷ 43 ∷ []) $ free1 ! $ move ! (40 ∷ 41 ∷ []) $ free1 ! $ move ! (38 ∷ 39 ∷ []) $ free1 ! $ move ! (36 ∷ 37 ∷ []) $ free1 ! $ move ! (34 ∷ 35 ∷ []) $ free1 ! $ move ! (32 ∷ 33 ∷ []) $ free1 ! $ move ! (30 ∷ 31 ∷ []) $ free1 ! $ move ! (28 ∷ 29 ∷ []) $ free1 ! $ move ! (26 ∷ 27 ∷ []) $ free1 ! $ move ! (24 ∷ 25 ∷ []) $ free1 ! $ move ! (22 ∷ 23 ∷ []) $ free1 ! $ move ! (20 ∷ 21 ∷ []) $ free1 ! $ move ! (18 ∷ 19 ∷ []) $ free1 ! $ move ! (16 ∷ 17 ∷ []) $ free1 ! $ move ! (14 ∷ 15 ∷ []) $ free1 ! $ move ! (12 ∷ 13 ∷ []) $ free1 ! $ move ! (10 ∷ 11 ∷ []) $ free1 ! $ move ! (8 ∷ 9 ∷ []) $ free1 ! $ move ! (6 ∷ 7 ∷ []) $ free1 ! $ free0 ! $
-        by ! (exits r v ws is))))))))))))))))))))))))))))))
+        -- [obs; the borrow; its token; the slices' tokens; what is said of the slices; the `ensures`; _24; …; _0; …]
+        returns ! (look ! 54 refl) $ forget ! 6 refl $ forget ! 8 refl $ forget ! 10 refl $ forget ! 12 refl $ forget ! 14 refl $ forget ! 16 refl $ forget ! 18 refl $ forget ! 20 refl $ forget ! 22 refl $ forget ! 24 refl $ forget ! 26 refl $ forget ! 28 refl $ forget ! 30 refl $ forget ! 32 refl $ forget ! 34 refl $ forget ! 36 refl $ forget ! 38 refl $ forget ! 40 refl $ forget ! 42 refl $ forget ! 44 refl $ forget ! 46 refl $ forget ! 48 refl $ forget ! 50 refl $ forget ! 52 refl $ forget ! 54 refl $
+        move ! (54 ∷ 55 ∷ []) $ free1 ! $ move ! (52 ∷ 53 ∷ []) $ free1 ! $ move ! (50 ∷ 51 ∷ []) $ free1 ! $ move ! (48 ∷ 49 ∷ []) $ free1 ! $ move ! (46 ∷ 47 ∷ []) $ free1 ! $ move ! (44 ∷ 45 ∷ []) $ free1 ! $ move ! (42 ∷ 43 ∷ []) $ free1 ! $ move ! (40 ∷ 41 ∷ []) $ free1 ! $ move ! (38 ∷ 39 ∷ []) $ free1 ! $ move ! (36 ∷ 37 ∷ []) $ free1 ! $ move ! (34 ∷ 35 ∷ []) $ free1 ! $ move ! (32 ∷ 33 ∷ []) $ free1 ! $ move ! (30 ∷ 31 ∷ []) $ free1 ! $ move ! (28 ∷ 29 ∷ []) $ free1 ! $ move ! (26 ∷ 27 ∷ []) $ free1 ! $ move ! (24 ∷ 25 ∷ []) $ free1 ! $ move ! (22 ∷ 23 ∷ []) $ free1 ! $ move ! (20 ∷ 21 ∷ []) $ free1 ! $ move ! (18 ∷ 19 ∷ []) $ free1 ! $ move ! (16 ∷ 17 ∷ []) $ free1 ! $ move ! (14 ∷ 15 ∷ []) $ free1 ! $ move ! (12 ∷ 13 ∷ []) $ free1 ! $ move ! (10 ∷ 11 ∷ []) $ free1 ! $ move ! (8 ∷ 9 ∷ []) $ free1 ! $ move ! (6 ∷ 7 ∷ []) $ free1 ! $ free0 ! $
+        by ! (exits r v ws is))))))))))))))))))))))))))))))))
 
 module _ {M : Type 1} (𝓤 : URA M) (H : Heap 𝓤) (A : Atoms 𝓤) (W : Given 𝓤 H A) (at-mem : Memory → SProp 𝓤) (run : Routine → Fun 𝓤) where
   f-walks : (C : Calls 𝓤 H) (Λ : Loops 𝓤 H) → FmC 𝓤 H (W .laws) C → Triple 𝓤 (C #g) (G 𝓤 H A at-mem run) → Walks 𝓤 H A f.ended stayed (WpFn 𝓤 H C Λ code.function) (f.clauses 𝓤 H A at-mem run)
-  f-walks C Λ fm known = walked 𝓤 H A f.ended stayed (f.clauses 𝓤 H A at-mem run) (WpFn 𝓤 H C Λ code.function) (λ κs. (ptr-vals, (slice-vals, (slice-vals, (slice-vals, (slice-vals, (slice-vals, (slice-vals, (slice-vals, tt)))))))))
-      (λ κs. (mut-tells (named 0) (κs .0) T.the-row, (mut-slice-tells (named 1) (κs .1 .0) u8, (mut-slice-tells (named 2) (κs .1 .1 .0) u8, (mut-slice-tells (named 3) (κs .1 .1 .1 .0) u8, (mut-slice-tells (named 4) (κs .1 .1 .1 .1 .0) u8, (mut-slice-tells (named 5) (κs .1 .1 .1 .1 .1 .0) u8, (shr-slice-tells (named 6) (κs .1 .1 .1 .1 .1 .1 .0) u8, (mut-slice-tells (named 7) (κs .1 .1 .1 .1 .1 .1 .1 .0) u8, tt)))))))))
-      (λ κs qs bounds a _ are. walk 𝓤 H A W at-mem run (κs .0) (κs .1) (qs .0) (qs .1) (a .0 .ptr .0) (a .0 .ptr .1) (a .0 .name) (a .0 .now) (a .1) C Λ fm known (are .1 .0 .0 .1) (are .1 .1 .0 .0 .1) (are .1 .1 .1 .0 .0 .1) (are .1 .1 .1 .1 .0 .0 .1) (are .1 .1 .1 .1 .1 .0 .0 .1) (are .1 .1 .1 .1 .1 .1 .0 .0 .1) (are .1 .1 .1 .1 .1 .1 .1 .0 .0 .1))
+  f-walks C Λ fm known = walked 𝓤 H A f.ended stayed (f.clauses 𝓤 H A at-mem run) (WpFn 𝓤 H C Λ code.function) (λ κs. (ptr-vals, (slice-vals, (slice-vals, (slice-vals, (slice-vals, (slice-vals, (slice-vals, (slice-vals, (slice-vals, (slice-vals, tt)))))))))))
+      (λ κs. (mut-tells (named 0) (κs .0) T.the-row, (mut-slice-tells (named 1) (κs .1 .0) u8, (mut-slice-tells (named 2) (κs .1 .1 .0) u8, (mut-slice-tells (named 3) (κs .1 .1 .1 .0) u8, (mut-slice-tells (named 4) (κs .1 .1 .1 .1 .0) u8, (mut-slice-tells (named 5) (κs .1 .1 .1 .1 .1 .0) u8, (shr-slice-tells (named 6) (κs .1 .1 .1 .1 .1 .1 .0) u16, (shr-slice-tells (named 7) (κs .1 .1 .1 .1 .1 .1 .1 .0) u16, (shr-slice-tells (named 8) (κs .1 .1 .1 .1 .1 .1 .1 .1 .0) u8, (mut-slice-tells (named 9) (κs .1 .1 .1 .1 .1 .1 .1 .1 .1 .0) u8, tt)))))))))))
+      (λ κs qs bounds a _ are. walk 𝓤 H A W at-mem run (κs .0) (κs .1) (qs .0) (qs .1) (a .0 .ptr .0) (a .0 .ptr .1) (a .0 .name) (a .0 .now) (a .1) C Λ fm known (are .1 .0 .0 .1) (are .1 .1 .0 .0 .1) (are .1 .1 .1 .0 .0 .1) (are .1 .1 .1 .1 .0 .0 .1) (are .1 .1 .1 .1 .1 .0 .0 .1) (are .1 .1 .1 .1 .1 .1 .0 .0 .1) (are .1 .1 .1 .1 .1 .1 .1 .0 .0 .1) (are .1 .1 .1 .1 .1 .1 .1 .1 .0 .0 .1) (are .1 .1 .1 .1 .1 .1 .1 .1 .1 .0 .0 .1))
 
 f-meets : {M : Type 1} (𝓤 : URA M) (H : Heap 𝓤) (A : Atoms 𝓤) (W : Given 𝓤 H A) (at-mem : Memory → SProp 𝓤) (run : Routine → Fun 𝓤) (𝓣 : Tables 𝓤 H) → Triple 𝓤 (𝓣 .C #g) (G 𝓤 H A at-mem run)
     → Meets 𝓤 H A f.signature (WpFn 𝓤 H (𝓣 .C) (𝓣 .Λ) code.function) (f.spec 𝓤 H A at-mem run)
 f-meets 𝓤 H A W at-mem run 𝓣 known =
-    walk-meets 𝓤 H A f.ended stayed W (goes-ref 𝓤 H A W 8 0 tt (plain (λ _. T.the-row)), tolds-go 𝓤 H A W (rest (f.ended .signature .params)) (f.ended .kept .1)) (f.clauses 𝓤 H A at-mem run)
+    walk-meets 𝓤 H A f.ended stayed W (goes-ref 𝓤 H A W 10 0 tt (plain (λ _. T.the-row)), tolds-go 𝓤 H A W (rest (f.ended .signature .params)) (f.ended .kept .1)) (f.clauses 𝓤 H A at-mem run)
     (WpFn 𝓤 H (𝓣 .C) (𝓣 .Λ) code.function) (WpFn-mono 𝓤 H (W .laws) 𝓣 code.function) (f-walks 𝓤 H A W at-mem run (𝓣 .C) (𝓣 .Λ) (fmOf 𝓤 H (W .laws) 𝓣) known)
 
 pub step-in-place-spec : {M : Type 1} → stated.statement M

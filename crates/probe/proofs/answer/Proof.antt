@@ -1,24 +1,16 @@
 -- Every length that is asked for is at most that of the memory here.
-use mathlib.Core.Path.{_≡_, sym}
-use mathlib.Core.List.{List}
-use Prim.Native.Nat.{ℕ, _≤_}
 use native.Mathlib.Omega.{arith}
-use lib.ListN.{length, take}
-use lib.Seq.{length-take-le}
 use borrow.Author.Needs.{needs}
+use Rattle.probe.proofs.Fronts.{front}
 use Rattle.probe.proofs.answer.Statement.{statement}
 use Rattle.probe.proofs.answer.Tie as tie
 
 -- from behind the exchange back to the tests of the lengths, and to the head that was read
-unfoldable tested : tie.After-exchange → tie.Else10
+unfoldable tested : tie.After-exchange-with → tie.Else12
 tested c = search
 
-unfoldable headed : tie.Else10 → tie.After-read-full
+unfoldable headed : tie.Else12 → tie.After-read-full
 headed c = search
-
--- the front of a memory is as long as was asked for
-front : (n : ℕ) (s : List ℕ) → n ≤ length s → n ≡ length (take n s)
-front n s h = sym (length-take-le n s h)
 
 read-full-requires : tie.Need-read-full-requires
 read-full-requires c κs = search needs
@@ -76,6 +68,12 @@ length-at-requires-6 c κs = search needs
 
 length-at-requires-7 : tie.Need-length-at-requires-7
 length-at-requires-7 c κs = search needs
+
+length-at-requires-8 : tie.Need-length-at-requires-8
+length-at-requires-8 c κs = search needs
+
+length-at-requires-9 : tie.Need-length-at-requires-9
+length-at-requires-9 c κs = search needs
 
 slice-aggregate-complain-3 : tie.Need-slice-aggregate-complain-3
 slice-aggregate-complain-3 c = search needs
@@ -161,63 +159,81 @@ same-length-10 c = search needs
 returns-10 : tie.Need-returns-10
 returns-10 c = search needs
 
-settings-of-requires : tie.Need-settings-of-requires
-settings-of-requires c κs = search needs
+slice-aggregate-complain-10 : tie.Need-slice-aggregate-complain-10
+slice-aggregate-complain-10 c = search needs
 
-slice-relend-prefix-exchange : tie.Need-slice-relend-prefix-exchange
-slice-relend-prefix-exchange c = search needs
-
-slice-aggregate-exchange : tie.Need-slice-aggregate-exchange
-slice-aggregate-exchange c = search (front, arith)
-
-slice-relend-prefix-exchange-2 : tie.Need-slice-relend-prefix-exchange-2
-slice-relend-prefix-exchange-2 c = search needs
-
-slice-aggregate-exchange-2 : tie.Need-slice-aggregate-exchange-2
-slice-aggregate-exchange-2 c = search (front, arith)
-
-slice-relend-prefix-exchange-3 : tie.Need-slice-relend-prefix-exchange-3
-slice-relend-prefix-exchange-3 c = search needs
-
-slice-aggregate-exchange-3 : tie.Need-slice-aggregate-exchange-3
-slice-aggregate-exchange-3 c = search (front, arith)
-
-slice-relend-prefix-exchange-4 : tie.Need-slice-relend-prefix-exchange-4
-slice-relend-prefix-exchange-4 c = search needs
-
-slice-aggregate-exchange-4 : tie.Need-slice-aggregate-exchange-4
-slice-aggregate-exchange-4 c = search (front, arith)
-
-slice-relend-prefix-exchange-5 : tie.Need-slice-relend-prefix-exchange-5
-slice-relend-prefix-exchange-5 c = search needs
-
-slice-aggregate-exchange-5 : tie.Need-slice-aggregate-exchange-5
-slice-aggregate-exchange-5 c = search (front, arith)
-
-slice-relend-prefix-exchange-6 : tie.Need-slice-relend-prefix-exchange-6
-slice-relend-prefix-exchange-6 c = search needs
-
-slice-aggregate-exchange-6 : tie.Need-slice-aggregate-exchange-6
-slice-aggregate-exchange-6 c = search (front, arith)
-
-slice-relend-prefix-exchange-7 : tie.Need-slice-relend-prefix-exchange-7
-slice-relend-prefix-exchange-7 c = search needs
-
-slice-aggregate-exchange-7 : tie.Need-slice-aggregate-exchange-7
-slice-aggregate-exchange-7 c = search (front, arith)
-
-exchange-requires : tie.Need-exchange-requires
-exchange-requires c κs = search needs
+complain-requires-10 : tie.Need-complain-requires-10
+complain-requires-10 c κs = search needs
 
 same-length-11 : tie.Need-same-length-11
-unfolding tested headed
-same-length-11 c = let r = headed (tested (search)) .read-full in omega arith
+same-length-11 c = search needs
+
+returns-11 : tie.Need-returns-11
+returns-11 c = search needs
+
+slice-aggregate-complain-11 : tie.Need-slice-aggregate-complain-11
+slice-aggregate-complain-11 c = search needs
+
+complain-requires-11 : tie.Need-complain-requires-11
+complain-requires-11 c κs = search needs
 
 same-length-12 : tie.Need-same-length-12
 same-length-12 c = search needs
 
+returns-12 : tie.Need-returns-12
+returns-12 c = search needs
+
+settings-of-requires : tie.Need-settings-of-requires
+settings-of-requires c κs = search needs
+
+slice-relend-prefix-exchange-with : tie.Need-slice-relend-prefix-exchange-with
+slice-relend-prefix-exchange-with c = search needs
+
+slice-aggregate-exchange-with : tie.Need-slice-aggregate-exchange-with
+slice-aggregate-exchange-with c = search (front, arith)
+
+slice-relend-prefix-exchange-with-2 : tie.Need-slice-relend-prefix-exchange-with-2
+slice-relend-prefix-exchange-with-2 c = search needs
+
+slice-aggregate-exchange-with-2 : tie.Need-slice-aggregate-exchange-with-2
+slice-aggregate-exchange-with-2 c = search (front, arith)
+
+slice-relend-prefix-exchange-with-3 : tie.Need-slice-relend-prefix-exchange-with-3
+slice-relend-prefix-exchange-with-3 c = search needs
+
+slice-aggregate-exchange-with-3 : tie.Need-slice-aggregate-exchange-with-3
+slice-aggregate-exchange-with-3 c = search (front, arith)
+
+slice-relend-prefix-exchange-with-4 : tie.Need-slice-relend-prefix-exchange-with-4
+slice-relend-prefix-exchange-with-4 c = search needs
+
+slice-aggregate-exchange-with-4 : tie.Need-slice-aggregate-exchange-with-4
+slice-aggregate-exchange-with-4 c = search (front, arith)
+
+slice-relend-prefix-exchange-with-5 : tie.Need-slice-relend-prefix-exchange-with-5
+slice-relend-prefix-exchange-with-5 c = search needs
+
+slice-aggregate-exchange-with-5 : tie.Need-slice-aggregate-exchange-with-5
+slice-aggregate-exchange-with-5 c = search (front, arith)
+
+slice-relend-prefix-exchange-with-6 : tie.Need-slice-relend-prefix-exchange-with-6
+slice-relend-prefix-exchange-with-6 c = search needs
+
+slice-aggregate-exchange-with-6 : tie.Need-slice-aggregate-exchange-with-6
+slice-aggregate-exchange-with-6 c = search (front, arith)
+
+slice-relend-prefix-exchange-with-7 : tie.Need-slice-relend-prefix-exchange-with-7
+slice-relend-prefix-exchange-with-7 c = search needs
+
+slice-aggregate-exchange-with-7 : tie.Need-slice-aggregate-exchange-with-7
+slice-aggregate-exchange-with-7 c = search (front, arith)
+
+exchange-with-requires : tie.Need-exchange-with-requires
+exchange-with-requires c κs = search needs
+
 same-length-13 : tie.Need-same-length-13
-same-length-13 c = search needs
+unfolding tested headed
+same-length-13 c = let r = headed (tested (search)) .read-full in omega arith
 
 same-length-14 : tie.Need-same-length-14
 same-length-14 c = search needs
@@ -234,8 +250,14 @@ same-length-17 c = search needs
 same-length-18 : tie.Need-same-length-18
 same-length-18 c = search needs
 
-returns-11 : tie.Need-returns-11
-returns-11 c = search needs
+same-length-19 : tie.Need-same-length-19
+same-length-19 c = search needs
+
+same-length-20 : tie.Need-same-length-20
+same-length-20 c = search needs
+
+returns-13 : tie.Need-returns-13
+returns-13 c = search needs
 
 pub answer-spec : {M : Type 1} → statement M
 answer-spec =
@@ -260,6 +282,8 @@ answer-spec =
     length-at-requires-5
     length-at-requires-6
     length-at-requires-7
+    length-at-requires-8
+    length-at-requires-9
     slice-aggregate-complain-3
     complain-requires-3
     same-length-4
@@ -288,28 +312,36 @@ answer-spec =
     complain-requires-9
     same-length-10
     returns-10
-    settings-of-requires
-    slice-relend-prefix-exchange
-    slice-aggregate-exchange
-    slice-relend-prefix-exchange-2
-    slice-aggregate-exchange-2
-    slice-relend-prefix-exchange-3
-    slice-aggregate-exchange-3
-    slice-relend-prefix-exchange-4
-    slice-aggregate-exchange-4
-    slice-relend-prefix-exchange-5
-    slice-aggregate-exchange-5
-    slice-relend-prefix-exchange-6
-    slice-aggregate-exchange-6
-    slice-relend-prefix-exchange-7
-    slice-aggregate-exchange-7
-    exchange-requires
+    slice-aggregate-complain-10
+    complain-requires-10
     same-length-11
+    returns-11
+    slice-aggregate-complain-11
+    complain-requires-11
     same-length-12
+    returns-12
+    settings-of-requires
+    slice-relend-prefix-exchange-with
+    slice-aggregate-exchange-with
+    slice-relend-prefix-exchange-with-2
+    slice-aggregate-exchange-with-2
+    slice-relend-prefix-exchange-with-3
+    slice-aggregate-exchange-with-3
+    slice-relend-prefix-exchange-with-4
+    slice-aggregate-exchange-with-4
+    slice-relend-prefix-exchange-with-5
+    slice-aggregate-exchange-with-5
+    slice-relend-prefix-exchange-with-6
+    slice-aggregate-exchange-with-6
+    slice-relend-prefix-exchange-with-7
+    slice-aggregate-exchange-with-7
+    exchange-with-requires
     same-length-13
     same-length-14
     same-length-15
     same-length-16
     same-length-17
     same-length-18
-    returns-11)
+    same-length-19
+    same-length-20
+    returns-13)

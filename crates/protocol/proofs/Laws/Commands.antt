@@ -14,7 +14,8 @@ use Rattle.protocol.specs.Bytes.{byteAt, same}
 use Rattle.protocol.specs.Packet.{lengthOf, addressAt, identifierAt, contentAt, rightAt}
 use Rattle.protocol.specs.Finder.{findOf}
 use Rattle.protocol.specs.Reader.{Reader}
-use Rattle.protocol.specs.Commands.{Barred, store, loadChar, upChar, downChar, deletChar, empty, setSysPara, readSysPara, setPassword, setAddress, writeNotepad, readNotepad, templeteNum, readIndexTable, Command, free, barred, Entry, commands, Known, none, some, rowOf, damaged, unknown, misfit, command, orderAs, orderOf}
+use Rattle.protocol.specs.Commands.{Barred, searchFor, store, loadChar, upChar, downChar, deletChar, empty, setSysPara, readSysPara, setPassword, setAddress, writeNotepad, readNotepad, templeteNum, readIndexTable, Command, free, barred, Entry, commands, Known, none, some, rowOf, damaged, unknown, misfit, command, orderAs, orderOf}
+use Rattle.protocol.specs.Search.{Chip}
 use Rattle.protocol.specs.Table.{rule}
 use Rattle.protocol.specs.Step.{Heard, nothing, order, piece, hearAs, hearAt, hear}
 use Rattle.protocol.proofs.Laws.Logic.{numbered}
@@ -40,26 +41,28 @@ row-law P (e ∷ es) h k = go (eqb k (e .code)) (row-law P es (h .1) k)
 
 -- ---- no test of a row gives the code 00h
 
-pub tests-numbered : (r : Reader) (c : Barred) → T (numbered (rule r c .tests))
+pub tests-numbered : (χ : Chip) (r : Reader) (c : Barred) → T (numbered (rule χ r c .tests))
 unfolding rule
-tests-numbered r (store b p) = tt
-tests-numbered r (loadChar b p) = tt
-tests-numbered r (upChar b) = tt
-tests-numbered r (downChar b) = tt
-tests-numbered r (deletChar p n) = tt
-tests-numbered r empty = tt
-tests-numbered r (setSysPara k v) = tt
-tests-numbered r readSysPara = tt
-tests-numbered r (setPassword w) = tt
-tests-numbered r (setAddress a) = tt
-tests-numbered r (writeNotepad p b) = tt
-tests-numbered r (readNotepad p) = tt
-tests-numbered r templeteNum = tt
-tests-numbered r (readIndexTable p) = tt
+tests-numbered χ r (searchFor b p n) = tt
+tests-numbered χ r (store b p) = tt
+tests-numbered χ r (loadChar b p) = tt
+tests-numbered χ r (upChar b) = tt
+tests-numbered χ r (downChar b) = tt
+tests-numbered χ r (deletChar p n) = tt
+tests-numbered χ r empty = tt
+tests-numbered χ r (setSysPara k v) = tt
+tests-numbered χ r readSysPara = tt
+tests-numbered χ r (setPassword w) = tt
+tests-numbered χ r (setAddress a) = tt
+tests-numbered χ r (writeNotepad p b) = tt
+tests-numbered χ r (readNotepad p) = tt
+tests-numbered χ r templeteNum = tt
+tests-numbered χ r (readIndexTable p) = tt
 
 -- ---- passwords and addresses have four bytes, what goes into the notepad a page of it
 
 abbrev pub Long : Barred → Type 0
+Long (searchFor b p n) = Unit {0}
 Long (store b p) = Unit {0}
 Long (loadChar b p) = Unit {0}
 Long (upChar b) = Unit {0}
@@ -88,7 +91,7 @@ skipped k m c e = length-drop k c ∙ omega arith
 long-rows : Each LongRow commands
 unfolding commands
 long-rows =
-    (λ c e. tt, (λ c e. tt, (λ c e. tt, (λ c e. tt, (λ c e. tt, (λ c e. tt, (λ c e. tt, (λ c e. tt, (λ c e. skipped 1 4 c e, (λ c e. tt, (λ c e. skipped 1 4 c e, (λ c e. skipped 2 32 c e, (λ c e. tt, (λ c e. tt, (λ c e. tt, (λ c e. tt, tt))))))))))))))))
+    (λ c e. tt, (λ c e. tt, (λ c e. tt, (λ c e. tt, (λ c e. tt, (λ c e. tt, (λ c e. tt, (λ c e. tt, (λ c e. tt, (λ c e. skipped 1 4 c e, (λ c e. tt, (λ c e. skipped 1 4 c e, (λ c e. skipped 2 32 c e, (λ c e. tt, (λ c e. tt, (λ c e. tt, (λ c e. tt, tt)))))))))))))))))
 
 abbrev pub LongHeard : Heard → Type 0
 LongHeard nothing = Unit {0}

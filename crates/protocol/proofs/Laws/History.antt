@@ -4,10 +4,10 @@ use mathlib.Core.Bool.{Bool, true, false, not, cond}
 use mathlib.Core.Path.{_≡_, refl, ap, _∙_}
 use mathlib.Core.Logic.{_⊎_, inl, inr}
 use mathlib.Core.List.{List, [], _∷_, _++_}
-use Prim.Native.Nat.{ℕ, zero, suc, _+_, _*_, _≤_, _<_}
+use Prim.Native.Nat.{ℕ, zero, suc, _+_, _*_, _/_, _≤_, _<_}
 use native.Mathlib.Omega.{arith}
 use lib.Dec.{T, leb→le, ltb→lt, eqb·suc-zero}
-use lib.ListN.{length}
+use lib.ListN.{length, length-replicate}
 use Rattle.protocol.specs.declared.Found.{Found}
 use Rattle.protocol.specs.declared.Found.the-variants.{Noise, Unfinished, Unfit, Whole}
 use Rattle.protocol.specs.Numbers.{pageBytes, done}
@@ -15,15 +15,16 @@ use Rattle.protocol.specs.Bytes.{two, zeros, same, lay, follow}
 use Rattle.protocol.specs.Packet.{packet, addressAt, identifierAt, rightAt, contentAt}
 use Rattle.protocol.specs.Finder.{findOf}
 use Rattle.protocol.specs.Index.{stored, setBit, clearBits}
-use Rattle.protocol.specs.Reader.{Transfer, closed, opened, unfit, Reader, capacity, bufferOf, emptied, withLibrary, withNotepad, withBuffer, withoutPages}
-use Rattle.protocol.specs.Commands.{Barred, store, loadChar, upChar, downChar, deletChar, empty, setSysPara, readSysPara, setPassword, setAddress, writeNotepad, readNotepad, templeteNum, readIndexTable, barred, command}
+use Rattle.protocol.specs.Reader.{Transfer, closed, opened, unfit, Reader, capacity, bufferOf, emptied, withLibrary, withNotepad, withBuffer, withoutPages, withFound}
+use Rattle.protocol.specs.Commands.{Barred, searchFor, store, loadChar, upChar, downChar, deletChar, empty, setSysPara, readSysPara, setPassword, setAddress, writeNotepad, readNotepad, templeteNum, readIndexTable, barred, command}
 use Rattle.protocol.specs.Data.{acknowledge}
+use Rattle.protocol.specs.Search.{Chip}
 use Rattle.protocol.specs.Table.{second, rule, apply}
 use Rattle.protocol.specs.Step.{Heard, nothing, order, hearAs, hearAt, hear, Said, silence, says, carryAs, carryFree, ended, rested, takeAs, answer, stepOf, switched, wiped}
 use Rattle.protocol.specs.Call.{Shape, Lent, fitBuffers, fitLengths, legal, Ended, replyOf, refused, carried, callOf, switchRefusal, switchAs, switchOf}
 use Rattle.protocol.specs.Dialogue.{Event, received, switch, on, finally, exchanges, Act, put, cut, cutAll, actsOf, actsIn, addressee, asks, grants, actsSeen, history}
 use Rattle.protocol.proofs.Laws.Logic.{T→false, and-l, and-r, passed}
-use Rattle.protocol.proofs.Laws.Lists.{same-refl, same-eq, same-front, take-lay}
+use Rattle.protocol.proofs.Laws.Lists.{same-refl, same-eq, same-front, take-lay, length-lay}
 use Rattle.protocol.proofs.Laws.Answers.{spared, answer-kinds, call-kinds}
 use Rattle.protocol.proofs.Laws.Legal.{buffer-long, fit-buffer, Shelf, shelf}
 
@@ -57,7 +58,7 @@ grants-done a = same-refl (acknowledge a done [])
 
 -- ---- an answer, and the acts that its host saw
 
-module _ (m : ℕ) (P : List ℕ → List ℕ → List Act → Type 0) (law : Keeps m P) (r : Reader) (c : ℕ) (library : Library m (r .guarded .templates) (r .guarded .index) c)
+module _ (m : ℕ) (P : List ℕ → List ℕ → List Act → Type 0) (law : Keeps m P) (χ : Chip) (r : Reader) (c : ℕ) (library : Library m (r .guarded .templates) (r .guarded .index) c)
     (fit : T (fitBuffers (r .guarded))) (old : List Act) (k : P (r .guarded .templates) (r .guarded .index) old) (h : Heard) where
   -- templates t and index x after a reply
   abbrev After : List ℕ → List ℕ → List ℕ → Type 0
@@ -102,9 +103,9 @@ module _ (m : ℕ) (P : List ℕ → List ℕ → List Act → Type 0) (law : Ke
       go (opened w got) = fit-buffer w emptied (r .guarded) refl fit
       go (unfit b j) = fit
 
-  does-keeps : (d : Barred) → h ≡ order (command (barred d)) → T (passed (rule u d .tests))
-      → After (carryAs u (rule u d) zero .reply) (carryAs u (rule u d) zero .after .guarded .templates) (carryAs u (rule u d) zero .after .guarded .index)
-  unfolding carryAs rule apply withLibrary withNotepad withBuffer withoutPages follow actsIn actsOf
+  does-keeps : (d : Barred) → h ≡ order (command (barred d)) → T (passed (rule χ u d .tests))
+      → After (carryAs u (rule χ u d) zero .reply) (carryAs u (rule χ u d) zero .after .guarded .templates) (carryAs u (rule χ u d) zero .after .guarded .index)
+  unfolding carryAs rule apply withLibrary withNotepad withBuffer withoutPages withFound follow actsIn actsOf
   does-keeps (store b p) e t =
       let l : p < capacity (u .guarded) = ltb→lt p (capacity (u .guarded)) (search (and-l, and-r)) in
       let v : T (not (stored (u .guarded .index) p)) = search (and-l, and-r) depth 8 in
@@ -116,6 +117,7 @@ module _ (m : ℕ) (P : List ℕ → List ℕ → List Act → Type 0) (law : Ke
       granted _ _ _ (cut p n ∷ []) (ap actsIn e) refl
       (law .cuts (u .guarded .templates) (u .guarded .index) old held c library-held p n (omega (arith, capacity-held)))
   does-keeps empty e t = granted _ _ _ (cutAll ∷ []) (ap actsIn e) refl (law .clears (u .guarded .templates) (u .guarded .index) old held)
+  does-keeps (searchFor b p n) e t = unasked _ _ _ (spared r .templates) (spared r .index) (ap actsIn e)
   does-keeps (loadChar b p) e t = unasked _ _ _ (spared r .templates) (spared r .index) (ap actsIn e)
   does-keeps (upChar b) e t = unasked _ _ _ (spared r .templates) (spared r .index) (ap actsIn e)
   does-keeps (downChar b) e t = unasked _ _ _ (spared r .templates) (spared r .index) (ap actsIn e)
@@ -134,10 +136,10 @@ module _ (m : ℕ) (P : List ℕ → List ℕ → List Act → Type 0) (law : Ke
   taken-keeps w true right got content e = unasked _ _ _ refl refl e
   taken-keeps w false right got content e = unasked _ _ _ refl refl e
 
-  answer-keeps : After (answer r h .reply) (answer r h .after .guarded .templates) (answer r h .after .guarded .index)
+  answer-keeps : After (answer χ r h .reply) (answer χ r h .after .guarded .templates) (answer χ r h .after .guarded .index)
   unfolding silence says carryFree actsIn
   answer-keeps =
-      answer-kinds (λ (o : Said). After (o .reply) (o .after .guarded .templates) (o .after .guarded .index)) r h
+      answer-kinds (λ (o : Said). After (o .reply) (o .after .guarded .templates) (o .after .guarded .index)) χ r h
       record {
         silent = ungranted [] _ _ refl refl (grants-nothing (r .plain .address));
         refuses = λ n. ungranted _ _ _ (spared r .templates) (spared r .index)
@@ -179,16 +181,16 @@ module _ (σ : Shape) (ok : σ .most ≤ 8 * σ .indexed) (P : List ℕ → List
       (λ t u. rw (take-lay (o .reply) (lent .room)) (heard (shelf σ ok (r .guarded) (search (and-l, and-r))) (search (and-l, and-r)) (for-us (r .plain .address) s)))
     where
       o : Said
-      o = answer r (hear (r .plain .address) s)
+      o = answer (lent .chip) r (hear (r .plain .address) s)
 
       heard : Shelf σ ok (r .guarded) → T (fitBuffers (r .guarded)) → (addressee s (findOf s) ≡ r .plain .address) ⊎ (hear (r .plain .address) s ≡ nothing)
           → Kept (o .after) (cond (grants (addressee s (findOf s)) (o .reply)) (actsIn (hear (addressee s (findOf s)) s)) [] ++ old)
       heard l f (inl e) =
           let b : Library (σ .indexed) (r .guarded .templates) (r .guarded .index) (capacity (r .guarded)) = record { long = l .long; wide = l .wide; small = omega (arith, ok, l .high) } in
-          rw e (answer-keeps (σ .indexed) P law r (capacity (r .guarded)) b f old k (hear (r .plain .address) s))
+          rw e (answer-keeps (σ .indexed) P law (lent .chip) r (capacity (r .guarded)) b f old k (hear (r .plain .address) s))
       heard l f (inr e) = rw e (quietly (addressee s (findOf s)))
         where
-          quietly : (a : List ℕ) → Kept (answer r nothing .after) (cond (grants a (answer r nothing .reply)) (actsIn (hear a s)) [] ++ old)
+          quietly : (a : List ℕ) → Kept (answer (lent .chip) r nothing .after) (cond (grants a (answer (lent .chip) r nothing .reply)) (actsIn (hear a s)) [] ++ old)
           quietly a = rw (grants-nothing a) k
 
   switch-keeps : (r : Reader) (old : List Act) → Kept r old → Kept (switchOf r .after) old
@@ -205,3 +207,25 @@ module _ (σ : Shape) (ok : σ .most ≤ 8 * σ .indexed) (P : List ℕ → List
   events-keep (received s lent ∷ es) r old k =
       events-keep es (callOf σ r s lent .after) (actsSeen record { run = s; reply = replyOf (callOf σ r s lent .told) } ++ old) (call-keeps r s lent old k)
   events-keep (switch ∷ es) r old k = events-keep es (switchOf r .after) old (switch-keeps r old k)
+
+-- ---- the templates keep their length, whatever reader, runs and line switches: C is read off it
+
+lengths-kept : (m n : ℕ) → Keeps m (λ t x acts. length t ≡ n)
+lengths-kept m n =
+    record {
+      puts = λ t x old h c l p b low long e. length-lay (pageBytes * p) b t (omega (arith, l .long)) ∙ h;
+      cuts =
+          λ t x old h c l p k low.
+          length-lay (pageBytes * p) (zeros (pageBytes * k)) t (omega (arith, l .long, length-replicate {A = ℕ} (pageBytes * k) 0)) ∙ h;
+      clears = λ t x old h. length-replicate (length t) 0 ∙ h;
+    }
+
+pub call-capacity : (σ : Shape) → σ .most ≤ 8 * σ .indexed → (r : Reader) (s : List ℕ) (lent : Lent) → capacity (callOf σ r s lent .after .guarded) ≡ capacity (r .guarded)
+unfolding capacity
+call-capacity σ ok r s lent =
+    ap (λ (n : ℕ). n / pageBytes) (call-keeps σ ok (λ t x acts. length t ≡ length (r .guarded .templates)) (lengths-kept (σ .indexed) (length (r .guarded .templates))) r s lent [] refl)
+
+pub ever-capacity : (σ : Shape) → σ .most ≤ 8 * σ .indexed → (r : Reader) (es : List Event) → capacity (finally σ r es .guarded) ≡ capacity (r .guarded)
+unfolding capacity
+ever-capacity σ ok r es =
+    ap (λ (n : ℕ). n / pageBytes) (events-keep σ ok (λ t x acts. length t ≡ length (r .guarded .templates)) (lengths-kept (σ .indexed) (length (r .guarded .templates))) es r [] refl)

@@ -10,9 +10,9 @@ use Rattle.protocol.specs.declared.Receiver.{Receiver}
 use Rattle.protocol.specs.Numbers.{holds, badLength, badRoom, badSetting}
 use Rattle.protocol.specs.Bytes.{zeros}
 use Rattle.protocol.specs.Tests.{verdict}
-use Rattle.protocol.specs.Reader.{Reader}
+use Rattle.protocol.specs.Reader.{Reader, capacity}
 use Rattle.protocol.specs.Step.{stepOf}
-use Rattle.protocol.specs.Call.{Shape, fitLengths, Lent, fitLent, sound, legal, Ended, replyOf, refused, carried, refusalOf, callAs, callOf, switchRefusal, switchAs, switchOf}
+use Rattle.protocol.specs.Call.{Shape, fitLengths, fitChip, fitRoom, Lent, fitLent, sound, legal, Ended, replyOf, refused, carried, refusalOf, callAs, callOf, switchRefusal, switchAs, switchOf}
 use Rattle.protocol.specs.Receiver.{bytesIn, holding, Line, line, Handed, fitting, runOf, handed, declined, receiveRefusal, receiveAs, receiveOf, lineSwitchAs, lineSwitchOf}
 use Rattle.protocol.proofs.Laws.Logic.{T→true, and-l, and-r, and-i, verdict-passed, passed-verdict}
 use Rattle.protocol.proofs.Laws.Lists.{length-lay, take-lay, drop-lay}
@@ -61,29 +61,31 @@ length-run h piece = length-append (bytesIn h) (fitting h piece)
 pub few-held : (h : Receiver) (piece : List ℕ) → h .count ≤ holds → length (runOf h piece) ≤ holds
 few-held h piece l = omega (arith, length-run h piece, few-in h, few-fit h piece)
 
--- ---- a receiver's call: refused with nothing changed, or a legal reader's step with a fit reply room and a count that the cells have
+-- ---- a receiver's call: refused with nothing changed, or a legal reader's step with what is lent fit and a count that the cells have
 
 -- the call carried out
 abbrev pub taken : Line → List ℕ → Lent → Handed
-taken x piece lent = handed (x .receiver) piece (carried (stepOf (x .reader) (runOf (x .receiver) piece)) (lent .room))
+taken x piece lent = handed (x .receiver) piece (carried (stepOf (lent .chip) (x .reader) (runOf (x .receiver) piece)) (lent .room))
 
 -- the reply is the step's
-pub reply-taken : (x : Line) (piece : List ℕ) (lent : Lent) → replyOf (taken x piece lent .told) ≡ stepOf (x .reader) (runOf (x .receiver) piece) .reply
+pub reply-taken : (x : Line) (piece : List ℕ) (lent : Lent) → replyOf (taken x piece lent .told) ≡ stepOf (lent .chip) (x .reader) (runOf (x .receiver) piece) .reply
 unfolding replyOf handed carried
-reply-taken x piece lent = take-lay (stepOf (x .reader) (runOf (x .receiver) piece) .reply) (lent .room)
+reply-taken x piece lent = take-lay (stepOf (lent .chip) (x .reader) (runOf (x .receiver) piece) .reply) (lent .room)
 
 module _ (σ : Shape) (x : Line) (piece : List ℕ) (lent : Lent) where
-  -- from a legal reader, a count that the cells have, and a fit reply room, no call is refused
-  pub receive-legal : T (legal σ (x .reader)) → T (fitLent lent) → x .receiver .count ≤ holds → receiveOf σ x piece lent ≡ taken x piece lent
+  -- from a legal reader, a count that the cells have, and what is lent fit, no call is refused
+  pub receive-legal : T (legal σ (x .reader)) → T (fitLent (capacity (x .reader .guarded)) lent) → x .receiver .count ≤ holds → receiveOf σ x piece lent ≡ taken x piece lent
   unfolding receiveOf receiveAs receiveRefusal legal
   receive-legal t u l =
       let a : T (fitLengths σ (x .reader .guarded)) = search (and-l) in
+      let χ : T (fitChip (capacity (x .reader .guarded)) (lent .chip)) = search (and-l) in
+      let b : T (fitRoom (lent .room)) = search (and-r) in
       let c : T (sound (x .reader)) = search (and-r) in
       let d : T (leb (x .receiver .count) holds) = le→leb (x .receiver .count) holds l in
-      ap (receiveAs σ x piece lent) (passed-verdict _ (search (and-i))) ∙ ap (handed (x .receiver) piece) (call-legal σ (x .reader) (runOf (x .receiver) piece) lent t u)
+      ap (receiveAs σ x piece lent) (passed-verdict _ (search (and-i) depth 6)) ∙ ap (handed (x .receiver) piece) (call-legal σ (x .reader) (runOf (x .receiver) piece) lent t u)
 
   pub receive-kinds : (P : Handed → Type 0) → ((k : ℕ) → P (declined (suc k) x (lent .room)))
-      → (T (legal σ (x .reader)) → T (fitLent lent) → x .receiver .count ≤ holds → P (taken x piece lent)) → P (receiveOf σ x piece lent)
+      → (T (legal σ (x .reader)) → T (fitLent (capacity (x .reader .guarded)) lent) → x .receiver .count ≤ holds → P (taken x piece lent)) → P (receiveOf σ x piece lent)
   unfolding receiveOf receiveAs receiveRefusal legal
   receive-kinds P f g = go (receiveRefusal σ x lent) refl
     where
@@ -91,7 +93,9 @@ module _ (σ : Shape) (x : Line) (piece : List ℕ) (lent : Lent) where
       go zero e =
           let t = verdict-passed _ tt e in
           let a : T (fitLengths σ (x .reader .guarded)) = search (and-l, and-r) in
-          let b : T (fitLent lent) = search (and-l, and-r) in
+          let χ : T (fitChip (capacity (x .reader .guarded)) (lent .chip)) = search (and-l, and-r) in
+          let m : T (fitRoom (lent .room)) = search (and-l, and-r) in
+          let b : T (fitLent (capacity (x .reader .guarded)) lent) = and-i (fitChip (capacity (x .reader .guarded)) (lent .chip)) (fitRoom (lent .room)) χ m in
           let c : T (sound (x .reader)) = search (and-l, and-r) in
           let d : T (leb (x .receiver .count) holds) = search (and-l, and-r) in
           let k : T (legal σ (x .reader)) = and-i (fitLengths σ (x .reader .guarded)) (sound (x .reader)) a c in
@@ -101,7 +105,7 @@ module _ (σ : Shape) (x : Line) (piece : List ℕ) (lent : Lent) where
   -- a call that is not refused is carried out
   pub record Carried : Type 0 where
     pub legal : T (legal σ (x .reader))
-    pub roomy : T (fitLent lent)
+    pub roomy : T (fitLent (capacity (x .reader .guarded)) lent)
     pub few : x .receiver .count ≤ holds
     pub does : receiveOf σ x piece lent ≡ taken x piece lent
 
@@ -136,18 +140,20 @@ module _ (σ : Shape) (x : Line) (piece : List ℕ) (lent : Lent) where
 
   pub receive-over : leb (x .receiver .count) holds ≡ false → receiveOf σ x piece lent ≡ declined (overfull (refusalOf σ (x .reader) lent)) x (lent .room)
   unfolding receiveOf receiveRefusal receiveAs refusalOf refused verdict
-  receive-over d = rw d (go (fitLengths σ (x .reader .guarded)) (fitLent lent) (sound (x .reader)))
+  receive-over d = rw d (go (fitLengths σ (x .reader .guarded)) (fitChip (capacity (x .reader .guarded)) (lent .chip)) (fitRoom (lent .room)) (sound (x .reader)))
     where
-      go : (a b c : Bool)
-          → receiveAs σ x piece lent (cond a (cond b (cond c badSetting badSetting) badRoom) badLength)
-          ≡ declined (overfull (cond a (cond b (cond c 0 badSetting) badRoom) badLength)) x (lent .room)
-      go false b c = refl
-      go true false c = refl
-      go true true false = refl
-      go true true true = refl
+      go : (a χ b c : Bool)
+          → receiveAs σ x piece lent (cond a (cond χ (cond b (cond c badSetting badSetting) badRoom) badLength) badLength)
+          ≡ declined (overfull (cond a (cond χ (cond b (cond c 0 badSetting) badRoom) badLength) badLength)) x (lent .room)
+      go false χ b c = refl
+      go true false b c = refl
+      go true true false c = refl
+      go true true true false = refl
+      go true true true true = refl
 
--- a legal reader's only refusal is that of a short reply room
-pub refusal-legal : (σ : Shape) (r : Reader) (lent : Lent) → T (legal σ r) → refusalOf σ r lent ≡ cond (fitLent lent) 0 badRoom
+-- a legal reader's only refusals are those of what is lent anew
+pub refusal-legal : (σ : Shape) (r : Reader) (lent : Lent) → T (legal σ r)
+    → refusalOf σ r lent ≡ cond (fitChip (capacity (r .guarded)) (lent .chip)) (cond (fitRoom (lent .room)) 0 badRoom) badLength
 unfolding refusalOf legal verdict
 refusal-legal σ r lent t = simp (T→true (fitLengths σ (r .guarded)) (search (and-l)), T→true (sound r) (search (and-r))) refl
 

@@ -1,21 +1,22 @@
 -- A legal locked reader: what it answers, and the settings after it, go by what is public alone; its guarded contents stay.
-use mathlib.Core.Bool.{Bool, true, false, not, cond}
+use mathlib.Core.Bool.{Bool, true, false, _&&_, not, cond}
 use mathlib.Core.Path.{_≡_, refl, sym, ap, ap₂, _∙_}
 use mathlib.Core.List.{List, []}
 use Prim.Native.Nat.{ℕ}
 use lib.Dec.{T, T-not}
 use lib.ListN.{length}
-use Rattle.protocol.specs.Numbers.{badPacket, unknownCommand, passwordFirst, badRoom}
+use Rattle.protocol.specs.Numbers.{badPacket, unknownCommand, passwordFirst, badLength, badRoom}
 use Rattle.protocol.specs.Bytes.{lay}
 use Rattle.protocol.specs.Finder.{findOf, usedOf}
 use Rattle.protocol.specs.Reader.{Transfer, closed, opened, unfit, Plain, Guarded, Reader, capacity, keyed, locked, withMark, withTransfer, reader, emptied}
 use Rattle.protocol.specs.Commands.{verifyPassword, handShake, free, barred, damaged, unknown, misfit, command}
 use Rattle.protocol.specs.Data.{acknowledge}
+use Rattle.protocol.specs.Search.{Chip}
 use Rattle.protocol.specs.Table.{rule, Public, freeRule, publicOf}
 use Rattle.protocol.specs.Step.{Heard, nothing, order, piece, hear, Said, silence, says, carry, carryFree, obey, heed, ended, rested, takeIn, answer, stepOf, wiped, switched}
-use Rattle.protocol.specs.Call.{Shape, Lent, fitBuffers, fitLent, fitTransfer, fitOrigin, fitOrigins, fitLibrary, fitLengths, sound, legal, Told, Ended, refused, carried, callOf, switchRefusal, switchAs, switchOf}
+use Rattle.protocol.specs.Call.{Shape, Lent, fitBuffers, fitChip, fitRoom, fitTransfer, fitOrigin, fitOrigins, fitLibrary, fitLengths, sound, legal, Told, Ended, refused, carried, callOf, switchRefusal, switchAs, switchOf}
 use Rattle.protocol.proofs.Laws.Logic.{T→true, T→false, and-l, and-r, and-i}
-use Rattle.protocol.proofs.Laws.Answers.{call-legal, call-short}
+use Rattle.protocol.proofs.Laws.Answers.{call-legal, call-unfit, call-short}
 use Rattle.protocol.proofs.Laws.Legal.{fit-closed}
 
 -- ---- by what is public
@@ -38,15 +39,17 @@ turns v (order (command (free c))) = freeRule v c .plain
 turns v (order (command (barred c))) = v .plain
 turns v (piece last right content) = v .plain
 
--- what a call gets back, and the settings after it
-unfoldable pub toldBy : Public → List ℕ → Lent → Told
-toldBy v s lent =
+-- what a call gets back, and the settings after it: of scores and thresholds, by whether their lengths are fit
+unfoldable pub toldBy : Public → List ℕ → Bool → List ℕ → Told
+toldBy v s fit room =
     let reply = tells v (hear (v .plain .address) s) in
-    cond (fitLent lent) record { refusal = 0; used = usedOf (findOf s); length = length reply; room = lay 0 reply (lent .room) }
-    record { refusal = badRoom; used = 0; length = 0; room = lent .room }
+    cond fit
+    (cond (fitRoom room) record { refusal = 0; used = usedOf (findOf s); length = length reply; room = lay 0 reply room }
+    record { refusal = badRoom; used = 0; length = 0; room = room })
+    record { refusal = badLength; used = 0; length = 0; room = room }
 
-unfoldable pub plainBy : Public → List ℕ → Lent → Plain
-plainBy v s lent = cond (fitLent lent) (turns v (hear (v .plain .address) s)) (v .plain)
+unfoldable pub plainBy : Public → List ℕ → Bool → List ℕ → Plain
+plainBy v s fit room = cond (fit && fitRoom room) (turns v (hear (v .plain .address) s)) (v .plain)
 
 -- ---- a locked reader with no transfer
 
@@ -59,16 +62,16 @@ pub rested-still : (r : Reader) → r .plain .transfer ≡ closed → rested r �
 unfolding rested ended
 rested-still r z = ap (ended r) z
 
-shut-answer : (r : Reader) → Shut (r .plain) → (h : Heard) → answer r h ≡ record { reply = tells (publicOf r) h; after = reader (turns (publicOf r) h) (r .guarded) }
+shut-answer : (χ : Chip) (r : Reader) → Shut (r .plain) → (h : Heard) → answer χ r h ≡ record { reply = tells (publicOf r) h; after = reader (turns (publicOf r) h) (r .guarded) }
 unfolding answer heed obey silence says carryFree takeIn tells turns publicOf
-shut-answer r k nothing = refl
-shut-answer r k (order damaged) = ap (λ (x : Reader). heed x damaged) (rested-still r (k .still))
-shut-answer r k (order unknown) = ap (λ (x : Reader). heed x unknown) (rested-still r (k .still))
-shut-answer r k (order misfit) = ap (λ (x : Reader). heed x misfit) (rested-still r (k .still))
-shut-answer r k (order (command (free c))) = ap (λ (x : Reader). heed x (command (free c))) (rested-still r (k .still))
-shut-answer r k (order (command (barred c))) =
-    ap (λ (x : Reader). heed x (command (barred c))) (rested-still r (k .still)) ∙ ap (λ (b : Bool). cond b (says r passwordFirst) (carry r (rule r c))) (k .locks)
-shut-answer r k (piece last right content) = ap (takeIn r last right content) (k .still)
+shut-answer χ r k nothing = refl
+shut-answer χ r k (order damaged) = ap (λ (x : Reader). heed χ x damaged) (rested-still r (k .still))
+shut-answer χ r k (order unknown) = ap (λ (x : Reader). heed χ x unknown) (rested-still r (k .still))
+shut-answer χ r k (order misfit) = ap (λ (x : Reader). heed χ x misfit) (rested-still r (k .still))
+shut-answer χ r k (order (command (free c))) = ap (λ (x : Reader). heed χ x (command (free c))) (rested-still r (k .still))
+shut-answer χ r k (order (command (barred c))) =
+    ap (λ (x : Reader). heed χ x (command (barred c))) (rested-still r (k .still)) ∙ ap (λ (b : Bool). cond b (says r passwordFirst) (carry r (rule χ r c))) (k .locks)
+shut-answer χ r k (piece last right content) = ap (takeIn r last right content) (k .still)
 
 still-locked : (p : Plain) (g : Guarded) (t : Transfer) → T (locked p) → T (fitTransfer p g t) → t ≡ closed
 unfolding fitTransfer
@@ -88,16 +91,22 @@ shut-of σ r f l =
 -- ---- a call
 
 pub locked-call : (σ : Shape) (r : Reader) → T (legal σ r) → T (locked (r .plain)) → (s : List ℕ) (lent : Lent)
-    → callOf σ r s lent ≡ record { told = toldBy (publicOf r) s lent; after = reader (plainBy (publicOf r) s lent) (r .guarded) }
+    → callOf σ r s lent
+    ≡ record {
+      told = toldBy (publicOf r) s (fitChip (capacity (r .guarded)) (lent .chip)) (lent .room);
+      after = reader (plainBy (publicOf r) s (fitChip (capacity (r .guarded)) (lent .chip)) (lent .room)) (r .guarded);
+    }
 unfolding toldBy plainBy carried refused stepOf publicOf
-locked-call σ r f l s lent = go (fitLent lent) refl
+locked-call σ r f l s lent = go (fitChip (capacity (r .guarded)) (lent .chip)) (fitRoom (lent .room)) refl refl
   where
     out : Said → Ended
     out a = carried record { used = usedOf (findOf s); reply = a .reply; after = a .after } (lent .room)
 
-    go : (b : Bool) → fitLent lent ≡ b → callOf σ r s lent ≡ record { told = toldBy (publicOf r) s lent; after = reader (plainBy (publicOf r) s lent) (r .guarded) }
-    go true e = rw e (call-legal σ r s lent f (rw e tt) ∙ ap out (shut-answer r (shut-of σ r f l) (hear (r .plain .address) s)))
-    go false e = rw e (call-short σ r s lent f e)
+    go : (a b : Bool) → fitChip (capacity (r .guarded)) (lent .chip) ≡ a → fitRoom (lent .room) ≡ b
+        → callOf σ r s lent ≡ record { told = toldBy (publicOf r) s a (lent .room); after = reader (plainBy (publicOf r) s a (lent .room)) (r .guarded) }
+    go true true d e = rw e (call-legal σ r s lent f (rw (d, e) tt) ∙ ap out (shut-answer (lent .chip) r (shut-of σ r f l) (hear (r .plain .address) s)))
+    go true false d e = rw e (call-short σ r s lent f (rw d tt) e)
+    go false b d e = call-unfit σ r s lent f d
 
 -- the settings stay, but for a right password
 pub turns-or : (v : Public) → v .plain .verified ≡ false → (h : Heard) → turns v h .verified ≡ false → turns v h ≡ v .plain
@@ -111,9 +120,9 @@ turns-or v e (order (command (free handShake))) z = refl
 turns-or v e (order (command (barred c))) z = refl
 turns-or v e (piece last right content) z = refl
 
-pub plain-or : (v : Public) → v .plain .verified ≡ false → (s : List ℕ) (lent : Lent) → plainBy v s lent .verified ≡ false → plainBy v s lent ≡ v .plain
+pub plain-or : (v : Public) → v .plain .verified ≡ false → (s : List ℕ) (fit : Bool) (room : List ℕ) → plainBy v s fit room .verified ≡ false → plainBy v s fit room ≡ v .plain
 unfolding plainBy
-plain-or v e s lent = go (fitLent lent)
+plain-or v e s fit room = go (fit && fitRoom room)
   where
     go : (b : Bool) → cond b (turns v (hear (v .plain .address) s)) (v .plain) .verified ≡ false → cond b (turns v (hear (v .plain .address) s)) (v .plain) ≡ v .plain
     go true z = turns-or v e (hear (v .plain .address) s) z

@@ -12,8 +12,8 @@ use Rattle.protocol.specs.Numbers.{pageBytes, fourBytes}
 use Rattle.protocol.specs.Bytes.{zeros, part}
 use Rattle.protocol.specs.Tests.{among}
 use Rattle.protocol.specs.Index.{stored, setBit, clearBits, bits}
-use Rattle.protocol.specs.Reader.{closed, opened, Buffer, Guarded, Reader, capacity, sizeOf, keyed, locked, bufferOf, emptied, loadedFrom, storedOn, without, withTransfer, withLibrary, withNotepad, withBuffer, withoutPages, reader}
-use Rattle.protocol.specs.Table.{Effect, keep, fillPage, erase, eraseAll, fillBuffer, await, note, settle, apply}
+use Rattle.protocol.specs.Reader.{closed, opened, Buffer, Guarded, Reader, capacity, sizeOf, keyed, locked, bufferOf, emptied, loadedFrom, storedOn, without, withTransfer, withLibrary, withNotepad, withBuffer, withoutPages, withFound, reader}
+use Rattle.protocol.specs.Table.{Effect, keep, fillPage, erase, eraseAll, fillBuffer, await, note, remember, settle, apply}
 use Rattle.protocol.specs.Call.{Shape, fitBuffers, fitPlain}
 use Rattle.protocol.proofs.Laws.Logic.{and-i, and-false, or-false, or-true, eqb-same, eq→eqb}
 use Rattle.protocol.proofs.Laws.Lists.{length-lay}
@@ -71,6 +71,7 @@ module _ (σ : Shape) (ok : σ .most ≤ 8 * σ .indexed) where
   Proper r (fillBuffer w p) = (p < capacity (r .guarded)) × (stored (r .guarded .index) p ≡ true)
   Proper r (await w) = locked (r .plain) ≡ false
   Proper r (note i b) = i + length b ≤ length (r .guarded .notepad)
+  Proper r (remember f) = Unit {0}
   Proper r (settle p) = T (fitPlain p) × ((p .transfer ≡ closed) × ((length (p .password) ≡ fourBytes) × (length (p .address) ≡ fourBytes)))
 
   -- pages deleted, and an index x that has the others as they were: both buffers
@@ -89,7 +90,7 @@ module _ (σ : Shape) (ok : σ .most ≤ 8 * σ .indexed) where
         record { below = m .below; there = h q (m .below) (sym (one-of pages (bufferOf w (r .guarded) .origin) q e) ∙ o) (m .there); filled = m .filled })
 
   pub effect-good : (e : Effect) (r : Reader) → Proper r e → r .plain .transfer ≡ closed → Good σ ok r → Good σ ok (apply e r)
-  unfolding apply emptied loadedFrom storedOn withTransfer withLibrary withNotepad withBuffer withoutPages bufferOf capacity locked keyed
+  unfolding apply emptied loadedFrom storedOn withTransfer withLibrary withNotepad withBuffer withoutPages withFound bufferOf capacity locked keyed
   effect-good keep r m z k = k
   effect-good (fillPage w p) r m z k =
       let g : Guarded = r .guarded in
@@ -163,6 +164,16 @@ module _ (σ : Shape) (ok : σ .most ≤ 8 * σ .indexed) where
         templates = refl;
         index = fine-of σ ok r k;
         notepad = length-lay i b (r .guarded .notepad) m;
+        clear = clear-from (r .guarded .index) (capacity (r .guarded)) (k .clear);
+        buffers = λ w. buffer-long w (r .guarded) (k .buffers);
+        origins = k .origins;
+      }
+  effect-good (remember f) r m z k =
+      good-kept r (apply (remember f) r .guarded) k z
+      record {
+        templates = refl;
+        index = fine-of σ ok r k;
+        notepad = refl;
         clear = clear-from (r .guarded .index) (capacity (r .guarded)) (k .clear);
         buffers = λ w. buffer-long w (r .guarded) (k .buffers);
         origins = k .origins;

@@ -15,17 +15,19 @@ use Rattle.protocol.specs.Bytes.{zeros, byteAt}
 use Rattle.protocol.specs.Tests.{countBelow, verdict}
 use Rattle.protocol.specs.Index.{bit, stored, setBits, bits, setBit, clearBit, clearBits}
 use Rattle.protocol.specs.BringOver.{bringOver}
-use Rattle.protocol.specs.Reader.{Transfer, closed, opened, unfit, Plain, Guarded, Reader, capacity, bufferOf, locked, withLibrary, withBuffer, withoutPages, withNotepad, contents, reader}
-use Rattle.protocol.specs.Commands.{readIndexTable, barred, command, Barred, store, loadChar, upChar, downChar, deletChar, empty, setSysPara, readSysPara, setPassword, setAddress, writeNotepad, readNotepad, templeteNum, Command, free, Order, damaged, unknown, misfit}
-use Rattle.protocol.specs.Table.{Effect, keep, fillPage, erase, eraseAll, fillBuffer, await, note, settle, apply, Row, rule, publicOf}
+use Rattle.protocol.specs.Reader.{Transfer, closed, opened, unfit, Plain, Guarded, Reader, capacity, bufferOf, locked, withLibrary, withBuffer, withoutPages, withNotepad, contents, reader, withFound}
+use Rattle.protocol.specs.Search.{Chip, eligible, searchOf}
+use Rattle.protocol.specs.Commands.{readIndexTable, barred, command, Barred, searchFor, store, loadChar, upChar, downChar, deletChar, empty, setSysPara, readSysPara, setPassword, setAddress, writeNotepad, readNotepad, templeteNum, Command, free, Order, damaged, unknown, misfit}
+use Rattle.protocol.specs.Table.{Effect, keep, fillPage, erase, eraseAll, fillBuffer, await, note, remember, settle, apply, Row, rule, publicOf}
 use Rattle.protocol.specs.Step.{order, hear, stepOf, wiped, switched, Heard, nothing, piece, Said, silence, says, carryAs, carry, carryFree, obey, heed, ended, rested, fits, takeAs, takeIn, answer}
-use Rattle.protocol.specs.Call.{Shape, core, fitLent, fitBuffers, fitTransfer, legal, Typed, Ended, refused, carried, replyOf, callOf, switchRefusal, switchAs, switchOf}
+use Rattle.protocol.specs.Call.{Shape, core, fitBuffers, fitTransfer, legal, Typed, Ended, refused, carried, replyOf, callOf, switchRefusal, switchAs, switchOf, fitChip, fitRoom}
 use Rattle.protocol.specs.Dialogue.{Event, received, switch, on, finally, Exchange, exchanges, Act, history, live}
 use Rattle.protocol.proofs.Laws.Logic.{and-l, and-r, verdict-passed}
 use Rattle.protocol.proofs.Laws.Lists.{part-left}
 use Rattle.protocol.proofs.Laws.Index.{Fine, length-over, stored-over, fine-over, clear-above, clear-to, byte-over, stored-past}
 use Rattle.protocol.proofs.Laws.Count.{count-over}
-use Rattle.protocol.proofs.Laws.Answers.{call-legal, call-short, spared}
+use Rattle.protocol.proofs.Laws.Best.{best-ext}
+use Rattle.protocol.proofs.Laws.Answers.{call-legal, call-unfit, call-short, spared}
 use Rattle.protocol.proofs.Laws.Legal.{Good, good-of, legal-of, fine-of}
 use Rattle.protocol.proofs.Promises.Told.{pages, page, has}
 use Rattle.protocol.proofs.Promises.LegalMeans.{core-holds}
@@ -71,9 +73,9 @@ zeros-over x n = rw (length-over x n) (sym (replicate-append-replicate (length x
 
 -- ---- a reader with such an index: it answers what it would, but for ReadIndexTable past the old end, and is left as it would be, with as many more
 
-module _ (n : ℕ) where
+module _ (n : ℕ) (χ : Chip) where
   abbrev longer : Reader → Reader
-  longer r = let g = r .guarded in reader (r .plain) (contents (g .templates) (g .index ++ zeros n) (g .notepad) (g .buffer1) (g .buffer2))
+  longer r = let g = r .guarded in reader (r .plain) (contents (g .templates) (g .index ++ zeros n) (g .notepad) (g .buffer1) (g .buffer2) (g .found))
 
   abbrev saidLonger : Said → Said
   saidLonger a = record { reply = a .reply; after = longer (a .after) }
@@ -87,10 +89,11 @@ module _ (n : ℕ) where
   Inside r (fillBuffer w p) = Unit {0}
   Inside r (await w) = Unit {0}
   Inside r (note i b) = Unit {0}
+  Inside r (remember f) = Unit {0}
   Inside r (settle p) = Unit {0}
 
   apply-longer : (e : Effect) (r : Reader) → Inside r e → apply e (longer r) ≡ longer (apply e r)
-  unfolding apply withLibrary withBuffer withNotepad withoutPages bufferOf capacity
+  unfolding apply withLibrary withBuffer withNotepad withoutPages withFound bufferOf capacity
   apply-longer keep r i = refl
   apply-longer (fillPage w p) r i = rw (with-over (r .guarded .index) n p i)
   apply-longer (erase p m) r i = rw (span-over (r .guarded .index) n p m)
@@ -98,6 +101,7 @@ module _ (n : ℕ) where
   apply-longer (fillBuffer w p) r i = refl
   apply-longer (await w) r i = refl
   apply-longer (note k b) r i = refl
+  apply-longer (remember f) r i = refl
   apply-longer (settle p) r i = refl
 
   -- ---- a row
@@ -114,8 +118,15 @@ module _ (n : ℕ) where
   abbrev Within : Reader → ℕ → Type 0
   Within r p = 32 * p + 32 ≤ length (r .guarded .index)
 
-  rule-longer : (r : Reader) (c : Barred) → ((p : ℕ) → c ≡ readIndexTable p → Within r p) → rule (longer r) c ≡ rule r c
+  -- no more pages are eligible
+  search-longer : (r : Reader) (p m : ℕ) → searchOf χ (r .plain .level) (longer r .guarded) p m ≡ searchOf χ (r .plain .level) (r .guarded) p m
+  unfolding searchOf eligible capacity
+  search-longer r p m =
+      best-ext _ _ _ _ _ (λ q. let h = stored-over (r .guarded .index) n q in cc)
+
+  rule-longer : (r : Reader) (c : Barred) → ((p : ℕ) → c ≡ readIndexTable p → Within r p) → rule χ (longer r) c ≡ rule χ r c
   unfolding rule capacity bufferOf
+  rule-longer r (searchFor b p m) d = rw (search-longer r p m) refl
   rule-longer r (store b p) d = rw (stored-over (r .guarded .index) n p)
   rule-longer r (loadChar b p) d = rw (stored-over (r .guarded .index) n p)
   rule-longer r (upChar b) d = refl
@@ -136,11 +147,11 @@ module _ (n : ℕ) where
 
   -- a bit for each page
   module _ (r : Reader) (roomy : capacity (r .guarded) ≤ 8 * length (r .guarded .index)) where
-    row-longer : (c : Barred) → ((p : ℕ) → c ≡ readIndexTable p → Within r p) → carry (longer r) (rule (longer r) c) ≡ saidLonger (carry r (rule r c))
+    row-longer : (c : Barred) → ((p : ℕ) → c ≡ readIndexTable p → Within r p) → carry (longer r) (rule χ (longer r) c) ≡ saidLonger (carry r (rule χ r c))
     unfolding rule
-    row-longer c d = carry-longer r (rule r c) (rule (longer r) c) (rule-longer r c d) (inside c)
+    row-longer c d = carry-longer r (rule χ r c) (rule χ (longer r) c) (rule-longer r c d) (inside c)
       where
-        inside : (c : Barred) → verdict (rule r c .tests) ≡ 0 → Inside r (rule r c .effect)
+        inside : (c : Barred) → verdict (rule χ r c .tests) ≡ 0 → Inside r (rule χ r c .effect)
         inside (store b p) v =
             let t = verdict-passed _ tt v in
             let l : p < capacity (r .guarded) = ltb→lt p (capacity (r .guarded)) (search (and-l, and-r)) in
@@ -152,6 +163,7 @@ module _ (n : ℕ) where
         inside empty v = tt
         inside (setSysPara k u) v = tt
         inside readSysPara v = tt
+        inside (searchFor b p m) v = tt
         inside (setPassword w) v = tt
         inside (setAddress a) v = tt
         inside (writeNotepad p b) v = tt
@@ -159,16 +171,16 @@ module _ (n : ℕ) where
         inside templeteNum v = tt
         inside (readIndexTable p) v = tt
 
-    obey-longer : (c : Command) → ((p : ℕ) → c ≡ barred (readIndexTable p) → Within r p) → obey (longer r) c ≡ saidLonger (obey r c)
+    obey-longer : (c : Command) → ((p : ℕ) → c ≡ barred (readIndexTable p) → Within r p) → obey χ (longer r) c ≡ saidLonger (obey χ r c)
     unfolding obey says carryFree publicOf capacity
     obey-longer (free c) d = refl
     obey-longer (barred c) d = go (locked (r .plain))
       where
-        go : (b : Bool) → cond b (says (longer r) passwordFirst) (carry (longer r) (rule (longer r) c)) ≡ saidLonger (cond b (says r passwordFirst) (carry r (rule r c)))
+        go : (b : Bool) → cond b (says (longer r) passwordFirst) (carry (longer r) (rule χ (longer r) c)) ≡ saidLonger (cond b (says r passwordFirst) (carry r (rule χ r c)))
         go true = refl
         go false = row-longer c (λ p e. d p (ap barred e))
 
-    heed-longer : (o : Order) → ((p : ℕ) → o ≡ command (barred (readIndexTable p)) → Within r p) → heed (longer r) o ≡ saidLonger (heed r o)
+    heed-longer : (o : Order) → ((p : ℕ) → o ≡ command (barred (readIndexTable p)) → Within r p) → heed χ (longer r) o ≡ saidLonger (heed χ r o)
     unfolding heed says
     heed-longer damaged d = refl
     heed-longer unknown d = refl
@@ -198,11 +210,11 @@ module _ (n : ℕ) where
   take-longer r last right content (unfit b k) = refl
 
   answer-longer : (r : Reader) → capacity (r .guarded) ≤ 8 * length (r .guarded .index) → (h : Heard)
-      → ((p : ℕ) → h ≡ order (command (barred (readIndexTable p))) → Within r p) → answer (longer r) h ≡ saidLonger (answer r h)
+      → ((p : ℕ) → h ≡ order (command (barred (readIndexTable p))) → Within r p) → answer χ (longer r) h ≡ saidLonger (answer χ r h)
   unfolding answer silence capacity
   answer-longer r roomy nothing d = refl
   answer-longer r roomy (order o) d =
-      ap (λ (t : Reader). heed t o) (rested-longer r) ∙ heed-longer (rested r) (rw (spared r .templates, spared r .index) roomy) o (λ p e. rw (spared r .index) (d p (ap order e)))
+      ap (λ (t : Reader). heed χ t o) (rested-longer r) ∙ heed-longer (rested r) (rw (spared r .templates, spared r .index) roomy) o (λ p e. rw (spared r .index) (d p (ap order e)))
   answer-longer r roomy (piece last right content) d = take-longer r last right content (r .plain .transfer)
 
 -- ---- a reader brought over
@@ -220,7 +232,7 @@ brought r =
     let g = r .guarded in
     record {
       plain = r .plain;
-      guarded = record { templates = g .templates; index = g .index ++ replicate 96 0; notepad = g .notepad; buffer1 = g .buffer1; buffer2 = g .buffer2 };
+      guarded = record { templates = g .templates; index = g .index ++ replicate 96 0; notepad = g .notepad; buffer1 = g .buffer1; buffer2 = g .buffer2; found = g .found };
     }
 
 -- by the call
@@ -229,7 +241,7 @@ brings r index e d = bring-refusals (r .guarded .index) index .0 e .0 d .1
 
 -- a transfer asks for nothing of the library
 transfer-fits : (p : Plain) (g : Guarded) (t x : List ℕ) (m : Transfer) → T (fitTransfer p g m)
-    → T (fitTransfer p record { templates = t; index = x; notepad = g .notepad; buffer1 = g .buffer1; buffer2 = g .buffer2 } m)
+    → T (fitTransfer p record { templates = t; index = x; notepad = g .notepad; buffer1 = g .buffer1; buffer2 = g .buffer2; found = g .found } m)
 unfolding fitTransfer bufferOf
 transfer-fits p g t x closed h = h
 transfer-fits p g t x (opened w got) h = h
@@ -270,18 +282,19 @@ pub record SameEnd (old new : Ended) : Type 0 where
   pub after : new .after ≡ brought (old .after)
 
 pub goes-on : (r : Reader) → Legal before before-holds r → (e : Event) → AsBefore e → SameEnd (on before r e) (on core (brought r) e)
-unfolding on carried refused stepOf switchOf switchAs switchRefusal fitBuffers switched wiped
-goes-on r l (received s lent) d = go (fitLent lent) refl
+unfolding on carried refused stepOf switchOf switchAs switchRefusal fitBuffers switched wiped capacity
+goes-on r l (received s lent) d = go (fitChip (capacity (r .guarded)) (lent .chip)) (fitRoom (lent .room)) refl refl
   where
     k : Good before before-holds r
     k = good-of before before-holds r (l .typed) (l .legal)
 
-    go : (b : Bool) → fitLent lent ≡ b → SameEnd (callOf before r s lent) (callOf core (brought r) s lent)
-    go true u =
-        let a = answer-longer 96 r (omega (arith, k .shelf .high, k .shelf .wide)) (hear (r .plain .address) s) (λ p e. omega (arith, d (r .plain .address) p e, k .shelf .wide)) in
-        rw (call-legal before r s lent (l .legal) (rw u tt), call-legal core (brought r) s lent (brings-legal r l .legal) (rw u tt), a) record { told = refl; after = refl }
-    go false u =
-        rw (call-short before r s lent (l .legal) u, call-short core (brought r) s lent (brings-legal r l .legal) u) record { told = refl; after = refl }
+    go : (a b : Bool) → fitChip (capacity (r .guarded)) (lent .chip) ≡ a → fitRoom (lent .room) ≡ b → SameEnd (callOf before r s lent) (callOf core (brought r) s lent)
+    go true true c u =
+        let a = answer-longer 96 (lent .chip) r (omega (arith, k .shelf .high, k .shelf .wide)) (hear (r .plain .address) s) (λ p e. omega (arith, d (r .plain .address) p e, k .shelf .wide)) in
+        rw (call-legal before r s lent (l .legal) (rw (c, u) tt), call-legal core (brought r) s lent (brings-legal r l .legal) (rw (c, u) tt), a) record { told = refl; after = refl }
+    go true false c u =
+        rw (call-short before r s lent (l .legal) (rw c tt) u, call-short core (brought r) s lent (brings-legal r l .legal) (rw c tt) u) record { told = refl; after = refl }
+    go false b c u = rw (call-unfit before r s lent (l .legal) c, call-unfit core (brought r) s lent (brings-legal r l .legal) c) record { told = refl; after = refl }
 goes-on r l switch d = go (switchRefusal (r .guarded))
   where
     go : (n : ℕ) → SameEnd (switchAs r n) (switchAs (brought r) n)
@@ -328,7 +341,7 @@ grown k r =
     let g = r .guarded in
     record {
       plain = r .plain;
-      guarded = record { templates = g .templates ++ replicate (512 * k) 0; index = g .index; notepad = g .notepad; buffer1 = g .buffer1; buffer2 = g .buffer2 };
+      guarded = record { templates = g .templates ++ replicate (512 * k) 0; index = g .index; notepad = g .notepad; buffer1 = g .buffer1; buffer2 = g .buffer2; found = g .found };
     }
 
 -- it is legal, if it was; its pages have their bytes, and those behind them are not stored

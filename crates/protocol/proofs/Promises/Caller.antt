@@ -8,12 +8,13 @@ use Prim.Native.Nat.{ℕ}
 use lib.Dec.{T, eqb, eqb→eq}
 use lib.ListN.{take, drop}
 use Rattle.protocol.specs.Finder.{findOf, usedOf}
-use Rattle.protocol.specs.Reader.{Reader}
+use Rattle.protocol.specs.Reader.{Reader, capacity}
+use Rattle.protocol.specs.Search.{Chip}
 use Rattle.protocol.specs.Step.{stepOf}
 use Rattle.protocol.specs.Call.{Shape, Lent, fitLent, legal, Told, replyOf, callOf}
 use Rattle.protocol.specs.Dialogue.{Event, received, switch}
 use Rattle.protocol.specs.Receiver.{holding, Line, line, Handed, receiveOf, lineSwitchOf}
-use Rattle.protocol.specs.Caller.{Try, Ran, replied, offers, served, resting, atRest, drained, onLine, finallyOn, Talk, endsAt, begins, talk}
+use Rattle.protocol.specs.Caller.{Try, Ran, replied, offers, served, resting, atRest, drained, onLine, finallyOn, Talk, endsAt, begins, talk, lending}
 use Rattle.protocol.proofs.Laws.Logic.{and-l, and-r, and-i, eq→eqb}
 use Rattle.protocol.proofs.Laws.Drain.{drained-rest, drained-call}
 use Rattle.protocol.proofs.Promises.Cuts.{drains-by-call}
@@ -34,29 +35,30 @@ replied-is (b ∷ a) d = refl
 
 -- ---- the calls of a caller
 
-module _ (σ : Shape) where
-  pub offers-none : (x : Line) (s : List ℕ) → offers σ [] x s ≡ record { replies = []; after = x; left = s }
+-- with the same scores and thresholds at every call
+module _ (σ : Shape) (χ : Chip) where
+  pub offers-none : (x : Line) (s : List ℕ) → offers σ χ [] x s ≡ record { replies = []; after = x; left = s }
   unfolding offers
   offers-none x s = refl
 
   module _ (t : Try) (ts : List Try) (x : Line) (s : List ℕ) where
     -- so many bytes of those left
     abbrev pub calls : Handed
-    calls = receiveOf σ x (take (t .size) s) (t .lent)
+    calls = receiveOf σ x (take (t .size) s) (lending χ (t .room))
 
     -- and then the other calls, with all that it did not take
-    pub offers-more : offers σ (t ∷ ts) x s ≡ before (calls .told) (offers σ ts (calls .after) (drop (calls .told .used) s))
+    pub offers-more : offers σ χ (t ∷ ts) x s ≡ before (calls .told) (offers σ χ ts (calls .after) (drop (calls .told .used) s))
     unfolding offers replyOf
-    offers-more = replied-is (take (calls .told .length) (calls .told .room)) (offers σ ts (calls .after) (drop (calls .told .used) s))
+    offers-more = replied-is (take (calls .told .length) (calls .told .room)) (offers σ χ ts (calls .after) (drop (calls .told .used) s))
 
     -- "no call is refused"
-    pub served-more : T (served σ (t ∷ ts) x s) ↔ ((calls .told .refusal ≡ 0) × T (served σ ts (calls .after) (drop (calls .told .used) s)))
+    pub served-more : T (served σ χ (t ∷ ts) x s) ↔ ((calls .told .refusal ≡ 0) × T (served σ χ ts (calls .after) (drop (calls .told .used) s)))
     unfolding served
     served-more =
-        let more : Bool = served σ ts (calls .after) (drop (calls .told .used) s) in
+        let more : Bool = served σ χ ts (calls .after) (drop (calls .told .used) s) in
         (λ h. (eqb→eq (calls .told .refusal) 0 (and-l (eqb (calls .told .refusal) 0) more h), and-r (eqb (calls .told .refusal) 0) more h), λ h. and-i (eqb (calls .told .refusal) 0) more (eq→eqb (calls .told .refusal) 0 (h .0)) (h .1))
 
-  pub served-none : (x : Line) (s : List ℕ) → T (served σ [] x s)
+  pub served-none : (x : Line) (s : List ℕ) → T (served σ χ [] x s)
   unfolding served
   served-none x s = tt
 
@@ -67,22 +69,26 @@ module _ (σ : Shape) where
 
   -- ---- the run whole
 
-  module _ (r : Reader) (s : List ℕ) (lent : Lent) (l : T (legal σ r)) (u : T (fitLent lent)) where
+  module _ (r : Reader) (s room : List ℕ) (l : T (legal σ r)) (u : T (fitLent (capacity (r .guarded)) (lending χ room))) where
+    abbrev lent : Lent
+    lent = lending χ room
+
     -- a call that uses nothing is the end: all bytes are held
-    pub drained-waits : callOf σ r s lent .told .used ≡ 0 → drained r s ≡ record { replies = []; after = line r (holding s); left = [] }
+    pub drained-waits : callOf σ r s lent .told .used ≡ 0 → drained χ r s ≡ record { replies = []; after = line r (holding s); left = [] }
     unfolding atRest
-    drained-waits e = let z : usedOf (findOf s) ≡ 0 = rw (drains-by-call σ r s lent l u .0) at e in drained-rest r s z
+    drained-waits e = let z : usedOf (findOf s) ≡ 0 = rw (drains-by-call σ r s lent l u .0) at e in drained-rest χ r s z
 
     -- otherwise the bytes used are dropped, and the call is done on the others
-    pub drained-more : drained r s ≡ before (callOf σ r s lent .told) (drained (callOf σ r s lent .after) (drop (callOf σ r s lent .told .used) s))
+    pub drained-more : drained χ r s ≡ before (callOf σ r s lent .told) (drained χ (callOf σ r s lent .after) (drop (callOf σ r s lent .told .used) s))
     unfolding replyOf
     drained-more =
         let by = drains-by-call σ r s lent l u in
-        let a : take (callOf σ r s lent .told .length) (callOf σ r s lent .told .room) ≡ stepOf r s .reply = by .1 .0 in
-        rw (by .0, by .1 .1, a) (drained-call r s ∙ replied-is (stepOf r s .reply) (drained (stepOf r s .after) (drop (usedOf (findOf s)) s)))
+        let a : take (callOf σ r s lent .told .length) (callOf σ r s lent .told .room) ≡ stepOf χ r s .reply = by .1 .0 in
+        rw (by .0, by .1 .1, a) (drained-call χ r s ∙ replied-is (stepOf χ r s .reply) (drained χ (stepOf χ r s .after) (drop (usedOf (findOf s)) s)))
 
-  -- ---- sequences of pieces and line switches
+-- ---- sequences of pieces and line switches
 
+module _ (σ : Shape) where
   pub piece-is : (x : Line) (piece : List ℕ) (lent : Lent) → onLine σ x (received piece lent) ≡ receiveOf σ x piece lent
   unfolding onLine
   piece-is x piece lent = refl

@@ -1,5 +1,5 @@
 -- Document 01, "Commands": "The length field is fixed by the command code; any other length is 01h. Order: unknown code 19h; wrong length 01h".
--- The sixteen codes and their length fields, at the level of a call: the run has a whole packet at p with identifier 1 for the reader, its sum
+-- The seventeen codes and their length fields, at the level of a call: the run has a whole packet at p with identifier 1 for the reader, its sum
 -- right, n its length field. What follows where the length is the code's own is in Parameters.
 use mathlib.Core.Bool.{true}
 use mathlib.Core.Path.{_≡_, refl, sym, ap, _∙_}
@@ -12,7 +12,7 @@ use borrow.Author.Tests.{ne-eqb}
 use lib.ListN.{getD, drop}
 use lib.Seq.{getD-take, getD-drop}
 use Rattle.protocol.specs.Packet.{contentAt, rightAt}
-use Rattle.protocol.specs.Reader.{Reader}
+use Rattle.protocol.specs.Reader.{Reader, capacity}
 use Rattle.protocol.specs.Commands.{Entry, commands, Known, none, some, rowOf}
 use Rattle.protocol.specs.Step.{rested}
 use Rattle.protocol.specs.Call.{Shape, Lent, fitLent, legal, callOf}
@@ -20,10 +20,11 @@ use Rattle.protocol.proofs.Promises.Told.{Says}
 use Rattle.protocol.proofs.Promises.Finding.{WholeAt, whole-at, content-long}
 use Rattle.protocol.proofs.Promises.Order.{Ordered, unknown-next, misfit-next}
 
--- the sixteen codes, each with its length field
+-- the seventeen codes, each with its length field
 abbrev pub table : List (ℕ × ℕ)
 table =
-    (0x06, 6)
+    (0x04, 8)
+    ∷ (0x06, 6)
     ∷ (0x07, 6)
     ∷ (0x08, 4)
     ∷ (0x09, 4)
@@ -66,7 +67,7 @@ abbrev Has : ℕ → Known → Type 0
 Has n none = ⊥
 Has n (some e) = e .len ≡ n
 
-module _ (σ : Shape) (r : Reader) (s : List ℕ) (lent : Lent) (f : T (legal σ r)) (u : T (fitLent lent)) (p n : ℕ) (o : Ordered r s p n) (right : rightAt s p n ≡ true) where
+module _ (σ : Shape) (r : Reader) (s : List ℕ) (lent : Lent) (f : T (legal σ r)) (u : T (fitLent (capacity (r .guarded)) lent)) (p n : ℕ) (o : Ordered r s p n) (right : rightAt s p n ≡ true) where
   whole : WholeAt s p n
   whole = whole-at s p n (o .found)
 
@@ -95,4 +96,4 @@ module _ (σ : Shape) (r : Reader) (s : List ℕ) (lent : Lent) (f : T (legal σ
   pub length-fixed : Each Fixed table
   unfolding commands rowOf
   length-fixed =
-      (fixed 0x06 6 refl, (fixed 0x07 6 refl, (fixed 0x08 4 refl, (fixed 0x09 4 refl, (fixed 0x0c 7 refl, (fixed 0x0d 3 refl, (fixed 0x0e 5 refl, (fixed 0x0f 3 refl, (fixed 0x12 7 refl, (fixed 0x13 7 refl, (fixed 0x15 7 refl, (fixed 0x18 36 refl, (fixed 0x19 4 refl, (fixed 0x1d 3 refl, (fixed 0x1f 4 refl, (fixed 0x40 3 refl, tt))))))))))))))))
+      (fixed 0x04 8 refl, (fixed 0x06 6 refl, (fixed 0x07 6 refl, (fixed 0x08 4 refl, (fixed 0x09 4 refl, (fixed 0x0c 7 refl, (fixed 0x0d 3 refl, (fixed 0x0e 5 refl, (fixed 0x0f 3 refl, (fixed 0x12 7 refl, (fixed 0x13 7 refl, (fixed 0x15 7 refl, (fixed 0x18 36 refl, (fixed 0x19 4 refl, (fixed 0x1d 3 refl, (fixed 0x1f 4 refl, (fixed 0x40 3 refl, tt)))))))))))))))))

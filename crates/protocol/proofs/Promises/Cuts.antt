@@ -14,11 +14,12 @@ use lib.Seq.{take-nil}
 use Rattle.protocol.specs.declared.Receiver.{Receiver}
 use Rattle.protocol.specs.Numbers.{holds, longest}
 use Rattle.protocol.specs.Finder.{findOf, usedOf}
-use Rattle.protocol.specs.Reader.{Reader}
+use Rattle.protocol.specs.Reader.{Reader, capacity}
+use Rattle.protocol.specs.Search.{Chip}
 use Rattle.protocol.specs.Step.{stepOf}
 use Rattle.protocol.specs.Call.{Shape, Lent, fitLent, legal, replyOf, carried, callOf}
 use Rattle.protocol.specs.Receiver.{bytesIn, holding, Line, line, Handed, fitting, runOf, handed, receiveOf}
-use Rattle.protocol.specs.Caller.{Try, Ran, replied, offers, served, Rests, resting, atRest, drained}
+use Rattle.protocol.specs.Caller.{Try, Ran, replied, offers, served, Rests, resting, atRest, drained, lending}
 use Rattle.protocol.proofs.Laws.Logic.{and-l, and-r}
 use Rattle.protocol.proofs.Laws.Lists.{take-lay, lay-nothing}
 use Rattle.protocol.proofs.Laws.Answers.{call-legal}
@@ -54,11 +55,11 @@ run-same h piece e = rw e (append-nil (bytesIn h))
 
 module _ (σ : Shape) (x : Line) (piece : List ℕ) (lent : Lent) where
   -- where nothing fits and nothing is used, nothing happens, but that cells past the count are zeroed
-  pub idle : T (legal σ (x .reader)) → T (fitLent lent) → x .receiver .count ≤ holds → fitting (x .receiver) piece ≡ [] → usedOf (findOf (bytesIn (x .receiver))) ≡ 0
+  pub idle : T (legal σ (x .reader)) → T (fitLent (capacity (x .reader .guarded)) lent) → x .receiver .count ≤ holds → fitting (x .receiver) piece ≡ [] → usedOf (findOf (bytesIn (x .receiver))) ≡ 0
       → receiveOf σ x piece lent ≡ record { told = record { refusal = 0; used = 0; length = 0; room = lent .room }; after = line (x .reader) (holding (bytesIn (x .receiver))) }
   unfolding handed carried
   idle t u l e z =
-      rw (receive-legal σ x piece lent t u l, run-same (x .receiver) piece e, step-rest (x .reader) (bytesIn (x .receiver)) z, e, lay-nothing 0 (lent .room)) refl
+      rw (receive-legal σ x piece lent t u l, run-same (x .receiver) piece e, step-rest (lent .chip) (x .reader) (bytesIn (x .receiver)) z, e, lay-nothing 0 (lent .room)) refl
 
   module _ (e : receiveOf σ x piece lent .told .refusal ≡ 0) where
     -- what a call leaves of the held bytes
@@ -77,39 +78,40 @@ module _ (σ : Shape) (x : Line) (piece : List ℕ) (lent : Lent) where
 -- ---- the calls of a caller are the drain of the held bytes and the run
 
 -- the replies so far, and then what is still to come
-ends : Ran → Ran
-ends d =
-    let e = drained (d .after .reader) (bytesIn (d .after .receiver) ++ d .left) in
+ends : Chip → Ran → Ran
+ends χ d =
+    let e = drained χ (d .after .reader) (bytesIn (d .after .receiver) ++ d .left) in
     record { replies = d .replies ++ e .replies; after = e .after; left = e .left }
 
-replied-ends : (a : List ℕ) (d : Ran) → replied a (ends d) ≡ ends (replied a d)
+replied-ends : (χ : Chip) (a : List ℕ) (d : Ran) → replied a (ends χ d) ≡ ends χ (replied a d)
 unfolding replied ends
-replied-ends [] d = refl
-replied-ends (b ∷ a) d = refl
+replied-ends χ [] d = refl
+replied-ends χ (b ∷ a) d = refl
 
-module _ (σ : Shape) where
+-- with the same scores and thresholds at every call
+module _ (σ : Shape) (χ : Chip) where
   -- one call, not refused
-  pub offered : (x : Line) (n : ℕ) (s : List ℕ) (lent : Lent) → receiveOf σ x (take n s) lent .told .refusal ≡ 0
-      → drained (x .reader) (bytesIn (x .receiver) ++ s)
+  pub offered : (x : Line) (n : ℕ) (s : List ℕ) (lent : Lent) → lent .chip ≡ χ → receiveOf σ x (take n s) lent .told .refusal ≡ 0
+      → drained χ (x .reader) (bytesIn (x .receiver) ++ s)
       ≡ replied (replyOf (receiveOf σ x (take n s) lent .told))
-      (drained (receiveOf σ x (take n s) lent .after .reader) (bytesIn (receiveOf σ x (take n s) lent .after .receiver) ++ drop (receiveOf σ x (take n s) lent .told .used) s))
+      (drained χ (receiveOf σ x (take n s) lent .after .reader) (bytesIn (receiveOf σ x (take n s) lent .after .receiver) ++ drop (receiveOf σ x (take n s) lent .told .used) s))
   unfolding handed carried stepOf
-  offered x n s lent e =
+  offered x n s lent same e =
       let r : Reader = x .reader in
       let c : List ℕ = fitting (x .receiver) (take n s) in
       let run : List ℕ = runOf (x .receiver) (take n s) in
       rw (accepted σ x (take n s) lent e .does, reply-taken x (take n s) lent, in-holding (drop (usedOf (findOf run)) run))
-      (ap (drained r) (sym (run-left (x .receiver) n s)) ∙ drained-more r run (drop (length c) s))
+      (rw same (ap (drained χ r) (sym (run-left (x .receiver) n s)) ∙ drained-more χ r run (drop (length c) s)))
 
-  offers-drain : (ts : List Try) (x : Line) (s : List ℕ) → T (served σ ts x s) → drained (x .reader) (bytesIn (x .receiver) ++ s) ≡ ends (offers σ ts x s)
+  offers-drain : (ts : List Try) (x : Line) (s : List ℕ) → T (served σ χ ts x s) → drained χ (x .reader) (bytesIn (x .receiver) ++ s) ≡ ends χ (offers σ χ ts x s)
   unfolding offers served ends
   offers-drain [] x s t = refl
   offers-drain (c ∷ ts) x s t =
-      let o : Handed = receiveOf σ x (take (c .size) s) (c .lent) in
-      let more : Bool = served σ ts (o .after) (drop (o .told .used) s) in
-      offered x (c .size) s (c .lent) (eqb→eq (o .told .refusal) 0 (and-l (eqb (o .told .refusal) 0) more t))
+      let o : Handed = receiveOf σ x (take (c .size) s) (lending χ (c .room)) in
+      let more : Bool = served σ χ ts (o .after) (drop (o .told .used) s) in
+      offered x (c .size) s (lending χ (c .room)) refl (eqb→eq (o .told .refusal) 0 (and-l (eqb (o .told .refusal) 0) more t))
       ∙ ap (replied (replyOf (o .told))) (offers-drain ts (o .after) (drop (o .told .used) s) (and-r (eqb (o .told .refusal) 0) more t))
-      ∙ replied-ends (replyOf (o .told)) (offers σ ts (o .after) (drop (o .told .used) s))
+      ∙ replied-ends χ (replyOf (o .told)) (offers σ χ ts (o .after) (drop (o .told .used) s))
 
   -- held bytes that stay as they are: none of them were used
   unused : (u : ℕ) (h : List ℕ) → u ≤ length h → drop u h ≡ h → u ≡ 0
@@ -123,31 +125,32 @@ module _ (σ : Shape) where
       let k′ : drop (usedOf (findOf (runOf (x .receiver) []))) (runOf (x .receiver) []) ≡ b = sym (bytes-after σ x [] lent e) ∙ k in
       unused (usedOf (findOf b)) b (used-in b) (rw same at k′)
 
-  rests-ends : (d : Ran) (lent : Lent) → Rests σ d lent → resting σ d lent ≡ ends d
+  rests-ends : (d : Ran) (lent : Lent) → Rests σ d lent → resting σ d lent ≡ ends χ d
   unfolding resting ends atRest
   rests-ends d lent f =
       let x : Line = d .after in
       let c : Carried σ x [] lent = accepted σ x [] lent (f .accepted) in
       let z : usedOf (findOf (bytesIn (x .receiver))) ≡ 0 = rest-used x lent (f .accepted) (f .leaves) in
-      rw (idle σ x [] lent (c .legal) (c .roomy) (c .few) (fits-nil (x .receiver)) z, f .all, append-nil (bytesIn (x .receiver)), drained-rest (x .reader) (bytesIn (x .receiver)) z, append-nil (d .replies))
+      rw (idle σ x [] lent (c .legal) (c .roomy) (c .few) (fits-nil (x .receiver)) z, f .all, append-nil (bytesIn (x .receiver)), drained-rest χ (x .reader) (bytesIn (x .receiver)) z, append-nil (d .replies))
       refl
 
   -- what any caller comes to: document 01's call, again and again, on the held bytes and the run joined
-  pub rests-drained : (ts : List Try) (x : Line) (s : List ℕ) (lent : Lent) → T (served σ ts x s) → Rests σ (offers σ ts x s) lent
-      → resting σ (offers σ ts x s) lent ≡ drained (x .reader) (bytesIn (x .receiver) ++ s)
-  rests-drained ts x s lent t f = rests-ends (offers σ ts x s) lent f ∙ sym (offers-drain ts x s t)
-
-  -- each step of the drain is that call: its bytes used, its reply and its reader after it
-  pub drains-by-call : (r : Reader) (s : List ℕ) (lent : Lent) → T (legal σ r) → T (fitLent lent)
-      → (callOf σ r s lent .told .used ≡ usedOf (findOf s)) × ((replyOf (callOf σ r s lent .told) ≡ stepOf r s .reply) × (callOf σ r s lent .after ≡ stepOf r s .after))
-  unfolding carried replyOf stepOf
-  drains-by-call r s lent f u = rw (call-legal σ r s lent f u) (refl, (take-lay (stepOf r s .reply) (lent .room), refl))
+  pub rests-drained : (ts : List Try) (x : Line) (s : List ℕ) (lent : Lent) → T (served σ χ ts x s) → Rests σ (offers σ χ ts x s) lent
+      → resting σ (offers σ χ ts x s) lent ≡ drained χ (x .reader) (bytesIn (x .receiver) ++ s)
+  rests-drained ts x s lent t f = rests-ends (offers σ χ ts x s) lent f ∙ sym (offers-drain ts x s t)
 
   -- WHERE A RUN WAS CUT DOES NOT MATTER: two ways to offer it, no call refused, both through to rest; the same replies in order, the same reader,
   -- the same held bytes, and the same cells
-  pub cut-free : (x : Line) (s : List ℕ) (ts us : List Try) (one other : Lent) → T (served σ ts x s) → T (served σ us x s)
-      → Rests σ (offers σ ts x s) one → Rests σ (offers σ us x s) other → resting σ (offers σ ts x s) one ≡ resting σ (offers σ us x s) other
+  pub cut-free : (x : Line) (s : List ℕ) (ts us : List Try) (one other : Lent) → T (served σ χ ts x s) → T (served σ χ us x s)
+      → Rests σ (offers σ χ ts x s) one → Rests σ (offers σ χ us x s) other → resting σ (offers σ χ ts x s) one ≡ resting σ (offers σ χ us x s) other
   cut-free x s ts us one other t u f g = rests-drained ts x s one t f ∙ sym (rests-drained us x s other u g)
+
+module _ (σ : Shape) where
+  -- each step of the drain is that call: its bytes used, its reply and its reader after it
+  pub drains-by-call : (r : Reader) (s : List ℕ) (lent : Lent) → T (legal σ r) → T (fitLent (capacity (r .guarded)) lent)
+      → (callOf σ r s lent .told .used ≡ usedOf (findOf s)) × ((replyOf (callOf σ r s lent .told) ≡ stepOf (lent .chip) r s .reply) × (callOf σ r s lent .after ≡ stepOf (lent .chip) r s .after))
+  unfolding carried replyOf stepOf
+  drains-by-call r s lent f u = rw (call-legal σ r s lent f u) (refl, (take-lay (stepOf (lent .chip) r s .reply) (lent .room), refl))
 
   -- ---- 267 cells are enough: a full receiver drops something, and a call that is offered a byte takes or drops one
 
@@ -225,9 +228,9 @@ module _ (σ : Shape) where
       leaves-held = ap (λ (o : Handed). bytesIn (o .after .receiver)) does ∙ in-holding (bytesIn (x .receiver))
 
       -- so it is the last call
-      pub all-drained : receiveOf σ x piece lent .after ≡ drained (x .reader) (bytesIn (x .receiver) ++ piece) .after
+      pub all-drained : (χ : Chip) → receiveOf σ x piece lent .after ≡ drained χ (x .reader) (bytesIn (x .receiver) ++ piece) .after
       unfolding atRest
-      all-drained = rw (does, offers-nothing, append-nil (bytesIn (x .receiver)), drained-rest (x .reader) (bytesIn (x .receiver)) still) refl
+      all-drained χ = rw (does, offers-nothing, append-nil (bytesIn (x .receiver)), drained-rest χ (x .reader) (bytesIn (x .receiver)) still) refl
 
       -- and the caller, who offered all that was left, is at rest: what he tests by two numbers is what `Rests` says
       pub stops-at-rest : (replies : List (List ℕ)) → Rests σ record { replies = replies; after = x; left = piece } lent

@@ -15,6 +15,7 @@ use Rattle.protocol.specs.Call.{core, Lent, fitLent, Ended, callOf}
 use Rattle.protocol.specs.Dialogue.{received, on}
 use Rattle.protocol.proofs.Laws.Answers.{spared}
 use Rattle.protocol.proofs.Laws.Locked.{rested-still}
+use Rattle.protocol.proofs.Laws.History.{call-capacity}
 use Rattle.protocol.proofs.Laws.Legal.{Good}
 use Rattle.protocol.proofs.Promises.Told.{Replies, Says, pages, Numbered, buffer, blank, buffer-is}
 use Rattle.protocol.proofs.Promises.LegalMeans.{core-holds}
@@ -24,8 +25,8 @@ use Rattle.protocol.proofs.Promises.Untouched.{whole-page}
 use Rattle.protocol.proofs.Promises.Rows.{rows}
 
 -- a legal reader that is not locked, and two calls, the second on what the first leaves
-module _ (r : Reader) (l : Legal core core-holds r) (u : locked (r .plain) ≡ false) (s : List ℕ) (lent : Lent) (v : T (fitLent lent))
-    (s′ : List ℕ) (lent′ : Lent) (v′ : T (fitLent lent′)) where
+module _ (r : Reader) (l : Legal core core-holds r) (u : locked (r .plain) ≡ false) (s : List ℕ) (lent : Lent) (v : T (fitLent (capacity (r .guarded)) lent))
+    (s′ : List ℕ) (lent′ : Lent) (v′ : T (fitLent (capacity (r .guarded)) lent′)) where
   abbrev first : Ended
   first = callOf core r s lent
 
@@ -100,6 +101,9 @@ module _ (r : Reader) (l : Legal core core-holds r) (u : locked (r .plain) ≡ f
     unfolding on
     legal-after = stays-legal core core-holds r l (received s lent)
 
+    fit-after : T (fitLent (capacity (first .after .guarded)) lent′)
+    fit-after = rw (call-capacity core core-holds r s lent) v′
+
     unlocked : locked (first .after .plain) ≡ false
     unlocked = ap locked (wiped .quiet .settings) ∙ spared r .lock ∙ u
 
@@ -116,11 +120,11 @@ module _ (r : Reader) (l : Legal core core-holds r) (u : locked (r .plain) ≡ f
     -- "the next UpChar" sends nothing
     pub up-after-delete : Asks s′ (upChar b) → Gone b 0x0d
     up-after-delete h =
-        gone 0x0d (rows (first .after) s′ lent′ (legal-after .legal) v′ unlocked (upChar b) (ap (λ (a : List ℕ). hear a s′) address ∙ h) .0 i .1 unfilled)
+        gone 0x0d (rows (first .after) s′ lent′ (legal-after .legal) fit-after unlocked (upChar b) (ap (λ (a : List ℕ). hear a s′) address ∙ h) .0 i .1 unfilled)
 
     -- so a host that loads a page, deletes it to replace it, and stores the buffer again, has to download first
     pub store-after-delete : Asks s′ (store b q) → Gone b 0x0c
     store-after-delete h =
         gone 0x0c
-        (rows (first .after) s′ lent′ (legal-after .legal) v′ unlocked (store b q) (ap (λ (a : List ℕ). hear a s′) address ∙ h) .0 i .0
+        (rows (first .after) s′ lent′ (legal-after .legal) fit-after unlocked (store b q) (ap (λ (a : List ℕ). hear a s′) address ∙ h) .0 i .0
         (subst (λ (x : Reader). q < pages x) (sym still) (wiped .page-there)) .1 unfilled)

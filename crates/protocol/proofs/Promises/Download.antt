@@ -11,7 +11,8 @@ use lib.Seq.{take-all, length-take-le}
 use Rattle.protocol.specs.Numbers.{pageBytes, fourBytes, dataPacket, lastPacket}
 use Rattle.protocol.specs.Bytes.{lay}
 use Rattle.protocol.specs.Packet.{packet, lengthOf, accepts}
-use Rattle.protocol.specs.Reader.{Transfer, closed, opened, Plain, Origin, noOrigin, Buffer, Guarded, Reader, sizeOf, bufferOf, locked, withTransfer, withBuffer, reader}
+use Rattle.protocol.specs.Reader.{Transfer, closed, opened, Plain, Origin, noOrigin, Buffer, Guarded, Reader, sizeOf, bufferOf, locked, withTransfer, withBuffer, reader, capacity}
+use Rattle.protocol.specs.Search.{Chip}
 use Rattle.protocol.specs.Commands.{barred, downChar, command}
 use Rattle.protocol.specs.Data.{acknowledge, packets}
 use Rattle.protocol.specs.Step.{order, hearAs, hearAt, hear, silence, rested, fits, laidIn, takeAs, takeIn, answer, stepOf}
@@ -23,6 +24,7 @@ use Rattle.protocol.proofs.Laws.Finder.{heard-at}
 use Rattle.protocol.proofs.Laws.Effects.{buffer-same, buffer-own}
 use Rattle.protocol.proofs.Laws.Origins.{unfilled-none}
 use Rattle.protocol.proofs.Laws.Answers.{call-legal}
+use Rattle.protocol.proofs.Laws.History.{call-capacity}
 use Rattle.protocol.proofs.Laws.Legal.{buffer-long, Good, Moving, moving}
 use Rattle.protocol.proofs.Laws.Sizes.{Size}
 use Rattle.protocol.proofs.Promises.Told.{Leaves, Numbered, number, blank, WithBuffer, with-buffer, number-is}
@@ -71,7 +73,7 @@ module _ (p : Plain) (g : Guarded) (w : Bool) (h : length (p .address) ≡ fourB
 
   -- ---- one data packet
 
-  module _ (c : List ℕ) (one : length c ≡ sizeOf (p .size)) (got : ℕ) (b : List ℕ) where
+  module _ (χ : Chip) (c : List ℕ) (one : length c ≡ sizeOf (p .size)) (got : ℕ) (b : List ℕ) where
     abbrev now : Buffer
     now = bufferOf w (withBuffer w (unfilled b) g)
 
@@ -82,36 +84,41 @@ module _ (p : Plain) (g : Guarded) (w : Bool) (h : length (p .address) ≡ fourB
         ∙ ap (λ (x : Buffer). withBuffer w (laidIn got c (f (x .filled)) x) g) (buffer-same w (unfilled b) g)
 
     more : T (accepts dataPacket (sizeOf (p .size) + 2)) → got + sizeOf (p .size) < pageBytes
-        → stepOf (under got b) (packet (p .address) dataPacket c) .after ≡ under (got + sizeOf (p .size)) (lay got c b)
+        → stepOf χ (under got b) (packet (p .address) dataPacket c) .after ≡ under (got + sizeOf (p .size)) (lay got c b)
     unfolding stepOf answer hearAs takeIn takeAs silence fits withTransfer
     more t l =
         rw (heard-packet (p .address) dataPacket c h (rw one t), one, eqb-same (sizeOf (p .size)), lt-ltb (got + sizeOf (p .size)) pageBytes l)
         (ap (reader (withTransfer (opened w (got + sizeOf (p .size))) p)) (again (λ m. m)))
 
-    more-silent : T (accepts dataPacket (sizeOf (p .size) + 2)) → got + sizeOf (p .size) < pageBytes → stepOf (under got b) (packet (p .address) dataPacket c) .reply ≡ []
+    more-silent : T (accepts dataPacket (sizeOf (p .size) + 2)) → got + sizeOf (p .size) < pageBytes → stepOf χ (under got b) (packet (p .address) dataPacket c) .reply ≡ []
     unfolding stepOf answer hearAs takeIn takeAs silence fits withTransfer
     more-silent t l =
         rw (heard-packet (p .address) dataPacket c h (rw one t), one, eqb-same (sizeOf (p .size)), lt-ltb (got + sizeOf (p .size)) pageBytes l) refl
 
     last : T (accepts lastPacket (sizeOf (p .size) + 2)) → got + sizeOf (p .size) ≡ pageBytes
-        → stepOf (under got b) (packet (p .address) lastPacket c) .after ≡ through (lay got c b)
+        → stepOf χ (under got b) (packet (p .address) lastPacket c) .after ≡ through (lay got c b)
     unfolding stepOf answer hearAs takeIn takeAs silence fits withTransfer
     last t l =
         rw (heard-packet (p .address) lastPacket c h (rw one t), one, eqb-same (sizeOf (p .size)), l) (ap (reader (withTransfer closed p)) (again (λ m. true)))
 
-    last-silent : T (accepts lastPacket (sizeOf (p .size) + 2)) → got + sizeOf (p .size) ≡ pageBytes → stepOf (under got b) (packet (p .address) lastPacket c) .reply ≡ []
+    last-silent : T (accepts lastPacket (sizeOf (p .size) + 2)) → got + sizeOf (p .size) ≡ pageBytes → stepOf χ (under got b) (packet (p .address) lastPacket c) .reply ≡ []
     unfolding stepOf answer hearAs takeIn takeAs silence fits withTransfer
     last-silent t l = rw (heard-packet (p .address) lastPacket c h (rw one t), one, eqb-same (sizeOf (p .size)), l) refl
 
   -- ---- k + 1 packets to come
 
-  module _ (σ : Shape) (ok : σ .most ≤ 8 * σ .indexed) (z : Size (sizeOf (p .size))) (lent : ℕ → Lent) (f : (n : ℕ) → T (fitLent (lent n))) where
+  module _ (σ : Shape) (ok : σ .most ≤ 8 * σ .indexed) (z : Size (sizeOf (p .size))) (lent : ℕ → Lent) (f : (n : ℕ) → T (fitLent (capacity g) (lent n))) where
     abbrev n : ℕ
     n = sizeOf (p .size)
 
-    call : (r : Reader) → Legal σ ok r → (s : List ℕ) (k : ℕ) → callOf σ r s (lent k) .after ≡ stepOf r s .after
+    -- the buffer has no part in C
+    fits-under : (got : ℕ) (b : List ℕ) (k : ℕ) → T (fitLent (capacity (under got b .guarded)) (lent k))
+    unfolding capacity withBuffer
+    fits-under got b k = f k
+
+    call : (got : ℕ) (b : List ℕ) → Legal σ ok (under got b) → (s : List ℕ) (k : ℕ) → callOf σ (under got b) s (lent k) .after ≡ stepOf (lent k .chip) (under got b) s .after
     unfolding carried
-    call r l s k = ap (λ (e : Ended). e .after) (call-legal σ r s (lent k) (l .legal) (f k))
+    call got b l s k = ap (λ (e : Ended). e .after) (call-legal σ (under got b) s (lent k) (l .legal) (fits-under got b k))
 
     legally : (r t : Reader) → Legal σ ok r → (s : List ℕ) (k : ℕ) → callOf σ r s (lent k) .after ≡ t → Legal σ ok t
     unfolding on
@@ -122,9 +129,9 @@ module _ (p : Plain) (g : Guarded) (w : Bool) (h : length (p .address) ≡ fourB
     unfolding finally on deliver packets
     feeding zero got s b e m x l =
         let all : take n s ≡ s = take-all n s (omega arith) in
-        call (under got b) l (packet (p .address) lastPacket (take n s)) 0
-        ∙ ap (λ (c : List ℕ). stepOf (under got b) (packet (p .address) lastPacket c) .after) all
-        ∙ last s (omega arith) got b (z .ends) (omega arith)
+        call got b l (packet (p .address) lastPacket (take n s)) 0
+        ∙ ap (λ (c : List ℕ). stepOf (lent 0 .chip) (under got b) (packet (p .address) lastPacket c) .after) all
+        ∙ last (lent 0 .chip) s (omega arith) got b (z .ends) (omega arith)
         ∙ ap through (last-lay got s b (omega arith))
     feeding (suc k) got s b e m x l =
         let c : List ℕ = take n s in
@@ -133,7 +140,7 @@ module _ (p : Plain) (g : Guarded) (w : Bool) (h : length (p .address) ≡ fourB
         let fit : got + length c ≤ length b = omega arith in
         let two : cond {A = ℕ} (eqb (suc k) 0) lastPacket dataPacket ≡ dataPacket = ap (λ (t : Bool). cond t lastPacket dataPacket) (eqb·suc-zero k) in
         let next : callOf σ (under got b) (packet (p .address) dataPacket c) (lent (length ps)) .after ≡ under (got + n) (lay got c b) =
-        call (under got b) l (packet (p .address) dataPacket c) (length ps) ∙ more c one got b (z .carries) (omega arith)
+        call got b l (packet (p .address) dataPacket c) (length ps) ∙ more (lent (length ps) .chip) c one got b (z .carries) (omega arith)
         in
         let ahead : take (got + n) (lay got c b) ≡ take got b ++ c = ap (λ (m : ℕ). take (got + m) (lay got c b)) (sym one) ∙ head-lay got c b fit in
         ap (λ (i : ℕ). finally σ (callOf σ (under got b) (packet (p .address) i c) (lent (length ps)) .after) (deliver lent ps)) two
@@ -142,9 +149,9 @@ module _ (p : Plain) (g : Guarded) (w : Bool) (h : length (p .address) ≡ fourB
         (legally (under got b) (under (got + n) (lay got c b)) l (packet (p .address) dataPacket c) (length ps) next)
         ∙ ap through (ap (λ (t : List ℕ). t ++ drop n s) ahead ∙ append-assoc (take got b) c (drop n s) ∙ ap (λ (t : List ℕ). take got b ++ t) (take-append-drop n s))
 
-    quiet : (r : Reader) → Legal σ ok r → (s : List ℕ) (k : ℕ) → stepOf r s .reply ≡ [] → replyOf (callOf σ r s (lent k) .told) ≡ []
+    quiet : (got : ℕ) (b : List ℕ) → Legal σ ok (under got b) → (s : List ℕ) (k : ℕ) → stepOf (lent k .chip) (under got b) s .reply ≡ [] → replyOf (callOf σ (under got b) s (lent k) .told) ≡ []
     unfolding carried replyOf
-    quiet r l s k e = rw (call-legal σ r s (lent k) (l .legal) (f k), e) refl
+    quiet got b l s k e = rw (call-legal σ (under got b) s (lent k) (l .legal) (fits-under got b k), e) refl
 
     feeding-silent : (k got : ℕ) (s b : List ℕ) → got + suc k * n ≡ pageBytes → length s ≡ suc k * n → length b ≡ pageBytes → Legal σ ok (under got b)
         → Silent (exchanges σ (under got b) (deliver lent (packets (p .address) (suc k) n s)))
@@ -152,7 +159,7 @@ module _ (p : Plain) (g : Guarded) (w : Bool) (h : length (p .address) ≡ fourB
     feeding-silent zero got s b e m x l =
         let c : List ℕ = take n s in
         let one : length c ≡ n = length-take-le n s (omega arith) in
-        (quiet (under got b) l (packet (p .address) lastPacket c) 0 (last-silent c one got b (z .ends) (omega arith)), tt)
+        (quiet got b l (packet (p .address) lastPacket c) 0 (last-silent (lent 0 .chip) c one got b (z .ends) (omega arith)), tt)
     feeding-silent (suc k) got s b e m x l =
         let c : List ℕ = take n s in
         let ps : List (List ℕ) = packets (p .address) (suc k) n (drop n s) in
@@ -160,12 +167,12 @@ module _ (p : Plain) (g : Guarded) (w : Bool) (h : length (p .address) ≡ fourB
         let fit : got + length c ≤ length b = omega arith in
         let two : cond {A = ℕ} (eqb (suc k) 0) lastPacket dataPacket ≡ dataPacket = ap (λ (t : Bool). cond t lastPacket dataPacket) (eqb·suc-zero k) in
         let i : List ℕ = packet (p .address) dataPacket c in
-        let next : callOf σ (under got b) i (lent (length ps)) .after ≡ under (got + n) (lay got c b) = call (under got b) l i (length ps) ∙ more c one got b (z .carries) (omega arith) in
+        let next : callOf σ (under got b) i (lent (length ps)) .after ≡ under (got + n) (lay got c b) = call got b l i (length ps) ∙ more (lent (length ps) .chip) c one got b (z .carries) (omega arith) in
         let on : Legal σ ok (under (got + n) (lay got c b)) = legally (under got b) (under (got + n) (lay got c b)) l i (length ps) next in
         let rest : Silent (exchanges σ (under (got + n) (lay got c b)) (deliver lent ps)) =
         feeding-silent k (got + n) (drop n s) (lay got c b) (omega arith) (length-drop n s ∙ omega arith) (length-lay got c b fit ∙ x) on
         in
-        rw two (quiet (under got b) l i (length ps) (more-silent c one got b (z .carries) (omega arith)), subst (λ (r : Reader). Silent (exchanges σ r (deliver lent ps))) (sym next) rest)
+        rw two (quiet got b l i (length ps) (more-silent (lent (length ps) .chip) c one got b (z .carries) (omega arith)), subst (λ (r : Reader). Silent (exchanges σ r (deliver lent ps))) (sym next) rest)
 
 -- ---- from an open transfer, and from DownChar
 
@@ -176,7 +183,8 @@ transfer-own p t e = rw (← e) refl
 unfilled-own : (w : Bool) (g : Guarded) → bufferOf w g .filled ≡ false → bufferOf w g .origin ≡ noOrigin → withBuffer w (unfilled (bufferOf w g .bytes)) g ≡ g
 unfilled-own w g e o = ap₂ (λ (m : Bool) (x : Origin). withBuffer w record { bytes = bufferOf w g .bytes; filled = m; origin = x } g) (sym e) (sym o) ∙ buffer-own w g
 
-module _ (σ : Shape) (ok : σ .most ≤ 8 * σ .indexed) (lent : ℕ → Lent) (f : (n : ℕ) → T (fitLent (lent n))) where
+-- of c pages
+module _ (σ : Shape) (ok : σ .most ≤ 8 * σ .indexed) (c : ℕ) (lent : ℕ → Lent) (f : (n : ℕ) → T (fitLent c (lent n))) where
   -- the data packets of s in the size in force, to the reader r
   abbrev pub template : Reader → List ℕ → List Event
   template r s = deliver lent (packets (r .plain .address) (pageBytes / sizeOf (r .plain .size)) (sizeOf (r .plain .size)) s)
@@ -186,8 +194,8 @@ module _ (σ : Shape) (ok : σ .most ≤ 8 * σ .indexed) (lent : ℕ → Lent) 
     pub ends : WithBuffer b record { bytes = s; filled = true; origin = noOrigin } closed r (finally σ r (template r s))
     pub silent : Silent (exchanges σ r (template r s))
 
-  pub downloaded : (r : Reader) → Legal σ ok r → (w : Bool) → r .plain .transfer ≡ opened w 0 → (s : List ℕ) → length s ≡ 512 → Downloads r (number w) s
-  downloaded r l w e s m =
+  pub downloaded : (r : Reader) → capacity (r .guarded) ≡ c → Legal σ ok r → (w : Bool) → r .plain .transfer ≡ opened w 0 → (s : List ℕ) → length s ≡ 512 → Downloads r (number w) s
+  downloaded r many l w e s m =
       let p : Plain = r .plain in
       let g : Guarded = r .guarded in
       let k : Good σ ok r = good σ ok r l in
@@ -197,18 +205,19 @@ module _ (σ : Shape) (ok : σ .most ≤ 8 * σ .indexed) (lent : ℕ → Lent) 
       let now : Reader = reader (withTransfer (opened w 0) p) (withBuffer w (unfilled b) g) in
       let own : now ≡ r = ap₂ reader (transfer-own p (opened w 0) e) (unfilled-own w g (moves .unfilled) (unfilled-none _ _ _ (k .origins w) (moves .unfilled))) in
       let legal : Legal σ ok now = subst (Legal σ ok) (sym own) l in
+      let fits : (n : ℕ) → T (fitLent (capacity g) (lent n)) = λ n. rw many (f n) in
       let sent : ℕ → List Event = λ n. deliver lent (packets (p .address) n (sizeOf (p .size)) s) in
       let last : finally σ r (template r s) ≡ reader (withTransfer closed p) (withBuffer w (filled s) g) =
       ap (λ (x : Reader). finally σ x (template r s)) (sym own)
       ∙ ap (λ (n : ℕ). finally σ now (sent n)) (z .count)
-      ∙ feeding p g w (k .typed .address) σ ok z lent f (z .more) 0 s b (omega (arith, z .whole)) (m ∙ sym (z .whole)) (buffer-long w g (k .buffers)) legal
+      ∙ feeding p g w (k .typed .address) σ ok z lent fits (z .more) 0 s b (omega (arith, z .whole)) (m ∙ sym (z .whole)) (buffer-long w g (k .buffers)) legal
       in
       record {
         ends = subst (WithBuffer (number w) (filled s) closed r) (sym last) (with-buffer w (filled s) closed r);
         silent =
             subst (λ (x : Reader). Silent (exchanges σ x (template r s))) own
             (rw (z .count)
-            (feeding-silent p g w (k .typed .address) σ ok z lent f (z .more) 0 s b (omega (arith, z .whole)) (m ∙ sym (z .whole)) (buffer-long w g (k .buffers)) legal));
+            (feeding-silent p g w (k .typed .address) σ ok z lent fits (z .more) 0 s b (omega (arith, z .whole)) (m ∙ sym (z .whole)) (buffer-long w g (k .buffers)) legal));
       }
 
   -- so DownChar, answered 00h, and then the data packets
@@ -216,13 +225,13 @@ module _ (σ : Shape) (ok : σ .most ≤ 8 * σ .indexed) (lent : ℕ → Lent) 
     pub opens : Leaves (acknowledge (rested r .plain .address) 0x00 []) (WithBuffer b blank (opened (eqb b 2) 0) (rested r)) d given (callOf σ r d given)
     pub fills : Downloads (callOf σ r d given .after) b s
 
-  pub download : (r : Reader) → Legal σ ok r → locked (r .plain) ≡ false → (b : ℕ) → Numbered b → (d : List ℕ) (given : Lent) → T (fitLent given)
+  pub download : (r : Reader) → capacity (r .guarded) ≡ c → Legal σ ok r → locked (r .plain) ≡ false → (b : ℕ) → Numbered b → (d : List ℕ) (given : Lent) → T (fitLent (capacity (r .guarded)) given)
       → hear (r .plain .address) d ≡ order (command (barred (downChar b))) → (s : List ℕ) → length s ≡ 512 → Download r b d given s
   unfolding on
-  download r l u b i d given v h s m =
+  download r many l u b i d given v h s m =
       let o = down-awaits σ ok r l u d given v b h i in
       let t : Reader = callOf σ r d given .after in
       record {
         opens = o;
-        fills = subst (λ (n : ℕ). Downloads t n s) (number-is b i) (downloaded t (stays-legal σ ok r l (received d given)) (eqb b 2) (ap (λ (x : Plain). x .transfer) (o .after .settings)) s m);
+        fills = subst (λ (n : ℕ). Downloads t n s) (number-is b i) (downloaded t (call-capacity σ ok r d given ∙ many) (stays-legal σ ok r l (received d given)) (eqb b 2) (ap (λ (x : Plain). x .transfer) (o .after .settings)) s m);
       }

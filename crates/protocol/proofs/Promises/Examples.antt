@@ -12,6 +12,7 @@ use Rattle.protocol.specs.Packet.{sumOf, packet, isIdentifier, limit, ac
 use Rattle.protocol.specs.Finder.{marksAt, later, startOf, allBut, findFrom, findOf, usedOf}
 use Rattle.protocol.specs.Index.{bit, stored, setBit, clearBit, clearBits, setBits, clearFrom}
 use Rattle.protocol.specs.Reader.{Reader, reader, capacity, sizeOf, keyed, locked, bufferOf, emptied, loadedFrom, storedOn, isOneOf, without, withMark, withTransfer, withPassword, withAddress, withTuning, withLibrary, withNotepad, withBuffer, withoutPages, fresh, zeroed}
+use Rattle.protocol.specs.Search.{Chip}
 use Rattle.protocol.specs.Commands.{commands, rowOf, orderAs, orderOf}
 use Rattle.protocol.specs.Data.{acknowledge, packets, dataPackets}
 use Rattle.protocol.specs.Table.{apply, isBuffer, inRange, withParameter, statusOf, rule, publicOf, freeRule}
@@ -35,9 +36,9 @@ pub record Shows (o : Outcome) (lent : Lent) (e : Ended) : Type 0 where
   pub behind : drop (length (o .reply)) (e .told .room) ≡ drop (length (o .reply)) (lent .room)
   pub after : e .after ≡ o .after
 
--- whatever the reply room
+-- whatever the reply room, the scores and the thresholds
 abbrev pub Holds : Example → Type 0
-Holds x = (lent : Lent) → T (fitLent lent) → Shows (x .outcome) lent (callOf core (x .start) (x .run) lent)
+Holds x = (lent : Lent) → T (fitLent (capacity (x .start .guarded)) lent) → Shows (x .outcome) lent (callOf core (x .start) (x .run) lent)
 
 abbrev pub All : List Example → Type 0
 All [] = Unit {0}
@@ -115,13 +116,13 @@ table =
 
 -- ---- the statement
 
-holds : (x : Example) → T (legal core (x .start)) → stepOf (x .start) (x .run) ≡ x .outcome → Holds x
+holds : (x : Example) → T (legal core (x .start)) → ((χ : Chip) → stepOf χ (x .start) (x .run) ≡ x .outcome) → Holds x
 unfolding carried
 holds x t e lent f =
-    rw (call-legal core (x .start) (x .run) lent t f, e)
+    rw (call-legal core (x .start) (x .run) lent t f, e (lent .chip))
     record { refusal = refl; used = refl; long = refl; reply = take-lay (x .outcome .reply) (lent .room); behind = drop-lay (x .outcome .reply) (lent .room); after = refl }
 
 pub examples-hold : All table
 unfolding highestSize longest verdict within every countBelow two four wordAt total same lay follow joined sumOf packet isIdentifier limit accepts marksAt later startOf allBut findFrom findOf usedOf bit stored setBit clearBit clearBits setBits clearFrom capacity sizeOf keyed locked bufferOf emptied loadedFrom storedOn isOneOf without withMark withTransfer withPassword withAddress withTuning withLibrary withNotepad withBuffer withoutPages fresh zeroed commands rowOf orderAs orderOf acknowledge packets dataPackets apply isBuffer inRange withParameter statusOf rule publicOf freeRule hearAs hearAt hear silence says carryAs carry carryFree obey heed ended rested fits takeAs takeIn answer stepOf wiped switched core fitLibrary fitBuffers fitLengths fitPlain fitTransfer fitOrigin fitOrigins sound legal fresh10 keyed10 stored09 stored0 toA p1 p8 yes00 gives table
 examples-hold =
-    (holds _ tt refl, (holds _ tt refl, (holds _ tt refl, (holds _ tt refl, (holds _ tt refl, (holds _ tt refl, (holds _ tt refl, (holds _ tt refl, (holds _ tt refl, (holds _ tt refl, (holds _ tt refl, (holds _ tt refl, (holds _ tt refl, (holds _ tt refl, (holds _ tt refl, (holds _ tt refl, tt))))))))))))))))
+    (holds _ tt (λ χ. refl), (holds _ tt (λ χ. refl), (holds _ tt (λ χ. refl), (holds _ tt (λ χ. refl), (holds _ tt (λ χ. refl), (holds _ tt (λ χ. refl), (holds _ tt (λ χ. refl), (holds _ tt (λ χ. refl), (holds _ tt (λ χ. refl), (holds _ tt (λ χ. refl), (holds _ tt (λ χ. refl), (holds _ tt (λ χ. refl), (holds _ tt (λ χ. refl), (holds _ tt (λ χ. refl), (holds _ tt (λ χ. refl), (holds _ tt (λ χ. refl), tt))))))))))))))))

@@ -10,8 +10,9 @@ use lib.Dec.{T}
 use Rattle.protocol.specs.Bytes.{part}
 use Rattle.protocol.specs.Tests.{among}
 use Rattle.protocol.specs.Index.{bit, stored, clearFrom}
-use Rattle.protocol.specs.Reader.{Transfer, closed, opened, unfit, noOrigin, fromPage, Buffer, Guarded, Reader, capacity, bufferOf, emptied, loadedFrom, storedOn, withLibrary, withNotepad, withBuffer, withoutPages}
-use Rattle.protocol.specs.Table.{Effect, keep, fillPage, erase, eraseAll, fillBuffer, await, note, settle, rule, apply}
+use Rattle.protocol.specs.Reader.{Transfer, closed, opened, unfit, noOrigin, fromPage, Buffer, Guarded, Reader, capacity, bufferOf, emptied, loadedFrom, storedOn, withLibrary, withNotepad, withBuffer, withoutPages, withFound}
+use Rattle.protocol.specs.Search.{Chip}
+use Rattle.protocol.specs.Table.{Effect, keep, fillPage, erase, eraseAll, fillBuffer, await, note, remember, settle, rule, apply}
 use Rattle.protocol.specs.Step.{Heard, hear, Said, silence, says, carryAs, carryFree, ended, rested, laidIn, takeAs, answer, stepOf, wiped, switched}
 use Rattle.protocol.specs.Call.{Shape, fitLengths, fitPlain, fitTransfer, sound, legal, Ended, refused, carried, switchRefusal, switchAs, switchOf}
 use Rattle.protocol.specs.Dialogue.{Event, received, switch, on, finally}
@@ -49,7 +50,7 @@ module _ (σ : Shape) (ok : σ .most ≤ 8 * σ .indexed) where
   -- ---- an effect
 
   effect-faith : (e : Effect) (r : Reader) → Proper σ ok r e → Good σ ok r → Faith r → Faith (apply e r)
-  unfolding apply loadedFrom storedOn withLibrary withNotepad withBuffer withoutPages bufferOf capacity
+  unfolding apply loadedFrom storedOn withLibrary withNotepad withBuffer withoutPages withFound bufferOf capacity
   effect-faith keep r m k f = f
   effect-faith (fillPage w p) r m k f =
       let g : Guarded = r .guarded in
@@ -83,6 +84,7 @@ module _ (σ : Shape) (ok : σ .most ≤ 8 * σ .indexed) where
       each-buffer (Copy (r .guarded .templates)) w (loadedFrom p (page r p)) (r .guarded) (λ q e. ap (page r) (same-page p q (sym (loaded-origin p (page r p)) ∙ e))) (f (not w))
   effect-faith (await w) r m k f = each-buffer (Copy (r .guarded .templates)) w emptied (r .guarded) (copy-emptied _) (f (not w))
   effect-faith (note i b) r m k f = f
+  effect-faith (remember x) r m k f = f
   effect-faith (settle p) r m k f = f
 
   -- ---- an answer
@@ -117,12 +119,12 @@ module _ (σ : Shape) (ok : σ .most ≤ 8 * σ .indexed) where
       go true = put true
       go false = put (b .filled)
 
-  answer-faith : (r : Reader) → Good σ ok r → Faith r → (h : Heard) → LongHeard h → Faith (answer r h .after)
+  answer-faith : (χ : Chip) (r : Reader) → Good σ ok r → Faith r → (h : Heard) → LongHeard h → Faith (answer χ r h .after)
   unfolding silence says carryAs carryFree
-  answer-faith r k f h l =
+  answer-faith χ r k f h l =
       let q : Good σ ok (rested r) = good-rested σ ok r k in
       let z : rested r .plain .transfer ≡ closed = rested-closed σ ok r k in
-      answer-kinds (λ (a : Said). Faith (a .after)) r h
+      answer-kinds (λ (a : Said). Faith (a .after)) χ r h
       record {
         silent = f;
         refuses = λ n. rested-faith r f;
@@ -130,7 +132,7 @@ module _ (σ : Shape) (ok : σ .most ≤ 8 * σ .indexed) where
         takes =
             λ w last right got content e e′ i.
             taken-faith r k f w last got content (moving (r .plain) (r .guarded) w got (subst (λ (t : Transfer). T (fitTransfer (r .plain) (r .guarded) t)) e (k .transfer)));
-        does = λ c e u t. effect-faith (rule (rested r) c .effect) (rested r) (row-proper σ ok (rested r) z q u c (subst LongHeard e l) t) q (rested-faith r f);
+        does = λ c e u t. effect-faith (rule χ (rested r) c .effect) (rested r) (row-proper σ ok χ (rested r) z q u c (subst LongHeard e l) t) q (rested-faith r f);
       }
 
   -- ---- calls and line switches
@@ -139,7 +141,7 @@ module _ (σ : Shape) (ok : σ .most ≤ 8 * σ .indexed) where
   unfolding on refused carried stepOf switchOf switchAs switched wiped bufferOf
   stays-faith r l f (received s lent) =
       call-kinds σ r s lent (λ (e : Ended). Faith (e .after)) (λ n. f)
-      (λ t u. answer-faith r (good σ ok r l) f (hear (r .plain .address) s) (long-heard (r .plain .address) s))
+      (λ t u. answer-faith (lent .chip) r (good σ ok r l) f (hear (r .plain .address) s) (long-heard (r .plain .address) s))
   stays-faith r l f switch = go (switchRefusal (r .guarded))
     where
       go : (n : ℕ) → Faith (switchAs r n .after)

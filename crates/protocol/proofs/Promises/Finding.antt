@@ -17,7 +17,7 @@ use Rattle.protocol.specs.declared.Found.the-variants.{Noise, Unfinished
 use Rattle.protocol.specs.Bytes.{two, byteAt, wordAt, total, same}
 use Rattle.protocol.specs.Packet.{sumOf, accepts, addressAt, lengthAt, rightAt}
 use Rattle.protocol.specs.Finder.{marksAt, startOf, allBut, findFrom, findOf, usedOf}
-use Rattle.protocol.specs.Reader.{Reader}
+use Rattle.protocol.specs.Reader.{Reader, capacity}
 use Rattle.protocol.specs.Commands.{orderOf}
 use Rattle.protocol.specs.Step.{Heard, nothing, order, piece, hearAs, hearAt, hear, silence, answer, stepOf}
 use Rattle.protocol.specs.Call.{Shape, Lent, fitLent, legal, Ended, carried, callOf}
@@ -148,7 +148,7 @@ whole-at s p n e = go (findOf s) (usedOf (findOf s)) (finds s) e
 
 -- ---- a call
 
-module _ (σ : Shape) (r : Reader) (s : List ℕ) (lent : Lent) (l : T (legal σ r)) (u : T (fitLent lent)) where
+module _ (σ : Shape) (r : Reader) (s : List ℕ) (lent : Lent) (l : T (legal σ r)) (u : T (fitLent (capacity (r .guarded)) lent)) where
   -- it uses so many bytes, whatever a whole packet says
   pub uses : {f : Found} {n : ℕ} → Finds s f n → callOf σ r s lent .told .used ≡ n
   unfolding carried stepOf
@@ -160,7 +160,7 @@ module _ (σ : Shape) (r : Reader) (s : List ℕ) (lent : Lent) (l : T (legal σ
   silent-without {f} {n} h d =
       rw (call-legal σ r s lent l u, found h .1, found h .0) (go f d)
     where
-      go : (f : Found) → ((p m : ℕ) → f ≢ Whole p m) → carried record { used = n; reply = answer r (hearAt (r .plain .address) s f) .reply; after = answer r (hearAt (r .plain .address) s f) .after } (lent .room) ≡ silently r n lent
+      go : (f : Found) → ((p m : ℕ) → f ≢ Whole p m) → carried record { used = n; reply = answer (lent .chip) r (hearAt (r .plain .address) s f) .reply; after = answer (lent .chip) r (hearAt (r .plain .address) s f) .after } (lent .room) ≡ silently r n lent
       go (Noise k) d = ap (λ (x : List ℕ). record { told = record { refusal = 0; used = n; length = 0; room = x }; after = r }) (lay-nothing 0 (lent .room))
       go (Unfinished k) d = ap (λ (x : List ℕ). record { told = record { refusal = 0; used = n; length = 0; room = x }; after = r }) (lay-nothing 0 (lent .room))
       go (Unfit k) d = ap (λ (x : List ℕ). record { told = record { refusal = 0; used = n; length = 0; room = x }; after = r }) (lay-nothing 0 (lent .room))

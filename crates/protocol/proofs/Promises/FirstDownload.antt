@@ -13,13 +13,14 @@ use lib.Seq.{length-take-le, take-append-seam}
 use Rattle.protocol.specs.Numbers.{dataPacket, lastPacket, longest}
 use Rattle.protocol.specs.Bytes.{four, same}
 use Rattle.protocol.specs.Packet.{packet, accepts, limit, isIdentifier}
-use Rattle.protocol.specs.Reader.{Transfer, closed, opened, Plain, noOrigin, Buffer, Guarded, Reader, fresh, sizeOf, keyed, locked, withTransfer}
+use Rattle.protocol.specs.Reader.{Transfer, closed, opened, Plain, noOrigin, Buffer, Guarded, Reader, fresh, sizeOf, keyed, locked, withTransfer, capacity}
 use Rattle.protocol.specs.Commands.{downChar, setSysPara, barred, command}
 use Rattle.protocol.specs.Data.{acknowledge, packets}
 use Rattle.protocol.specs.Step.{order, piece, hearAs, hear, ended, rested}
 use Rattle.protocol.specs.Call.{Lent, fitLent, legal, replyOf, callOf, core, Ended}
 use Rattle.protocol.specs.Records.{freshOf}
 use Rattle.protocol.specs.Dialogue.{Event, received, on, finally, Exchange, exchanges}
+use Rattle.protocol.proofs.Laws.History.{call-capacity}
 use Rattle.protocol.proofs.Promises.Told.{Replies, Leaves, Gives, Numbered, number-is, blank, WithBuffer}
 use Rattle.protocol.proofs.Promises.Packets.{Data, accepts-means, data-accepted}
 use Rattle.protocol.proofs.Promises.LegalMeans.{core-holds}
@@ -81,9 +82,14 @@ again b c c′ m m′ r t x one two =
       templates = two .templates ∙ one .templates;
       index = two .index ∙ one .index;
       notepad = two .notepad ∙ one .notepad;
+      found = two .found ∙ one .found;
     }
 
-module _ (lent : ℕ → Lent) (f : (n : ℕ) → T (fitLent (lent n))) where
+-- a reader of m pages, and what is lent to it anew at each call
+module _ (m : ℕ) (lent : ℕ → Lent) (f : (n : ℕ) → T (fitLent m (lent n))) where
+  fits : (r : Reader) → capacity (r .guarded) ≡ m → (k : ℕ) → T (fitLent (capacity (r .guarded)) (lent k))
+  fits r e k = rw e (f k)
+
   -- what packets sent one to a call are answered
   abbrev pub answersTo : Reader → List (List ℕ) → List (List ℕ)
   answersTo r sent = map (λ (x : Exchange). x .reply) (exchanges core r (deliver lent sent))
@@ -112,7 +118,7 @@ module _ (lent : ℕ → Lent) (f : (n : ℕ) → T (fitLent (lent n))) where
   silently (p ∷ ps) t (e, q) = ap₂ (λ (x : List ℕ) (xs : List (List ℕ)). x ∷ xs) e (silently ps (callOf core t p (lent (length ps)) .after) q)
 
   -- a whole download, from a reader of the address A that is not locked and has no transfer open: k packets of the size in force, n
-  module _ (r : Reader) (l : Legal core core-holds r) (home : r .plain .address ≡ A) (unlocked : locked (r .plain) ≡ false) (still : r .plain .transfer ≡ closed)
+  module _ (r : Reader) (many-pages : capacity (r .guarded) ≡ m) (l : Legal core core-holds r) (home : r .plain .address ≡ A) (unlocked : locked (r .plain) ≡ false) (still : r .plain .transfer ≡ closed)
       (b : ℕ) (which : Numbered b) where
     asks : hear (r .plain .address) (downPacket b) ≡ order (command (barred (downChar b)))
     unfolding accepts limit isIdentifier longest
@@ -120,7 +126,7 @@ module _ (lent : ℕ → Lent) (f : (n : ℕ) → T (fitLent (lent n))) where
 
     opens : (k : ℕ) → Leaves (acknowledge A 0x00 []) (WithBuffer b blank (opened (eqb b 2) 0) r) (downPacket b) (lent k) (callOf core r (downPacket b) (lent k))
     opens k =
-        let o = down-awaits core core-holds r l unlocked (downPacket b) (lent k) (f k) b asks which in
+        let o = down-awaits core core-holds r l unlocked (downPacket b) (lent k) (fits r many-pages k) b asks which in
         let own : rested r ≡ r = none-ends r still in
         let to : acknowledge (rested r .plain .address) 0x00 [] ≡ acknowledge A 0x00 [] = ap (λ (x : Reader). acknowledge (x .plain .address) 0x00 []) own ∙ ap (λ (x : List ℕ). acknowledge x 0x00 []) home in
         record {
@@ -139,10 +145,10 @@ module _ (lent : ℕ → Lent) (f : (n : ℕ) → T (fitLent (lent n))) where
         let o = opens (length ps) in
         let t : Reader = callOf core r (downPacket b) (lent (length ps)) .after in
         let settings = o .after .settings in
-        let d = downloaded core core-holds lent f t (opened-legal (length ps)) (eqb b 2) (ap (λ (x : Plain). x .transfer) settings) s long in
+        let d = downloaded core core-holds m lent f t (call-capacity core core-holds r (downPacket b) (lent (length ps)) ∙ many-pages) (opened-legal (length ps)) (eqb b 2) (ap (λ (x : Plain). x .transfer) settings) s long in
         let address : t .plain .address ≡ A = ap (λ (x : Plain). x .address) settings ∙ home in
         let size : t .plain .size ≡ r .plain .size = ap (λ (x : Plain). x .size) settings in
-        let sent : template core core-holds lent f t s ≡ deliver lent ps = rw (address, size, many, each) refl in
+        let sent : template core core-holds m lent f t s ≡ deliver lent ps = rw (address, size, many, each) refl in
         and-then r t (downPacket b) (acknowledge A 0x00 []) ps (replicate k []) (WithBuffer b (full s) closed r) record { told = o .told; after = refl }
         record {
           answered =
@@ -150,55 +156,56 @@ module _ (lent : ℕ → Lent) (f : (n : ℕ) → T (fitLent (lent n))) where
           leaves =
               again b _ _ _ _ r t _ (o .after)
               (subst (λ (es : List Event). WithBuffer b (full s) closed t (finally core t es)) sent
-              (subst (λ (j : ℕ). WithBuffer j (full s) closed t (finally core t (template core core-holds lent f t s))) (number-is b which) (d .ends)));
+              (subst (λ (j : ℕ). WithBuffer j (full s) closed t (finally core t (template core core-holds m lent f t s))) (number-is b which) (d .ends)));
         }
 
   -- data packets that no transfer waits for
-  ignored : (n : ℕ) → Sendable n → (k : ℕ) (s : List ℕ) → length s ≡ k * n → (r : Reader) → Legal core core-holds r → r .plain .address ≡ A → r .plain .transfer ≡ closed
+  ignored : (n : ℕ) → Sendable n → (k : ℕ) (s : List ℕ) → length s ≡ k * n → (r : Reader) → capacity (r .guarded) ≡ m → Legal core core-holds r → r .plain .address ≡ A → r .plain .transfer ≡ closed
       → Talks r (packets A k n s) (replicate k []) (λ (x : Reader). x ≡ r)
   unfolding packets deliver exchanges finally
-  ignored n ok zero s long r l home still = record { answered = refl; leaves = refl }
-  ignored n ok (suc k) s long r l home still =
+  ignored n ok zero s long r many l home still = record { answered = refl; leaves = refl }
+  ignored n ok (suc k) s long r many l home still =
       let one : length (take n s) ≡ n = length-take-le n s (omega (arith, suc-mul k n)) in
       let ps : List (List ℕ) = packets A k n (drop n s) in
       let p : List ℕ = packet A (cond (eqb k 0) lastPacket dataPacket) (take n s) in
       and-then r r p [] ps (replicate k []) (λ (x : Reader). x ≡ r)
-      (piece-ignored core r p (lent (length ps)) (l .legal) (f (length ps)) (eqb k 0) true (take n s) (heard-data n ok (r .plain .address) home (eqb k 0) (take n s) one) still)
-      (ignored n ok k (drop n s) (length-drop n s ∙ omega (arith, suc-mul k n)) r l home still)
+      (piece-ignored core r p (lent (length ps)) (l .legal) (fits r many (length ps)) (eqb k 0) true (take n s) (heard-data n ok (r .plain .address) home (eqb k 0) (take n s) one) still)
+      (ignored n ok k (drop n s) (length-drop n s ∙ omega (arith, suc-mul k n)) r many l home still)
 
-  module _ (t i n c d : List ℕ) (l : Legal core core-holds (freshOf t i n c d)) (b : ℕ) (which : Numbered b) (s : List ℕ) (long : length s ≡ 512) where
+  module _ (t i n c d : List ℕ) (pages : length t / 512 ≡ m) (l : Legal core core-holds (freshOf t i n c d)) (b : ℕ) (which : Numbered b) (s : List ℕ) (long : length s ≡ 512) where
     abbrev r : Reader
     r = freshOf t i n c d
 
     -- four data packets of 128 bytes
     pub first-download : Talks r (downPacket b ∷ packets A 4 128 s) (acknowledge A 0x00 [] ∷ replicate 4 []) (WithBuffer b (full s) closed r)
-    unfolding fresh four sizeOf locked keyed same
-    first-download = served r l refl refl refl b which s long 4 128 refl refl
+    unfolding fresh four sizeOf locked keyed same capacity
+    first-download = served r pages l refl refl refl b which s long 4 128 refl refl
 
     -- of another size, without asking: the first is answered 0Eh and ends the transfer, the others find none
     pub unasked : (z : ℕ) → Sendable z → z ≢ 128 → (k : ℕ) → suc k * z ≡ 512
         → Talks r (downPacket b ∷ packets A (suc k) z s) (acknowledge A 0x00 [] ∷ acknowledge A 0x0e [] ∷ replicate k []) (WithBuffer b blank closed r)
-    unfolding packets fresh four sizeOf locked keyed same on
+    unfolding packets fresh four sizeOf locked keyed same on capacity
     unasked z ok other k many =
         let last : Bool = eqb k 0 in
         let first : List ℕ = packet A (cond last lastPacket dataPacket) (take z s) in
         let ps : List (List ℕ) = packets A k z (drop z s) in
         let one : length (take z s) ≡ z = length-take-le z s (omega (arith, suc-mul k z)) in
-        let o = opens r l refl refl refl b which (length (first ∷ ps)) in
+        let o = opens r pages l refl refl refl b which (length (first ∷ ps)) in
         let x : Reader = callOf core r (downPacket b) (lent (length (first ∷ ps))) .after in
-        let legal : Legal core core-holds x = opened-legal r l refl refl refl b which (length (first ∷ ps)) in
+        let same : capacity (x .guarded) ≡ m = call-capacity core core-holds r (downPacket b) (lent (length (first ∷ ps))) ∙ pages in
+        let legal : Legal core core-holds x = opened-legal r pages l refl refl refl b which (length (first ∷ ps)) in
         let settings = o .after .settings in
         let address : x .plain .address ≡ A = ap (λ (p : Plain). p .address) settings in
         let size : sizeOf (x .plain .size) ≡ 128 = ap (λ (p : Plain). sizeOf (p .size)) settings in
         let misfit : GoesIn (x .plain) 0 last true (take z s) → ⊥ = λ g. other (sym one ∙ g .long ∙ size) in
         let q =
-        piece-fails core x first (lent (length ps)) (legal .legal) (f (length ps)) last true (take z s) (heard-data z ok (x .plain .address) address last (take z s) one)
+        piece-fails core x first (lent (length ps)) (legal .legal) (fits x same (length ps)) last true (take z s) (heard-data z ok (x .plain .address) address last (take z s) one)
         (eqb b 2) 0 (ap (λ (p : Plain). p .transfer) settings) misfit
         in
         let y : Reader = callOf core x first (lent (length ps)) .after in
         let stopped : WithBuffer b blank closed x y = subst (λ (j : ℕ). WithBuffer j blank closed x y) (number-is b which) (q .after) in
         let silent =
-        ignored z ok k (drop z s) (length-drop z s ∙ omega (arith, suc-mul k z)) y (stays-legal core core-holds x legal (received first (lent (length ps))))
+        ignored z ok k (drop z s) (length-drop z s ∙ omega (arith, suc-mul k z)) y (call-capacity core core-holds x first (lent (length ps)) ∙ same) (stays-legal core core-holds x legal (received first (lent (length ps))))
         (ap (λ (p : Plain). p .address) (stopped .settings) ∙ address) (ap (λ (p : Plain). p .transfer) (stopped .settings))
         in
         and-then r x (downPacket b) (acknowledge A 0x00 []) (first ∷ ps) (acknowledge A 0x0e [] ∷ replicate k []) (WithBuffer b blank closed r) record { told = o .told; after = refl }
@@ -209,14 +216,14 @@ module _ (lent : ℕ → Lent) (f : (n : ℕ) → T (fitLent (lent n))) where
     -- and with a size code set first: k packets of its z bytes
     pub asked : (v k z : ℕ) → v ≤ 3 → 512 / sizeOf v ≡ k → sizeOf v ≡ z
         → Talks r (sizePacket v ∷ downPacket b ∷ packets A k z s) (acknowledge A 0x00 [] ∷ acknowledge A 0x00 [] ∷ replicate k []) (WithBuffer b (full s) closed (withCode v (r .guarded)))
-    unfolding fresh four locked keyed same rested ended accepts limit isIdentifier longest on
+    unfolding fresh four locked keyed same rested ended accepts limit isIdentifier longest on capacity
     asked v k z few many each =
         let ps : List (List ℕ) = downPacket b ∷ packets A k z s in
         let given : Lent = lent (length ps) in
         let asks : hear A (sizePacket v) ≡ order (command (barred (setSysPara 6 v))) = asked-by A (0x0e ∷ 6 ∷ v ∷ []) (barred (setSysPara 6 v)) refl tt (parameters .set-read 6 v) in
-        let o = sets-size core r (sizePacket v) given (l .legal) (f (length ps)) refl v asks few in
+        let o = sets-size core r (sizePacket v) given (l .legal) (fits r pages (length ps)) refl v asks few in
         let legal = subst (Legal core core-holds) (o .after) (stays-legal core core-holds r l (received (sizePacket v) given)) in
-        and-then r _ (sizePacket v) (acknowledge A 0x00 []) ps _ _ o (served _ legal refl refl refl b which s long k z many each)
+        and-then r _ (sizePacket v) (acknowledge A 0x00 []) ps _ _ o (served _ pages legal refl refl refl b which s long k z many each)
 
     -- eight packets of 64: without asking, and with code 1 set first
     pub unasked-64 : Talks r (downPacket b ∷ packets A 8 64 s) (acknowledge A 0x00 [] ∷ acknowledge A 0x0e [] ∷ replicate 7 []) (WithBuffer b blank closed r)

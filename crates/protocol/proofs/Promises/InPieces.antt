@@ -15,17 +15,21 @@ use Rattle.protocol.specs.Numbers.{dataPacket, lastPacket, highestSize, 
 use Rattle.protocol.specs.Bytes.{lay, joined}
 use Rattle.protocol.specs.Packet.{packet, lengthOf, accepts, limit, isIdentifier}
 use Rattle.protocol.specs.Finder.{findOf, usedOf}
-use Rattle.protocol.specs.Reader.{closed, Reader, sizeOf}
+use Rattle.protocol.specs.Reader.{closed, Reader, sizeOf, capacity}
+use Rattle.protocol.specs.Search.{Chip}
 use Rattle.protocol.specs.Data.{acknowledge, packets}
 use Rattle.protocol.specs.Step.{stepOf}
-use Rattle.protocol.specs.Call.{Lent, fitRoom, fitLent, replyOf, callOf, core}
+use Rattle.protocol.specs.Call.{Lent, fitRoom, fitLent, replyOf, callOf, core, fitChip}
 use Rattle.protocol.specs.Records.{freshOf}
 use Rattle.protocol.specs.Dialogue.{received, on, finally, exchanges}
 use Rattle.protocol.specs.Receiver.{bytesIn, holding, line}
-use Rattle.protocol.specs.Caller.{Try, Ran, replied, offers, served, Rests, resting, atRest, drain, drained}
+use Rattle.protocol.specs.Caller.{Try, Ran, replied, offers, served, Rests, resting, atRest, drain, drained, lending}
+use Rattle.protocol.proofs.Laws.Logic.{and-l, and-i}
 use Rattle.protocol.proofs.Laws.Finder.{length-packet, accepts-most}
 use Rattle.protocol.proofs.Laws.Sizes.{Size, sizes}
 use Rattle.protocol.proofs.Laws.Drain.{drained-more}
+use Rattle.protocol.proofs.Laws.History.{call-capacity}
+use Rattle.protocol.proofs.Laws.Holding.{accepted}
 use Rattle.protocol.proofs.Promises.Told.{Numbered, blank, WithBuffer}
 use Rattle.protocol.proofs.Promises.LegalMeans.{core-holds}
 use Rattle.protocol.proofs.Promises.StaysLegal.{Legal, stays-legal}
@@ -33,6 +37,7 @@ use Rattle.protocol.proofs.Promises.ReadBack.{packet-reads}
 use Rattle.protocol.proofs.Promises.Download.{deliver}
 use Rattle.protocol.proofs.Promises.Cuts.{rests-drained, drains-by-call}
 use Rattle.protocol.proofs.Promises.Caller.{spoken, replied-is}
+use Rattle.protocol.proofs.Promises.ComesToRest.{Ready, offers-ready}
 use Rattle.protocol.proofs.Promises.FirstDownload.{A, downPacket, sizePacket, full, withCode, Sendable, data-taken, answersTo, Talks, first-download, unasked, asked}
 
 -- ---- one to a call, or all behind one another
@@ -57,43 +62,66 @@ pub record Comes (d : Ran) (answers : List (List ℕ)) (Left : Reader → Type 0
   pub reader : Left (d .after .reader)
   pub held : d .after .receiver ≡ vacant
 
--- the runs behind one another, offered to an empty receiver: however they are cut, as long as no call is refused, and once the caller is at rest
+-- the runs behind one another, offered to an empty receiver: however they are cut, with the same scores and thresholds at every call, as long as no call is
+-- refused, and once the caller is at rest
 abbrev pub HoweverCut : Reader → List (List ℕ) → List (List ℕ) → (Reader → Type 0) → Type 0
-HoweverCut r sent answers Left = (ts : List Try) (last : Lent) → T (served core ts (line r vacant) (joined sent))
-    → Rests core (offers core ts (line r vacant) (joined sent)) last → Comes (resting core (offers core ts (line r vacant) (joined sent)) last) answers Left
+HoweverCut r sent answers Left = (χ : Chip) (ts : List Try) (room : List ℕ) → T (served core χ ts (line r vacant) (joined sent))
+    → Rests core (offers core χ ts (line r vacant) (joined sent)) (lending χ room) → Comes (resting core (offers core χ ts (line r vacant) (joined sent)) (lending χ room)) answers Left
 
-module _ (lent : ℕ → Lent) (f : (n : ℕ) → T (fitLent (lent n))) where
+-- a reply room for each call
+abbrev room : List ℕ
+room = replicate 700 0
+
+module _ (χ : Chip) (m : ℕ) (fit : T (fitChip m χ)) where
+  abbrev pub lent : ℕ → Lent
+  lent k = lending χ room
+
+  pub fits : (k : ℕ) → T (fitLent m (lent k))
+  unfolding fitRoom
+  fits k = and-i (fitChip m χ) true fit tt
+
   -- document 01's call again and again on all of them
-  drained-all : (sent : List (List ℕ)) (r : Reader) → Legal core core-holds r → UsedWhole sent
-      → drained r (joined sent)
+  drained-all : (sent : List (List ℕ)) (r : Reader) → capacity (r .guarded) ≡ m → Legal core core-holds r → UsedWhole sent
+      → drained χ r (joined sent)
       ≡ record {
-        replies = spokenAll (answersTo lent f r sent);
+        replies = spokenAll (answersTo m lent fits r sent);
         after = line (finally core r (deliver lent sent)) vacant;
         left = [];
       }
   unfolding drained drain atRest holding lay holds longest joined exchanges deliver finally on
-  drained-all [] r l w = refl
-  drained-all (p ∷ ps) r l (w, ws) =
+  drained-all [] r e l w = refl
+  drained-all (p ∷ ps) r e l (w, ws) =
       let given : Lent = lent (length ps) in
-      let by = drains-by-call core r p given (l .legal) (f (length ps)) in
+      let by = drains-by-call core r p given (l .legal) (rw e (fits (length ps))) in
       let gone : drop (usedOf (findOf p)) p ++ joined ps ≡ joined ps = ap (λ (s : List ℕ). s ++ joined ps) (drop-of-length-le p {i = usedOf (findOf p)} (omega arith)) in
-      let rest = drained-all ps (callOf core r p given .after) (stays-legal core core-holds r l (received p given)) ws in
-      drained-more r p (joined ps)
-      ∙ ap (λ (s : List ℕ). replied (stepOf r p .reply) (drained (stepOf r p .after) s)) gone
-      ∙ ap₂ (λ (a : List ℕ) (x : Reader). replied a (drained x (joined ps))) (sym (by .1 .0)) (sym (by .1 .1))
+      let rest = drained-all ps (callOf core r p given .after) (call-capacity core core-holds r p given ∙ e) (stays-legal core core-holds r l (received p given)) ws in
+      drained-more χ r p (joined ps)
+      ∙ ap (λ (s : List ℕ). replied (stepOf χ r p .reply) (drained χ (stepOf χ r p .after) s)) gone
+      ∙ ap₂ (λ (a : List ℕ) (x : Reader). replied a (drained χ x (joined ps))) (sym (by .1 .0)) (sym (by .1 .1))
       ∙ ap (replied (replyOf (callOf core r p given .told))) rest
       ∙ replied-is (replyOf (callOf core r p given .told)) _
 
-  pub in-pieces : (r : Reader) → Legal core core-holds r → (sent answers : List (List ℕ)) (Left : Reader → Type 0) → Talks lent f r sent answers Left → UsedWhole sent
-      → HoweverCut r sent (spokenAll answers) Left
-  unfolding bytesIn
-  in-pieces r l sent answers Left t w ts last v rests =
-      let all = rests-drained core ts (line r vacant) (joined sent) last v rests ∙ drained-all sent r l w in
-      record {
-        replies = ap (λ (d : Ran). d .replies) all ∙ ap spokenAll (t .answered);
-        reader = subst Left (sym (ap (λ (d : Ran). d .after .reader) all)) (t .leaves);
-        held = ap (λ (d : Ran). d .after .receiver) all;
-      }
+-- what holds of the runs, one to a call, whatever scores and thresholds of the right lengths
+abbrev TalksBy : Reader → List (List ℕ) → List (List ℕ) → (Reader → Type 0) → Type 0
+TalksBy r sent answers Left =
+    (χ : Chip) (fit : T (fitChip (capacity (r .guarded)) χ)) → Talks (capacity (r .guarded)) (lent χ (capacity (r .guarded)) fit) (fits χ (capacity (r .guarded)) fit) r sent answers Left
+
+pub in-pieces : (r : Reader) → Legal core core-holds r → (sent answers : List (List ℕ)) (Left : Reader → Type 0) → TalksBy r sent answers Left → UsedWhole sent
+    → HoweverCut r sent (spokenAll answers) Left
+unfolding bytesIn capacity holds longest
+in-pieces r l sent answers Left talks w χ ts room v rests =
+    let c : ℕ = capacity (r .guarded) in
+    let d : Ran = offers core χ ts (line r vacant) (joined sent) in
+    let ready : Ready core core-holds c (d .after) = offers-ready core core-holds χ c ts (line r vacant) (joined sent) record { pages = refl; legal = l; cells = refl; few = omega arith } in
+    let last : T (fitLent (capacity (d .after .reader .guarded)) (lending χ room)) = accepted core (d .after) [] (lending χ room) (rests .accepted) .roomy in
+    let fit : T (fitChip c χ) = and-l (fitChip c χ) (fitRoom room) (subst (λ (n : ℕ). T (fitLent n (lending χ room))) (ready .pages) last) in
+    let t = talks χ fit in
+    let all = rests-drained core χ ts (line r vacant) (joined sent) (lending χ room) v rests ∙ drained-all χ c fit sent r refl l w in
+    record {
+      replies = ap (λ (d : Ran). d .replies) all ∙ ap spokenAll (t .answered);
+      reader = subst Left (sym (ap (λ (d : Ran). d .after .reader) all)) (t .leaves);
+      held = ap (λ (d : Ran). d .after .receiver) all;
+    }
 
 -- ---- a host's packets are used whole
 
@@ -122,10 +150,6 @@ size-whole z k a many = ap (λ (j : ℕ). j * z) (sym many ∙ a .count) ∙ a .
 
 -- ---- the first download, however it is cut
 
--- a reply room for each call
-abbrev room : ℕ → Lent
-room k = record { room = replicate 700 0 }
-
 silent-all : (k : ℕ) → spokenAll (replicate k []) ≡ []
 silent-all zero = refl
 silent-all (suc k) = silent-all k
@@ -136,29 +160,29 @@ module _ (t i n c d : List ℕ) (l : Legal core core-holds (freshOf t i n c d)) 
 
   -- four data packets of 128 bytes
   pub first-download-cut : HoweverCut r (downPacket b ∷ packets A 4 128 s) (acknowledge A 0x00 [] ∷ []) (WithBuffer b (full s) closed r)
-  unfolding fitRoom accepts limit isIdentifier longest acknowledge packet
+  unfolding accepts limit isIdentifier longest acknowledge packet capacity
   first-download-cut =
-      in-pieces room (λ k. tt) r l _ _ _ (first-download room (λ k. tt) t i n c d l b which s long)
+      in-pieces r l _ _ _ (λ χ fit. first-download (capacity (r .guarded)) (lent χ (capacity (r .guarded)) fit) (fits χ (capacity (r .guarded)) fit) t i n c d refl l b which s long)
       (packet-whole 0x01 (0x09 ∷ b ∷ []) tt, packets-whole 4 128 s (lit≤ tt, lit≤ tt) (long ∙ omega arith))
 
   -- of another size, without asking
   pub unasked-cut : (z : ℕ) → Sendable z → z ≢ 128 → (k : ℕ) → suc k * z ≡ 512
       → HoweverCut r (downPacket b ∷ packets A (suc k) z s) (acknowledge A 0x00 [] ∷ acknowledge A 0x0e [] ∷ []) (WithBuffer b blank closed r)
-  unfolding fitRoom accepts limit isIdentifier longest acknowledge packet
+  unfolding accepts limit isIdentifier longest acknowledge packet capacity
   unasked-cut z ok other k many =
       subst (λ (rest : List (List ℕ)). HoweverCut r (downPacket b ∷ packets A (suc k) z s) (acknowledge A 0x00 [] ∷ acknowledge A 0x0e [] ∷ rest) (WithBuffer b blank closed r)) (silent-all k)
-      (in-pieces room (λ j. tt) r l _ _ _ (unasked room (λ j. tt) t i n c d l b which s long z ok other k many)
+      (in-pieces r l _ _ _ (λ χ fit. unasked (capacity (r .guarded)) (lent χ (capacity (r .guarded)) fit) (fits χ (capacity (r .guarded)) fit) t i n c d refl l b which s long z ok other k many)
       (packet-whole 0x01 (0x09 ∷ b ∷ []) tt, packets-whole (suc k) z s ok (long ∙ sym many)))
 
   -- and with a size code set first
   pub asked-cut : (v k z : ℕ) → v ≤ 3 → 512 / sizeOf v ≡ k → sizeOf v ≡ z
       → HoweverCut r (sizePacket v ∷ downPacket b ∷ packets A k z s) (acknowledge A 0x00 [] ∷ acknowledge A 0x00 [] ∷ []) (WithBuffer b (full s) closed (withCode v (r .guarded)))
-  unfolding fitRoom accepts limit isIdentifier longest acknowledge packet highestSize
+  unfolding accepts limit isIdentifier longest acknowledge packet capacity highestSize
   asked-cut v k z few number each =
       let size : Size z = subst Size each (sizes v few) in
       subst (λ (rest : List (List ℕ)). HoweverCut r (sizePacket v ∷ downPacket b ∷ packets A k z s) (acknowledge A 0x00 [] ∷ acknowledge A 0x00 [] ∷ rest) (WithBuffer b (full s) closed (withCode v (r .guarded))))
       (silent-all k)
-      (in-pieces room (λ j. tt) r l _ _ _ (asked room (λ j. tt) t i n c d l b which s long v k z few number each)
+      (in-pieces r l _ _ _ (λ χ fit. asked (capacity (r .guarded)) (lent χ (capacity (r .guarded)) fit) (fits χ (capacity (r .guarded)) fit) t i n c d refl l b which s long v k z few number each)
       (packet-whole 0x01 (0x0e ∷ 6 ∷ v ∷ []) tt, (packet-whole 0x01 (0x09 ∷ b ∷ []) tt, packets-whole k z s (size-sendable z size) (long ∙ sym (size-whole z k size (rw each at number))))))
 
   -- eight packets of 64: without asking, and with code 1 set first

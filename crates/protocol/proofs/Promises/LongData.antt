@@ -4,7 +4,7 @@ use mathlib.Core.Bool.{Bool, true, false}
 use mathlib.Core.Path.{_≡_, refl, sym, ap, _∙_, subst}
 use mathlib.Core.Logic.{inl, inr, _≢_}
 use mathlib.Core.List.{List, [], _∷_, _++_, append-nil}
-use Prim.Native.Nat.{ℕ, zero, suc, _+_, _≤_, _<_}
+use Prim.Native.Nat.{ℕ, zero, suc, _+_, _≤_, _<_, _/_}
 use native.Mathlib.Omega.{arith}
 use lib.Dec.{T, lit≤}
 use lib.ListN.{length, getD, take, drop, length-drop, length-append}
@@ -12,7 +12,7 @@ use lib.Seq.{take-all, length-take-le}
 use Rattle.protocol.specs.Numbers.{longest}
 use Rattle.protocol.specs.Bytes.{four, same, joined}
 use Rattle.protocol.specs.Packet.{packet, accepts, limit, isIdentifier, rightAt}
-use Rattle.protocol.specs.Reader.{closed, opened, Plain, Guarded, Reader, sizeOf, keyed, locked}
+use Rattle.protocol.specs.Reader.{closed, opened, Plain, Guarded, Reader, sizeOf, keyed, locked, capacity}
 use Rattle.protocol.specs.Commands.{upChar, barred, command}
 use Rattle.protocol.specs.Data.{acknowledge, packets, dataPackets}
 use Rattle.protocol.specs.Step.{order, piece, hear, rested}
@@ -33,7 +33,7 @@ use Rattle.protocol.proofs.Promises.InPieces.{HoweverCut, unasked-cut, 
 -- ---- lengths above 256, whatever the size code
 
 -- the run s has a head at p, the first place with EF followed by 01
-module _ (σ : Shape) (r : Reader) (s : List ℕ) (lent : Lent) (l : T (legal σ r)) (u : T (fitLent lent)) (p : ℕ) (first : First s p) (head : p + 9 ≤ length s) where
+module _ (σ : Shape) (r : Reader) (s : List ℕ) (lent : Lent) (l : T (legal σ r)) (u : T (fitLent (capacity (r .guarded)) lent)) (p : ℕ) (first : First s p) (head : p + 9 ≤ length s) where
   -- a command or an acknowledge of length 257 or more starts no packet: p + 2 used, and nothing changes
   pub other-passed : Other (getD s (p + 6) 0) → 256 < lengthField s p → callOf σ r s lent ≡ silently r (p + 2) lent
   other-passed i long = silent-without σ r s lent l u (unfit first head (λ a. let k = a .kept i in omega arith)) (λ q m e. let z : _≡_ {A = ℕ} 0 1 = cc in omega arith)
@@ -51,7 +51,7 @@ module _ (σ : Shape) (r : Reader) (s : List ℕ) (lent : Lent) (l : T (legal σ
 
 -- ---- data packets for us of lengths 257 and 258, whatever their sum
 
-module _ (r : Reader) (s : List ℕ) (lent : Lent) (l : T (legal core r)) (u : T (fitLent lent)) (p n : ℕ) (w : WholeAt s p n)
+module _ (r : Reader) (s : List ℕ) (lent : Lent) (l : T (legal core r)) (u : T (fitLent (capacity (r .guarded)) lent)) (p n : ℕ) (w : WholeAt s p n)
     (ours : take 4 (drop (p + 2) s) ≡ r .plain .address) (i : Data (getD s (p + 6) 0)) where
   ends : Data (getD s (p + 6) 0) → Bool
   ends (inl e) = false
@@ -93,7 +93,7 @@ module _ (r : Reader) (s : List ℕ) (lent : Lent) (l : T (legal core r)) (u : T
 
 -- ---- and at code 3 one of length 258 goes in, with its sum right: first with identifier 2, and then with 8
 
-module _ (r : Reader) (s : List ℕ) (lent : Lent) (l : T (legal core r)) (u : T (fitLent lent)) (code : r .plain .size ≡ 3) (p : ℕ) (w : WholeAt s p 258)
+module _ (r : Reader) (s : List ℕ) (lent : Lent) (l : T (legal core r)) (u : T (fitLent (capacity (r .guarded)) lent)) (code : r .plain .size ≡ 3) (p : ℕ) (w : WholeAt s p 258)
     (ours : take 4 (drop (p + 2) s) ≡ r .plain .address) (right : rightAt s p 258 ≡ true) (b : Bool) where
   size : sizeOf (r .plain .size) ≡ 256
   unfolding sizeOf
@@ -112,20 +112,20 @@ module _ (r : Reader) (s : List ℕ) (lent : Lent) (l : T (legal core r)) (u : T
 
 -- ---- "Size code 3 means 256": a template in two data packets of 256 bytes
 
-module _ (lent : ℕ → Lent) (f : (n : ℕ) → T (fitLent (lent n))) (t i n c d : List ℕ) (l : Legal core core-holds (freshOf t i n c d)) (b : ℕ) (which : Numbered b)
+module _ (m : ℕ) (lent : ℕ → Lent) (f : (n : ℕ) → T (fitLent m (lent n))) (t i n c d : List ℕ) (pages : length t / 512 ≡ m) (l : Legal core core-holds (freshOf t i n c d)) (b : ℕ) (which : Numbered b)
     (s : List ℕ) (long : length s ≡ 512) where
   abbrev r : Reader
   r = freshOf t i n c d
 
   -- a new vault, and a host that sets code 3 first: served
-  pub asked-256 : Talks lent f r (sizePacket 3 ∷ downPacket b ∷ packets A 2 256 s) (acknowledge A 0x00 [] ∷ acknowledge A 0x00 [] ∷ [] ∷ [] ∷ [])
+  pub asked-256 : Talks m lent f r (sizePacket 3 ∷ downPacket b ∷ packets A 2 256 s) (acknowledge A 0x00 [] ∷ acknowledge A 0x00 [] ∷ [] ∷ [] ∷ [])
       (WithBuffer b (full s) closed (withCode 3 (r .guarded)))
   unfolding sizeOf
-  asked-256 = asked lent f t i n c d l b which s long 3 2 256 (lit≤ tt) refl refl
+  asked-256 = asked m lent f t i n c d pages l b which s long 3 2 256 (lit≤ tt) refl refl
 
   -- and one that does not: no longer ignored, but told 0Eh
-  pub unasked-256 : Talks lent f r (downPacket b ∷ packets A 2 256 s) (acknowledge A 0x00 [] ∷ acknowledge A 0x0e [] ∷ [] ∷ []) (WithBuffer b blank closed r)
-  unasked-256 = unasked lent f t i n c d l b which s long 256 (lit≤ tt, lit≤ tt) (λ e. omega arith) 1 refl
+  pub unasked-256 : Talks m lent f r (downPacket b ∷ packets A 2 256 s) (acknowledge A 0x00 [] ∷ acknowledge A 0x0e [] ∷ [] ∷ []) (WithBuffer b blank closed r)
+  unasked-256 = unasked m lent f t i n c d pages l b which s long 256 (lit≤ tt, lit≤ tt) (λ e. omega arith) 1 refl
 
   -- both behind a receiver, however they are cut
   pub asked-256-cut : HoweverCut r (sizePacket 3 ∷ downPacket b ∷ packets A 2 256 s) (acknowledge A 0x00 [] ∷ acknowledge A 0x00 [] ∷ [])
@@ -138,7 +138,7 @@ module _ (lent : ℕ → Lent) (f : (n : ℕ) → T (fitLent (lent n))) (t i n c
 
 -- and out again: UpChar to the reader that the download left is answered 00h and the template in two data packets of 256 bytes, 546 bytes in all
 module _ (g : Guarded) (b : ℕ) (which : Numbered b) (s : List ℕ) (long : length s ≡ 512) (x : Reader) (l : Legal core core-holds x)
-    (left : WithBuffer b (full s) closed (withCode 3 g) x) (lent : Lent) (f : T (fitLent lent)) where
+    (left : WithBuffer b (full s) closed (withCode 3 g) x) (lent : Lent) (f : T (fitLent (capacity (x .guarded)) lent)) where
   abbrev sent : List ℕ
   sent = acknowledge A 0x00 [] ++ (packet A 0x02 (take 256 s) ++ packet A 0x08 (drop 256 s))
 

@@ -10,7 +10,7 @@ use lib.Dec.{T, lit≤}
 use lib.ListN.{length, getD}
 use Rattle.protocol.specs.Packet.{buildOf}
 use Rattle.protocol.specs.Finder.{findOf, usedOf}
-use Rattle.protocol.specs.Reader.{Reader, locked}
+use Rattle.protocol.specs.Reader.{Reader, locked, capacity}
 use Rattle.protocol.specs.Commands.{setSysPara, barred, command}
 use Rattle.protocol.specs.Step.{order, hear, rested}
 use Rattle.protocol.specs.Call.{Lent, fitLent, legal, core, callOf}
@@ -20,7 +20,7 @@ use Rattle.protocol.proofs.Promises.Packets.{Data, Other, Accepted, dat
 use Rattle.protocol.proofs.Promises.Finding.{First, lengthField, unfinished, found}
 use Rattle.protocol.proofs.Promises.ZeroUsed.{UnfinishedPacket}
 use Rattle.protocol.proofs.Promises.LegalMeans.{Lengths, Settled}
-use Rattle.protocol.proofs.Promises.Refused.{Ends, call-refusals, Builds, build-refusals}
+use Rattle.protocol.proofs.Promises.Refused.{ChipLengths, Ends, call-refusals, Builds, build-refusals}
 use Rattle.protocol.proofs.Promises.Rows.{rows}
 use Rattle.protocol.proofs.Promises.Receiver.{Hands, receive-refusals}
 
@@ -40,9 +40,9 @@ module _ (a : List ℕ) (i : ℕ) (c room : List ℕ) (four : length a ≡ 4) wh
 
 -- ---- the receiver: refusal 3 above 267 held bytes
 
-pub refuses-268 : (x : Line) (piece : List ℕ) (lent : Lent) → Lengths (x .reader .guarded) → 700 ≤ length (lent .room) → Settled (x .reader) → 268 ≤ x .receiver .count
+pub refuses-268 : (x : Line) (piece : List ℕ) (lent : Lent) → Lengths (x .reader .guarded) → ChipLengths (x .reader) lent → 700 ≤ length (lent .room) → Settled (x .reader) → 268 ≤ x .receiver .count
     → Hands x lent (receiveOf core x piece lent) 3
-refuses-268 x piece lent m u k high = receive-refusals x piece lent .0 m .0 u .0 k .1 (λ c. omega arith)
+refuses-268 x piece lent m h u k high = receive-refusals x piece lent .0 m .0 h .0 u .0 k .1 (λ c. omega arith)
 
 -- ---- "the longest unfinished packet grows to 266", a data packet's; that of a command or an acknowledge keeps 264
 
@@ -65,10 +65,10 @@ other-waits s w h i = go (w .short)
 
 -- ---- size code 4 and above: SetSysPara answers 1Bh, and nothing changes; stored, refusal 3, whatever else the settings are
 
-pub answers-1b : (r : Reader) (s : List ℕ) (lent : Lent) (f : T (legal core r)) (u : T (fitLent lent)) (l : locked (r .plain) ≡ false) (v : ℕ) → 4 ≤ v
+pub answers-1b : (r : Reader) (s : List ℕ) (lent : Lent) (f : T (legal core r)) (u : T (fitLent (capacity (r .guarded)) lent)) (l : locked (r .plain) ≡ false) (v : ℕ) → 4 ≤ v
     → hear (r .plain .address) s ≡ order (command (barred (setSysPara 6 v))) → Says (rested r) 0x1b s lent (callOf core r s lent)
 answers-1b r s lent f u l v high h = rows r s lent f u l (setSysPara 6 v) h .0 (inr (inr refl)) .1 (λ q. let k = q .1 .1 refl in omega arith)
 
-pub refuses-code-4 : (r : Reader) (s : List ℕ) (lent : Lent) → Lengths (r .guarded) → 700 ≤ length (lent .room) → 4 ≤ r .plain .size
+pub refuses-code-4 : (r : Reader) (s : List ℕ) (lent : Lent) → Lengths (r .guarded) → ChipLengths r lent → 700 ≤ length (lent .room) → 4 ≤ r .plain .size
     → Ends r (lent .room) (callOf core r s lent) 3
-refuses-code-4 r s lent m u high = call-refusals r s lent .0 m .0 u .1 (λ q. let k = q .size in omega arith)
+refuses-code-4 r s lent m h u high = call-refusals r s lent .0 m .0 h .0 u .1 (λ q. let k = q .size in omega arith)

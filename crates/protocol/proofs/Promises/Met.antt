@@ -1,5 +1,5 @@
 -- The premises of the promises can be met: of demand 3's by two legal locked readers of ten pages, one empty and one full, with the same settings but for the
--- filled marks and the origins; of request [5]'s and [7]'s by the full one without a password; of request [6]'s by an old one; of others by every new vault.
+-- filled marks, the origins and status bit 1; of request [5]'s and [7]'s by the full one without a password; of request [6]'s by an old one; of others by every new vault.
 use mathlib.Core.Bool.{true, false}
 use mathlib.Core.Path.{_≡_, refl, ap, _∙_, subst}
 use mathlib.Core.List.{List, [], _∷_}
@@ -12,8 +12,9 @@ use Rattle.protocol.specs.Bytes.{Bytes, part, zeros, four, same, lay}
 use Rattle.protocol.specs.Tests.{within, every}
 use Rattle.protocol.specs.Index.{bit, stored, clearFrom}
 use Rattle.protocol.specs.Reader.{closed, noOrigin, fromPage, Reader, capacity, keyed, locked, bufferOf, emptied, loadedFrom, withPassword, fresh, zeroed, contents, reader}
+use Rattle.protocol.specs.Search.{Chip, eligible, beats, bestOf, pagesFrom, searchOf}
 use Rattle.protocol.specs.Step.{ended, rested}
-use Rattle.protocol.specs.Call.{core, fitLibrary, fitBuffers, fitLengths, fitPlain, fitTransfer, fitOrigin, fitOrigins, sound, legal}
+use Rattle.protocol.specs.Call.{core, fitLibrary, fitBuffers, fitChip, fitLengths, fitPlain, fitTransfer, fitOrigin, fitOrigins, sound, legal}
 use Rattle.protocol.specs.Records.{originOf, freshOf}
 use Rattle.protocol.specs.Receiver.{holding, line}
 use Rattle.protocol.proofs.Laws.Index.{byte-zeros, bit-zero, fine-zeros}
@@ -26,12 +27,12 @@ use Rattle.protocol.proofs.Promises.BroughtOver.{before, before-holds}
 use Rattle.protocol.proofs.Promises.Faithful.{Faithful, faithful-start}
 use Rattle.protocol.proofs.Promises.ComesToRest.{Ready}
 
--- P9's reader with every page stored and both buffers filled, the first from page 3
+-- P9's reader with every page stored and both buffers filled, the first from page 3, and status bit 1 set
 pub full10 : Reader
 full10 =
     reader (keyed10 .plain)
     (contents (replicate 5120 0x11) (0xff ∷ 0x03 ∷ zeros 126) (replicate 512 0x22) (loadedFrom 3 (replicate pageBytes 0x11))
-    record { bytes = replicate pageBytes 0x44; filled = true; origin = noOrigin })
+    record { bytes = replicate pageBytes 0x44; filled = true; origin = noOrigin } true)
 
 pub record Met (r t : Reader) : Type 0 where
   pub one : T (legal core r)
@@ -76,6 +77,22 @@ copy-met =
       first = refl;
       other = refl;
     }
+
+-- of request [8]'s too: with these scores and thresholds, at level 3, pages 1 and 2 have the best score, and page 1 is the lower one; from page 3 on it is page 4, which
+-- has just the threshold; from page 5 on it is none
+pub chip10 : Chip
+chip10 = record { scores = 5 ∷ 900 ∷ 900 ∷ 3 ∷ 4 ∷ zeros 5; thresholds = 1 ∷ 2 ∷ 4 ∷ 5 ∷ 6 ∷ [] }
+
+pub record Found (χ : Chip) (r : Reader) : Type 0 where
+  pub lent : T (fitChip (pages r) χ)
+  pub level : r .plain .level ≡ 3
+  pub lowest : searchOf χ 3 (r .guarded) 0 10 ≡ record { found = true; page = 1; score = 900 }
+  pub just : searchOf χ 3 (r .guarded) 3 65535 ≡ record { found = true; page = 4; score = 4 }
+  pub none : searchOf χ 3 (r .guarded) 5 5 ≡ record { found = false; page = 0; score = 0 }
+
+pub search-met : Found chip10 open10
+unfolding fresh10 full10 open10 chip10 fresh capacity fitChip searchOf bestOf beats eligible pagesFrom stored bit
+search-met = record { lent = tt; level = refl; lowest = refl; just = refl; none = refl }
 
 -- fresh settings and zeroed memory are legal: every new vault, of 1 to 1000 pages
 pub new-vault : (c : ℕ) → 1 ≤ c → c ≤ 1000 → Legal core core-holds (freshOf (replicate (512 * c) 0) (replicate 128 0) (replicate 512 0) (replicate 512 0) (replicate 512 0))
@@ -122,13 +139,13 @@ unfolding fresh10 zeroed emptied core originOf
 fresh-legal = new-vault 10 (lit≤ tt) (lit≤ tt)
 
 -- and with an empty receiver it is ready for pieces
-pub fresh-ready : Ready core core-holds (line fresh10 (holding []))
-unfolding holding lay holds longest
-fresh-ready = record { legal = fresh-legal; cells = refl; few = omega arith }
+pub fresh-ready : Ready core core-holds 10 (line fresh10 (holding []))
+unfolding holding lay holds longest fresh10 zeroed
+fresh-ready = record { pages = refl; legal = fresh-legal; cells = refl; few = omega arith }
 
 -- of request [6]'s by the full reader without a password as it was before: it is legal then, so that it can be brought over
 pub old10 : Reader
-old10 = let g = full10 .guarded in reader (fresh10 .plain) (contents (g .templates) (0xff ∷ 0x03 ∷ zeros 30) (g .notepad) (g .buffer1) (g .buffer2))
+old10 = let g = full10 .guarded in reader (fresh10 .plain) (contents (g .templates) (0xff ∷ 0x03 ∷ zeros 30) (g .notepad) (g .buffer1) (g .buffer2) (g .found))
 
 old-bytes : Bytes (0xff ∷ 0x03 ∷ zeros 30)
 unfolding Bytes

@@ -61,8 +61,8 @@ other-library zero x y g = refl
 other-library (suc zero) x y g = refl
 other-library (suc (suc k)) x y g = refl
 
--- a legal reader that is not locked, a fit reply room, and the reader t that it is once an open transfer has ended
-module _ (σ : Shape) (ok : σ .most ≤ 8 * σ .indexed) (r : Reader) (l : Legal σ ok r) (u : locked (r .plain) ≡ false) (s : List ℕ) (lent : Lent) (v : T (fitLent lent)) where
+-- a legal reader that is not locked, what is lent fit, and the reader t that it is once an open transfer has ended
+module _ (σ : Shape) (ok : σ .most ≤ 8 * σ .indexed) (r : Reader) (l : Legal σ ok r) (u : locked (r .plain) ≡ false) (s : List ℕ) (lent : Lent) (v : T (fitLent (capacity (r .guarded)) lent)) where
   abbrev t : Reader
   t = rested r
 
@@ -80,22 +80,29 @@ module _ (σ : Shape) (ok : σ .most ≤ 8 * σ .indexed) (r : Reader) (l : Lega
   abbrev pub Done : Type 0
   Done = Replies (acknowledge (t .plain .address) 0x00 []) s lent called
 
-  carried : (c : Barred) → Asks c → T (passed (rule t c .tests)) → Gives (carryAs t (rule t c) zero .reply) (carryAs t (rule t c) zero .after) s lent called
-  carried c h d = answered σ r s lent (l .legal) v (carryAs t (rule t c) zero) (obeys r s u c h d)
+  carried : (c : Barred) → Asks c → T (passed (rule (lent .chip) t c .tests)) → Gives (carryAs t (rule (lent .chip) t c) zero .reply) (carryAs t (rule (lent .chip) t c) zero .after) s lent called
+  carried c h d = answered σ r s lent (l .legal) v (carryAs t (rule (lent .chip) t c) zero) (obeys (lent .chip) r s u c h d)
 
   below : (p : ℕ) → p < pages r → T (ltb p (capacity (t .guarded)))
   unfolding capacity
   below p h = lt→ltb p (capacity (t .guarded)) (rw (spared r .templates) h)
 
-  -- 00h alone, and neither settings nor notepad change
+  -- 00h alone, and neither settings nor notepad nor status bit 1 change
   pub record Quiet : Type 0 where
     pub told : Done
     pub settings : called .after .plain ≡ t .plain
     pub notepad : called .after .guarded .notepad ≡ t .guarded .notepad
+    pub found : called .after .guarded .found ≡ t .guarded .found
 
-  quietly : (x y : List ℕ) (b c : Buffer) → Gives (acknowledge (t .plain .address) 0x00 []) (reader (t .plain) (contents x y (t .guarded .notepad) b c)) s lent called
+  quietly : (x y : List ℕ) (b c : Buffer) → Gives (acknowledge (t .plain .address) 0x00 []) (reader (t .plain) (contents x y (t .guarded .notepad) b c (t .guarded .found))) s lent called
       → Quiet
-  quietly x y b c a = record { told = a .told; settings = ap (λ (w : Reader). w .plain) (a .after); notepad = ap (λ (w : Reader). w .guarded .notepad) (a .after) }
+  quietly x y b c a =
+      record {
+        told = a .told;
+        settings = ap (λ (w : Reader). w .plain) (a .after);
+        notepad = ap (λ (w : Reader). w .guarded .notepad) (a .after);
+        found = ap (λ (w : Reader). w .guarded .found) (a .after);
+      }
 
   -- ---- Store: page p has the buffer's bytes and its bit; every other page keeps both. The buffer's origin is page p; the other buffer stays
 
@@ -116,7 +123,7 @@ module _ (σ : Shape) (ok : σ .most ≤ 8 * σ .indexed) (r : Reader) (l : Lega
       let f : T (c .filled) = rw (buffer-is b i g, e) tt in
       let y : T (not (stored (g .index) p)) = rw (spared r .index, o) tt in
       let z : T (isBuffer b) = numbered b .1 i in
-      let d : T (passed (rule t (store b p) .tests)) = search and-i depth 9 in
+      let d : T (passed (rule (lent .chip) t (store b p) .tests)) = search and-i depth 9 in
       let n : p < capacity g = ltb→lt p (capacity g) x in
       let w : Filled t (second b) p = fill-page t (second b) p (buffer-long (second b) g (k .buffers)) (omega (arith, k .shelf .long)) in
       let a = carried (store b p) h d in
@@ -147,7 +154,7 @@ module _ (σ : Shape) (ok : σ .most ≤ 8 * σ .indexed) (r : Reader) (l : Lega
   load-moves b p h i m f =
       let g : Guarded = t .guarded in
       let y : T (stored (g .index) p) = rw (spared r .index, f) tt in
-      let d : T (passed (rule t (loadChar b p) .tests)) = and-i (isBuffer b) (ltb p (capacity g) && (stored (g .index) p && true)) (numbered b .1 i) (and-i (ltb p (capacity g)) (stored (g .index) p && true) (below p m) (and-i (stored (g .index) p) true y tt)) in
+      let d : T (passed (rule (lent .chip) t (loadChar b p) .tests)) = and-i (isBuffer b) (ltb p (capacity g) && (stored (g .index) p && true)) (numbered b .1 i) (and-i (ltb p (capacity g)) (stored (g .index) p && true) (below p m) (and-i (stored (g .index) p) true y tt)) in
       let a = carried (loadChar b p) h d in
       let now = subst (WithBuffer b (loadedFrom p (page t p)) (t .plain .transfer) t) (sym (a .after)) (by-number b i (loadedFrom p (page t p)) (t .plain .transfer) t) in
       record {
@@ -178,7 +185,7 @@ module _ (σ : Shape) (ok : σ .most ≤ 8 * σ .indexed) (r : Reader) (l : Lega
   delete-moves p n h x b =
       let g : Guarded = t .guarded in
       let m : p + n ≤ capacity g = rw (spared r .templates) b in
-      let d : T (passed (rule t (deletChar p n) .tests)) = and-i (ltb p (capacity g) && leb (p + n) (capacity g)) true (and-i (ltb p (capacity g)) (leb (p + n) (capacity g)) (below p x) (le→leb (p + n) (capacity g) m)) tt in
+      let d : T (passed (rule (lent .chip) t (deletChar p n) .tests)) = and-i (ltb p (capacity g) && leb (p + n) (capacity g)) true (and-i (ltb p (capacity g)) (leb (p + n) (capacity g)) (below p x) (le→leb (p + n) (capacity g) m)) tt in
       let w : Erased t p n = erase-pages t p n (omega (arith, k .shelf .long)) in
       let a = carried (deletChar p n) h d in
       record {

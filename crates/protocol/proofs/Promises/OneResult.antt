@@ -80,6 +80,7 @@ one-reader s z t i n b c t′ i′ n′ b′ c′ e =
             verified = e j .plain .verified;
             filled1 = e j .guarded .buffer1 .filled;
             filled2 = e j .guarded .buffer2 .filled;
+            found = e j .guarded .found;
             origin1 = same-origin (s .origin1) (z .origin1) (ap (λ (r : Reader). r .guarded .buffer1 .origin) e) j;
             origin2 = same-origin (s .origin2) (z .origin2) (ap (λ (r : Reader). r .guarded .buffer2 .origin) e) j;
           };

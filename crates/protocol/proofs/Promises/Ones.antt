@@ -51,7 +51,7 @@ module _ (σ : Shape) (ok : σ .most ≤ 8 * σ .indexed) (r : Reader) (f : Lega
       sym (set-ones (r .guarded .index) (f .typed .index)) ∙ below-capacity (r .guarded .index) (capacity (r .guarded)) (omega (arith, ok, k .shelf .high, k .shelf .wide)) (k .clear)
 
   -- TempleteNum tells that number
-  pub ones-told : (s : List ℕ) (lent : Lent) → T (fitLent lent) → locked (r .plain) ≡ false → hear (r .plain .address) s ≡ order (command (barred templeteNum))
+  pub ones-told : (s : List ℕ) (lent : Lent) → T (fitLent (capacity (r .guarded)) lent) → locked (r .plain) ≡ false → hear (r .plain .address) s ≡ order (command (barred templeteNum))
       → Gives (acknowledge (r .plain .address) 0x00 (word (onesOf (r .guarded .index)))) (rested r) s lent (callOf σ r s lent)
   ones-told s lent u l h =
       let same = ap₂ (λ (a : List ℕ) (n : ℕ). acknowledge a 0x00 (word n)) (spared r .address) (ap setBits (spared r .index) ∙ set-ones (r .guarded .index) (f .typed .index)) in

@@ -8,12 +8,12 @@ use Prim.Native.Nat.{ℕ}
 use lib.Dec.{T}
 use Rattle.protocol.specs.Numbers.{done, wrongPassword}
 use Rattle.protocol.specs.Bytes.{same}
-use Rattle.protocol.specs.Reader.{Plain, Guarded, Reader, keyed, locked, withMark, reader}
+use Rattle.protocol.specs.Reader.{Plain, Guarded, Reader, keyed, locked, withMark, reader, capacity}
 use Rattle.protocol.specs.Commands.{verifyPassword, handShake, free, barred, damaged, unknown, misfit, command}
 use Rattle.protocol.specs.Data.{acknowledge}
 use Rattle.protocol.specs.Table.{freeRule, publicOf}
 use Rattle.protocol.specs.Step.{Heard, nothing, order, piece, hear, carryFree, obey, heed, rested, answer, wiped}
-use Rattle.protocol.specs.Call.{Shape, Lent, fitLent, legal, Told, Ended, replyOf, callOf, switchOf}
+use Rattle.protocol.specs.Call.{Shape, Lent, fitLent, legal, Told, Ended, replyOf, callOf, switchOf, fitChip, fitRoom}
 use Rattle.protocol.specs.Dialogue.{Event, received, switch, on, Dialogue, over, first, dialogue, kept}
 use Rattle.protocol.proofs.Laws.Logic.{T→true, and-l, and-i}
 use Rattle.protocol.proofs.Laws.Lists.{take-lay, same-eq, same-refl, same-no}
@@ -23,7 +23,7 @@ use Rattle.protocol.proofs.Laws.Locked.{tells, turns, toldBy, plainBy, 
 -- ---- VfyPwd and HandShake, locked or not
 
 -- p and g: settings and contents of the reader once an open transfer has ended
-module _ (σ : Shape) (r : Reader) (s : List ℕ) (lent : Lent) (f : T (legal σ r)) (u : T (fitLent lent)) where
+module _ (σ : Shape) (r : Reader) (s : List ℕ) (lent : Lent) (f : T (legal σ r)) (u : T (fitLent (capacity (r .guarded)) lent)) where
   abbrev p : Plain
   p = rested r .plain
 
@@ -103,16 +103,17 @@ module _ (σ : Shape) (r : Reader) (f : T (legal σ r)) (l : T (locked (r .plain
 
   pub opens-only : locked (callOf σ r s lent .after .plain) ≡ false → Accepted r s (callOf σ r s lent)
   unfolding plainBy toldBy replyOf publicOf
-  opens-only = rw (locked-call σ r f l s lent) (go (fitLent lent) refl)
+  opens-only = rw (locked-call σ r f l s lent) (go (fitChip (capacity (r .guarded)) (lent .chip)) (fitRoom (lent .room)) refl)
     where
-      go : (b : Bool) → fitLent lent ≡ b → locked (plainBy (publicOf r) s lent) ≡ false
-          → Accepted r s record { told = toldBy (publicOf r) s lent; after = reader (plainBy (publicOf r) s lent) (r .guarded) }
-      go true q =
+      go : (a b : Bool) → fitRoom (lent .room) ≡ b → locked (plainBy (publicOf r) s a (lent .room)) ≡ false
+          → Accepted r s record { told = toldBy (publicOf r) s a (lent .room); after = reader (plainBy (publicOf r) s a (lent .room)) (r .guarded) }
+      go true true q =
           rw q
           (λ e.
           let h = heard-right (hear (r .plain .address) s) e in
           record { asked = h .0; reply = take-lay (tells (publicOf r) (hear (r .plain .address) s)) (lent .room) ∙ h .1 })
-      go false q = rw q (λ e. shut e)
+      go true false q = rw q (λ e. shut e)
+      go false b q = λ e. shut e
 
   -- a line switch opens nothing
   pub switch-opens-nothing : locked (switchOf r .after .plain) ≡ true
@@ -132,14 +133,17 @@ module _ (σ : Shape) (p : Plain) (l : T (locked p)) where
   course [] g f = through refl refl
   course (received s lent ∷ es) g f = go (q .verified) refl (course es g f)
     where
-      q : Plain
-      q = plainBy (publicOf (reader p g)) s lent
+      fit : Bool
+      fit = fitChip (capacity g) (lent .chip)
 
-      e : callOf σ (reader p g) s lent ≡ record { told = toldBy (publicOf (reader p g)) s lent; after = reader q g }
+      q : Plain
+      q = plainBy (publicOf (reader p g)) s fit (lent .room)
+
+      e : callOf σ (reader p g) s lent ≡ record { told = toldBy (publicOf (reader p g)) s fit (lent .room); after = reader q g }
       e = locked-call σ (reader p g) f l s lent
 
       d : Bool → Plain → Dialogue
-      d b x = first (received s lent) (toldBy (publicOf (reader p g)) s lent) (cond b (over (reader x g)) (dialogue σ (reader x g) es))
+      d b x = first (received s lent) (toldBy (publicOf (reader p g)) s fit (lent .room)) (cond b (over (reader x g)) (dialogue σ (reader x g) es))
 
       on-with : Course σ p g es (dialogue σ (reader p g) es) → Course σ p g (received s lent ∷ es) (d false p)
       on-with (through a b) = through (ap (λ (x : List Event). received s lent ∷ x) a) b
@@ -150,7 +154,7 @@ module _ (σ : Shape) (p : Plain) (l : T (locked p)) where
       go true v i =
           stops [] s lent es refl (rw (e, v) refl) (opens-only σ (reader p g) f l s lent (ap (λ (x : Ended). locked (x .after .plain)) e ∙ unlocked-marked q v))
       go false v i =
-          let same-plain : q ≡ p = plain-or (publicOf (reader p g)) (shut-of σ (reader p g) f l .unverified) s lent v in
+          let same-plain : q ≡ p = plain-or (publicOf (reader p g)) (shut-of σ (reader p g) f l .unverified) s fit (lent .room) v in
           let here : dialogue σ (reader p g) (received s lent ∷ es) ≡ d (q .verified) q = ap (λ (x : Ended). first (received s lent) (x .told) (cond (x .after .plain .verified) (over (x .after)) (dialogue σ (x .after) es))) e in
           subst (Course σ p g (received s lent ∷ es)) (sym (here ∙ ap (λ (b : Bool). d b q) v ∙ ap (d false) same-plain)) (on-with i)
   course (switch ∷ es) g f = subst (Course σ p g (switch ∷ es)) (sym (here ∙ ap d (shut-of σ (reader p g) f l .unverified))) (on-with (course es (wiped g) (wiped-legal σ (reader p g) f l)))

@@ -1,6 +1,6 @@
 -- Document 01: "Order: unknown code 19h; wrong length 01h; locked and not 13h or 40h gives 21h; then the row's tests, left to right. A code
 -- other than 00h changes nothing more, save that a wrong password clears the mark." A wrong sum comes before all of them, whether the reader is
--- locked or not. The row's tests are in Rows, the wrong password in Opens. Stated over the bytes of a whole packet for this reader with identifier 1.
+-- locked or not. The row's tests are in Rows, the wrong password in Opens, and Search's 09h, request [8]'s exception, in Searches. Stated over the bytes of a whole packet for this reader with identifier 1.
 use mathlib.Core.Bool.{Bool, true, false, cond}
 use mathlib.Core.Path.{_≡_, refl, ap, _∙_}
 use mathlib.Core.Logic.{_≢_}
@@ -13,7 +13,7 @@ use Rattle.protocol.specs.declared.Found.the-variants.{Whole}
 use Rattle.protocol.specs.Bytes.{byteAt}
 use Rattle.protocol.specs.Packet.{lengthOf, addressAt, identifierAt, contentAt, rightAt}
 use Rattle.protocol.specs.Finder.{findOf}
-use Rattle.protocol.specs.Reader.{Reader, locked}
+use Rattle.protocol.specs.Reader.{Reader, locked, capacity}
 use Rattle.protocol.specs.Commands.{Barred, barred, Entry, commands, none, some, rowOf, Order, damaged, unknown, misfit, command, orderAs, orderOf}
 use Rattle.protocol.specs.Table.{rule}
 use Rattle.protocol.specs.Step.{order, hearAs, hearAt, hear, says, carry, obey, heed, rested, answer}
@@ -28,7 +28,7 @@ pub record Ordered (r : Reader) (s : List ℕ) (p n : ℕ) : Type 0 where
   pub address : addressAt s p ≡ r .plain .address
   pub identifier : identifierAt s p ≡ 1
 
-module _ (σ : Shape) (r : Reader) (s : List ℕ) (lent : Lent) (f : T (legal σ r)) (u : T (fitLent lent)) (p n : ℕ) (k : Ordered r s p n) where
+module _ (σ : Shape) (r : Reader) (s : List ℕ) (lent : Lent) (f : T (legal σ r)) (u : T (fitLent (capacity (r .guarded)) lent)) (p n : ℕ) (k : Ordered r s p n) where
   abbrev content : List ℕ
   content = contentAt s p n
 
@@ -40,7 +40,7 @@ module _ (σ : Shape) (r : Reader) (s : List ℕ) (lent : Lent) (f : T (legal σ
   abbrev pub Tells : ℕ → Type 0
   Tells code = Says (rested r) code s lent (callOf σ r s lent)
 
-  said : (o : Order) (code : ℕ) → orderOf (rightAt s p n) content ≡ o → heed (rested r) o ≡ says (rested r) code → Tells code
+  said : (o : Order) (code : ℕ) → orderOf (rightAt s p n) content ≡ o → heed (lent .chip) (rested r) o ≡ says (rested r) code → Tells code
   unfolding answer says
   said o code h e = answered σ r s lent f u (says (rested r) code) (rw (heard, h, e) refl)
 
@@ -69,4 +69,4 @@ module _ (σ : Shape) (r : Reader) (s : List ℕ) (lent : Lent) (f : T (legal σ
         -- the reader is locked: 21h
         pub locked-next : locked (r .plain) ≡ true → Tells 0x21
         unfolding heed obey
-        locked-next l = said (command (barred c)) 0x21 ordered (ap (λ (b : Bool). cond b (says (rested r) 0x21) (carry (rested r) (rule (rested r) c))) (spared r .lock ∙ l))
+        locked-next l = said (command (barred c)) 0x21 ordered (ap (λ (b : Bool). cond b (says (rested r) 0x21) (carry (rested r) (rule (lent .chip) (rested r) c))) (spared r .lock ∙ l))

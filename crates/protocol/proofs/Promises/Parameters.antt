@@ -1,4 +1,4 @@
--- Which bytes a command is read from: its code, then its parameters, page and N two bytes each high byte first, other parameters one byte,
+-- Which bytes a command is read from: its code, then its parameters, page, N, start and count two bytes each high byte first, other parameters one byte,
 -- passwords and addresses four. Any other length is a misfit.
 use mathlib.Core.Bool.{true}
 use mathlib.Core.Path.{_≡_, refl, ap, _∙_}
@@ -9,7 +9,7 @@ use lib.ListN.{length}
 use Rattle.protocol.specs.Numbers.{fourBytes, commandPacket}
 use Rattle.protocol.specs.Bytes.{wordAt}
 use Rattle.protocol.specs.Packet.{packet, lengthOf, accepts}
-use Rattle.protocol.specs.Commands.{verifyPassword, handShake, store, loadChar, upChar, downChar, deletChar, empty, setSysPara, readSysPara, setPassword, setAddress, writeNotepad, readNotepad, templeteNum, readIndexTable, Command, free, barred, commands, rowOf, command, orderAs, orderOf}
+use Rattle.protocol.specs.Commands.{verifyPassword, handShake, searchFor, store, loadChar, upChar, downChar, deletChar, empty, setSysPara, readSysPara, setPassword, setAddress, writeNotepad, readNotepad, templeteNum, readIndexTable, Command, free, barred, commands, rowOf, command, orderAs, orderOf}
 use Rattle.protocol.specs.Step.{order, hearAs, hear}
 use Rattle.protocol.proofs.Promises.Download.{heard-packet}
 
@@ -18,6 +18,7 @@ abbrev Reads : List ℕ → Command → Type 0
 Reads content c = orderOf true content ≡ command c
 
 pub record Parameters : Type 0 where
+  pub search-read : (b h l m n : ℕ) → Reads (0x04 ∷ b ∷ h ∷ l ∷ m ∷ n ∷ []) (barred (searchFor b (h * 256 + l) (m * 256 + n)))
   pub store-read : (b h l : ℕ) → Reads (0x06 ∷ b ∷ h ∷ l ∷ []) (barred (store b (h * 256 + l)))
   pub load-read : (b h l : ℕ) → Reads (0x07 ∷ b ∷ h ∷ l ∷ []) (barred (loadChar b (h * 256 + l)))
   pub up-read : (b : ℕ) → Reads (0x08 ∷ b ∷ []) (barred (upChar b))
@@ -39,6 +40,7 @@ pub parameters : Parameters
 unfolding orderOf orderAs rowOf commands wordAt
 parameters =
     record {
+      search-read = λ b h l m n. refl;
       store-read = λ b h l. refl;
       load-read = λ b h l. refl;
       up-read = λ b. refl;

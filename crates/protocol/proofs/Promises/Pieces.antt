@@ -7,7 +7,7 @@ use lib.Dec.{T, eqb, ltb, eqb→eq, ltb→lt}
 use borrow.Author.Tests.{eq-eqb, lt-ltb}
 use lib.ListN.{length, take, drop}
 use Rattle.protocol.specs.Bytes.{lay}
-use Rattle.protocol.specs.Reader.{Transfer, closed, opened, Plain, Origin, noOrigin, Reader, sizeOf, bufferOf, emptied, withTransfer, withBuffer, reader}
+use Rattle.protocol.specs.Reader.{Transfer, closed, opened, Plain, Origin, noOrigin, Reader, sizeOf, bufferOf, emptied, withTransfer, withBuffer, reader, capacity}
 use Rattle.protocol.specs.Data.{acknowledge}
 use Rattle.protocol.specs.Step.{piece, hear, silence, says, ended, rested, fits, takeAs, takeIn, answer}
 use Rattle.protocol.specs.Call.{Shape, Lent, fitTransfer, fitLent, legal, callOf}
@@ -89,12 +89,12 @@ taken r w got content last o f a = subst (Taken w got last content r) (sym (same
     go true = with-buffer true _ (left true last) r
     go false = with-buffer false _ (left false last) r
 
-module _ (σ : Shape) (r : Reader) (s : List ℕ) (lent : Lent) (f : T (legal σ r)) (u : T (fitLent lent)) (last right : Bool) (content : List ℕ)
+module _ (σ : Shape) (r : Reader) (s : List ℕ) (lent : Lent) (f : T (legal σ r)) (u : T (fitLent (capacity (r .guarded)) lent)) (last right : Bool) (content : List ℕ)
     (h : hear (r .plain .address) s ≡ piece last right content) where
   module _ (w : Bool) (got : ℕ) (e : r .plain .transfer ≡ opened w got) where
-    takes : (b : Bool) → fits (r .plain) got last right content ≡ b → answer r (hear (r .plain .address) s) ≡ takeAs r w got content b last
+    takes : (b : Bool) → fits (r .plain) got last right content ≡ b → answer (lent .chip) r (hear (r .plain .address) s) ≡ takeAs r w got content b last
     unfolding answer takeIn
-    takes b q = ap (answer r) h ∙ ap (takeIn r last right content) e ∙ ap (λ (x : Bool). takeAs r w got content x last) q
+    takes b q = ap (answer (lent .chip) r) h ∙ ap (takeIn r last right content) e ∙ ap (λ (x : Bool). takeAs r w got content x last) q
 
     -- a data packet that goes in
     pub piece-goes-in : GoesIn (r .plain) got last right content → Leaves [] (Taken w got last content r) s lent (callOf σ r s lent)
@@ -122,4 +122,4 @@ module _ (σ : Shape) (r : Reader) (s : List ℕ) (lent : Lent) (f : T (legal σ
   -- "Identifier 2 or 8 without a transfer: silent."
   pub piece-ignored : r .plain .transfer ≡ closed → Gives [] r s lent (callOf σ r s lent)
   unfolding answer takeIn silence
-  piece-ignored e = answered σ r s lent f u (silence r) (ap (answer r) h ∙ ap (takeIn r last right content) e)
+  piece-ignored e = answered σ r s lent f u (silence r) (ap (answer (lent .chip) r) h ∙ ap (takeIn r last right content) e)

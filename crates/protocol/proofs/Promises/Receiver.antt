@@ -12,16 +12,16 @@ use Rattle.protocol.specs.declared.Found.{Found}
 use Rattle.protocol.specs.declared.Found.the-variants.{Noise, Unfinished, Unfit, Whole}
 use Rattle.protocol.specs.Numbers.{holds, longest}
 use Rattle.protocol.specs.Finder.{findOf, usedOf}
-use Rattle.protocol.specs.Reader.{Reader}
+use Rattle.protocol.specs.Reader.{Reader, capacity}
 use Rattle.protocol.specs.Step.{stepOf}
-use Rattle.protocol.specs.Call.{core, Lent, fitLent, fitLengths, fitBuffers, sound, Ended, refused, carried, callOf, switchRefusal, switchAs, switchOf}
+use Rattle.protocol.specs.Call.{core, Lent, fitChip, fitRoom, fitLengths, fitBuffers, sound, Ended, refused, carried, callOf, switchRefusal, switchAs, switchOf}
 use Rattle.protocol.specs.Receiver.{bytesIn, holding, Line, Handed, fitting, runOf, handed, receiveRefusal, receiveAs, receiveOf, lineSwitchAs, lineSwitchOf}
 use Rattle.protocol.proofs.Laws.Lines.{Line as Unless, unless, Follows, follows}
 use Rattle.protocol.proofs.Laws.Answers.{call-legal}
 use Rattle.protocol.proofs.Laws.Holding.{in-holding, holding-zero, Carried, accepted}
 use Rattle.protocol.proofs.Promises.Finding.{WholeAt, whole, finds, found, whole-at, uses, silent-without, silently}
 use Rattle.protocol.proofs.Promises.LegalMeans.{Lengths, Settled, lengths-mean, settings-mean, Means}
-use Rattle.protocol.proofs.Promises.Refused.{Unused, fit-room, switch-lines, buffers}
+use Rattle.protocol.proofs.Promises.Refused.{Unused, ChipLengths, chip-mean, fit-room, switch-lines, buffers}
 
 -- what a receiver's call got back, and its reader after it
 abbrev pub bare : Handed → Ended
@@ -37,7 +37,8 @@ Hands x lent o (suc n) = Unused (lent .room) (bare o) (suc n) × (o .after ≡ x
 -- document 01's, and "held count above 265 is 3", by request [3] above 267
 abbrev pub receive-lines : Line → Lent → List Unless
 receive-lines x lent =
-    unless (Lengths (x .reader .guarded)) 1 ∷ unless (700 ≤ length (lent .room)) 2 ∷ unless (Settled (x .reader)) 3 ∷ unless (x .receiver .count ≤ 267) 3 ∷ []
+    unless (Lengths (x .reader .guarded)) 1 ∷ unless (ChipLengths (x .reader) lent) 1 ∷ unless (700 ≤ length (lent .room)) 2 ∷ unless (Settled (x .reader)) 3
+    ∷ unless (x .receiver .count ≤ 267) 3 ∷ []
 
 module _ (x : Line) (piece : List ℕ) (lent : Lent) where
   hands : (n : ℕ) → Hands x lent (receiveAs core x piece lent n) n
@@ -54,13 +55,14 @@ module _ (x : Line) (piece : List ℕ) (lent : Lent) where
   unfolding receiveOf receiveRefusal
   receive-refusals =
       follows
-      ((fitLengths core (x .reader .guarded), 1) ∷ (fitLent lent, 2) ∷ (sound (x .reader), 3) ∷ (leb (x .receiver .count) holds, 3) ∷ [])
+      ((fitLengths core (x .reader .guarded), 1) ∷ (fitChip (capacity (x .reader .guarded)) (lent .chip), 1) ∷ (fitRoom (lent .room), 2) ∷ (sound (x .reader), 3)
+      ∷ (leb (x .receiver .count) holds, 3) ∷ [])
       (receive-lines x lent) (Hands x lent (receiveOf core x piece lent))
-      (lengths-mean (x .reader .guarded), (refl, λ m. (fit-room lent, (refl, λ u. (settings-mean (x .reader) m, (refl, λ k. (few, (refl, λ c. tt)))))))) (hands (receiveRefusal core x lent))
+      (lengths-mean (x .reader .guarded), (refl, λ m. (chip-mean (x .reader) lent m, (refl, λ h. (fit-room lent, (refl, λ u. (settings-mean (x .reader) m, (refl, λ k. (few, (refl, λ c. tt)))))))))) (hands (receiveRefusal core x lent))
 
-  -- so, of a legal reader with at most 267 held bytes and a fit reply room, no call is refused
-  pub never-refused : Means (x .reader) → 700 ≤ length (lent .room) → x .receiver .count ≤ 267 → receiveOf core x piece lent .told .refusal ≡ 0
-  never-refused m u c = receive-refusals .0 (m .lengths) .0 u .0 (m .settings) .0 c
+  -- so, of a legal reader with at most 267 held bytes, with a score for each page, five thresholds and a fit reply room, no call is refused
+  pub never-refused : Means (x .reader) → ChipLengths (x .reader) lent → 700 ≤ length (lent .room) → x .receiver .count ≤ 267 → receiveOf core x piece lent .told .refusal ≡ 0
+  never-refused m h u c = receive-refusals .0 (m .lengths) .0 h .0 u .0 (m .settings) .0 c
 
 -- ---- a call that is carried out
 
@@ -86,12 +88,12 @@ unfolding handed carried bytesIn fitting runOf holding holds longest
 takes-what-fits x piece lent e =
     let c : Carried core x piece lent = accepted core x piece lent e in
     let run : List ℕ = runOf (x .receiver) piece in
-    let rest : List ℕ = drop (stepOf (x .reader) run .used) run in
+    let rest : List ℕ = drop (stepOf (lent .chip) (x .reader) run .used) run in
     rw (c .does, call-legal core (x .reader) run lent (c .legal) (c .roomy))
     record {
       called = refl;
       taken = length-take (267 - x .receiver .count) piece;
-      count = length-drop (stepOf (x .reader) run .used) run;
+      count = length-drop (stepOf (lent .chip) (x .reader) run .used) run;
       length = refl;
       room = refl;
       reader = refl;

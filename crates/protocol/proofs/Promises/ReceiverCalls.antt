@@ -54,7 +54,7 @@ module _ (σ : Shape) (x : Line) (few : x .receiver .count ≤ 267) (piece : Lis
       receive-kinds σ x piece lent (λ (o : Handed). o .after .receiver .count ≤ 267) (λ k. few)
       (λ t u l.
       let run : List ℕ = runOf (x .receiver) piece in
-      omega (arith, length-drop (stepOf (x .reader) run .used) run, few-held (x .receiver) piece l))
+      omega (arith, length-drop (stepOf (lent .chip) (x .reader) run .used) run, few-held (x .receiver) piece l))
 
 module _ (x : Line) where
   switch-few : x .receiver .count ≤ 267 → lineSwitchOf x .after .receiver .count ≤ 267

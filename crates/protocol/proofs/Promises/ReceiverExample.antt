@@ -9,11 +9,12 @@ use Rattle.protocol.specs.Packet.{sumOf, packet, isIdentifier, limit, ac
 use Rattle.protocol.specs.Finder.{marksAt, later, startOf, allBut, findFrom, findOf, usedOf}
 use Rattle.protocol.specs.Index.{bit, stored, setBit, clearBit, clearBits, setBits, clearFrom}
 use Rattle.protocol.specs.Reader.{capacity, sizeOf, keyed, locked, bufferOf, emptied, loadedFrom, storedOn, isOneOf, without, withMark, withTransfer, withPassword, withAddress, withTuning, withLibrary, withNotepad, withBuffer, withoutPages, fresh, zeroed}
+use Rattle.protocol.specs.Search.{Chip}
 use Rattle.protocol.specs.Commands.{commands, rowOf, orderAs, orderOf}
 use Rattle.protocol.specs.Data.{acknowledge, packets, dataPackets}
 use Rattle.protocol.specs.Table.{apply, isBuffer, inRange, withParameter, statusOf, rule, publicOf, freeRule}
 use Rattle.protocol.specs.Step.{hearAs, hearAt, hear, silence, says, carryAs, carry, carryFree, obey, heed, ended, rested, fits, takeAs, takeIn, answer, stepOf, wiped, switched}
-use Rattle.protocol.specs.Call.{fitRoom, refusalOf, callAs, callOf, refused, carried, replyOf, core, fitLibrary, fitBuffers, fitLengths, fitPlain, fitTransfer, fitOrigin, fitOrigins, sound, legal}
+use Rattle.protocol.specs.Call.{fitRoom, refusalOf, callAs, callOf, refused, carried, replyOf, core, fitLibrary, fitBuffers, fitLengths, fitPlain, fitTransfer, fitOrigin, fitOrigins, sound, legal, fitChip}
 use Rattle.protocol.specs.Receiver.{bytesIn, holding, line, fitting, runOf, handed, receiveRefusal, receiveAs, receiveOf}
 use Rattle.protocol.specs.Caller.{Try, replied, offers, served, resting, atRest, drain, drained}
 use Rattle.protocol.proofs.Promises.Examples.{fresh10}
@@ -35,14 +36,18 @@ answers =
     toA (0x07 ∷ 0x00 ∷ 0x03 ∷ 0x00 ∷ 0x00 ∷ 0x0a ∷ []) ∷ toA (0x07 ∷ 0x00 ∷ 0x05 ∷ 0x00 ∷ 0x00 ∷ 0x00 ∷ 0x00 ∷ 0x0c ∷ []) ∷ []
 
 piece : ℕ → Try
-piece n = record { size = n; lent = record { room = zeros 700 } }
+piece n = record { size = n; room = zeros 700 }
+
+-- ten scores and five thresholds
+pub chip : Chip
+chip = record { scores = zeros 10; thresholds = zeros 5 }
 
 -- piece by piece: five bytes, all that is left, and none
 pub tries : List Try
 tries = piece 5 ∷ piece 60 ∷ piece 0 ∷ []
 
 -- both answers and one byte held, whole and piece by piece; the array after the pieces too
-pub at-work : ((drained fresh10 run .replies ≡ answers) × (bytesIn (drained fresh10 run .after .receiver) ≡ 0xef ∷ []))
-    × ((offers core tries (line fresh10 (holding [])) run .replies ≡ answers) × (offers core tries (line fresh10 (holding [])) run .after .receiver ≡ holding (0xef ∷ [])))
-unfolding highestSize longest verdict within every countBelow two four wordAt total same lay follow joined sumOf packet isIdentifier limit accepts marksAt later startOf allBut findFrom findOf usedOf bit stored setBit clearBit clearBits setBits clearFrom capacity sizeOf keyed locked bufferOf emptied loadedFrom storedOn isOneOf without withMark withTransfer withPassword withAddress withTuning withLibrary withNotepad withBuffer withoutPages fresh zeroed commands rowOf orderAs orderOf acknowledge packets dataPackets apply isBuffer inRange withParameter statusOf rule publicOf freeRule hearAs hearAt hear silence says carryAs carry carryFree obey heed ended rested fits takeAs takeIn answer stepOf wiped switched core fitLibrary fitBuffers fitLengths fitPlain fitTransfer fitOrigin fitOrigins sound legal fresh10 holds refusalOf callAs callOf refused replyOf fitRoom carried bytesIn holding fitting runOf receiveRefusal handed receiveAs receiveOf replied offers served resting atRest drain drained toA p1 p8 run answers piece tries
+pub at-work : ((drained chip fresh10 run .replies ≡ answers) × (bytesIn (drained chip fresh10 run .after .receiver) ≡ 0xef ∷ []))
+    × ((offers core chip tries (line fresh10 (holding [])) run .replies ≡ answers) × (offers core chip tries (line fresh10 (holding [])) run .after .receiver ≡ holding (0xef ∷ [])))
+unfolding highestSize longest verdict within every countBelow two four wordAt total same lay follow joined sumOf packet isIdentifier limit accepts marksAt later startOf allBut findFrom findOf usedOf bit stored setBit clearBit clearBits setBits clearFrom capacity sizeOf keyed locked bufferOf emptied loadedFrom storedOn isOneOf without withMark withTransfer withPassword withAddress withTuning withLibrary withNotepad withBuffer withoutPages fresh zeroed commands rowOf orderAs orderOf acknowledge packets dataPackets apply isBuffer inRange withParameter statusOf rule publicOf freeRule hearAs hearAt hear silence says carryAs carry carryFree obey heed ended rested fits takeAs takeIn answer stepOf wiped switched core fitLibrary fitBuffers fitLengths fitPlain fitTransfer fitOrigin fitOrigins sound legal fresh10 holds refusalOf callAs callOf refused replyOf fitRoom carried bytesIn holding fitting runOf receiveRefusal handed receiveAs receiveOf replied offers served resting atRest drain drained fitChip toA p1 p8 run answers piece chip tries
 at-work = ((refl, refl), (refl, refl))

@@ -9,12 +9,12 @@ use native.Mathlib.Omega.{arith}
 use lib.Dec.{T, leb}
 use lib.ListN.{length, take, drop}
 use Rattle.protocol.specs.declared.Receiver.{Receiver}
-use Rattle.protocol.specs.Numbers.{holds, badRoom}
+use Rattle.protocol.specs.Numbers.{holds, badLength, badRoom}
 use Rattle.protocol.specs.Reader.{closed, Plain, Guarded, Reader, capacity, keyed, locked, withMark, reader}
 use Rattle.protocol.specs.Table.{Public, publicOf}
 use Rattle.protocol.specs.Step.{wiped}
-use Rattle.protocol.specs.Call.{Shape, Lent, fitLent, legal, Told, Ended, replyOf, refused, refusalOf, callOf, switchOf}
-use Rattle.protocol.specs.Dialogue.{Event, received, switch, kept}
+use Rattle.protocol.specs.Call.{Shape, Lent, legal, Told, Ended, replyOf, refused, refusalOf, callOf, switchOf, fitChip, fitRoom}
+use Rattle.protocol.specs.Dialogue.{Event, received, switch, kept, Paired}
 use Rattle.protocol.specs.Receiver.{bytesIn, holding, Line, line, Handed, fitting, runOf, handed, declined, receiveOf, lineSwitchOf}
 use Rattle.protocol.specs.Caller.{onLine, Talk, endsAt, begins, talk}
 use Rattle.protocol.proofs.Laws.Locked.{toldBy, plainBy, shut-of, locked-call, plain-or, locked-switch, wiped-legal}
@@ -61,7 +61,7 @@ module _ (σ : Shape) (r : Reader) (key : T (keyed (r .plain))) (z : r .plain .t
       call : Bool → Ended
       call b = callOf σ (mark b r) (runOf h piece) lent
 
-      refusal : (b : Bool) → refusalOf σ (mark b r) lent ≡ cond (fitLent lent) 0 badRoom
+      refusal : (b : Bool) → refusalOf σ (mark b r) lent ≡ cond (fitChip (capacity (r .guarded)) (lent .chip)) (cond (fitRoom (lent .room)) 0 badRoom) badLength
       refusal b = refusal-legal σ (mark b r) lent (marked-legal r key z σ b f)
 
       go : (b : Bool) → leb (h .count) holds ≡ b → ReceiverHalf (mark false r) lent (receiveOf σ (x false) piece lent) (receiveOf σ (x true) piece lent)
@@ -87,51 +87,56 @@ shownBy run n h t p zero =
     record { told = record { refusal = 0; used = n; length = t .length; room = t .room }; plain = p; receiver = holding (drop (t .used) run) }
 shownBy run n h t p (suc k) = record { told = t; plain = p; receiver = h }
 
-overShown : Public → Receiver → Lent → Shown
-overShown v h lent =
-    record { told = record { refusal = overfull (cond (fitLent lent) 0 badRoom); used = 0; length = 0; room = lent .room }; plain = v .plain; receiver = h }
+overShown : Public → Receiver → Bool → List ℕ → Shown
+overShown v h fit room =
+    record { told = record { refusal = overfull (cond fit (cond (fitRoom room) 0 badRoom) badLength); used = 0; length = 0; room = room }; plain = v .plain; receiver = h }
 
-shownAs : Public → ℕ → List ℕ → ℕ → Receiver → Lent → Shown
-shownAs v count run n h lent =
-    let t = toldBy v run lent in
-    cond (leb count holds) (shownBy run n h t (plainBy v run lent) (t .refusal)) (overShown v h lent)
+-- and of scores and thresholds by whether their lengths are fit
+shownAs : Public → ℕ → List ℕ → ℕ → Receiver → Bool → List ℕ → Shown
+shownAs v count run n h fit room =
+    let t = toldBy v run fit room in
+    cond (leb count holds) (shownBy run n h t (plainBy v run fit room) (t .refusal)) (overShown v h fit room)
 
-shown : Public → Receiver → List ℕ → Lent → Shown
-shown v h piece lent = shownAs v (h .count) (runOf h piece) (length (fitting h piece)) h lent
+shown : Public → Receiver → List ℕ → Bool → List ℕ → Shown
+shown v h piece fit room = shownAs v (h .count) (runOf h piece) (length (fitting h piece)) h fit room
 
 showing : Shown → Guarded → Handed
 showing s g = record { told = s .told; after = line (reader (s .plain) g) (s .receiver) }
 
 locked-receive : (σ : Shape) (r : Reader) (h : Receiver) → T (legal σ r) → T (locked (r .plain)) → (piece : List ℕ) (lent : Lent)
-    → receiveOf σ (line r h) piece lent ≡ showing (shown (publicOf r) h piece lent) (r .guarded)
+    → receiveOf σ (line r h) piece lent ≡ showing (shown (publicOf r) h piece (fitChip (capacity (r .guarded)) (lent .chip)) (lent .room)) (r .guarded)
 unfolding shown shownAs shownBy overShown showing handed refused publicOf
 locked-receive σ r h f l piece lent = go (leb (h .count) holds) refl
   where
     x : Line
     x = line r h
 
+    fit : Bool
+    fit = fitChip (capacity (r .guarded)) (lent .chip)
+
     by : (t : Told) (p : Plain) (k : ℕ)
         → handedBy x piece record { told = t; after = reader p (r .guarded) } k ≡ showing (shownBy (runOf h piece) (length (fitting h piece)) h t p k) (r .guarded)
     by t p zero = refl
     by t p (suc k) = refl
 
-    go : (b : Bool) → leb (h .count) holds ≡ b → receiveOf σ x piece lent ≡ showing (shown (publicOf r) h piece lent) (r .guarded)
+    go : (b : Bool) → leb (h .count) holds ≡ b → receiveOf σ x piece lent ≡ showing (shown (publicOf r) h piece fit (lent .room)) (r .guarded)
     go true e =
         let run : List ℕ = runOf h piece in
-        let t : Told = toldBy (publicOf r) run lent in
-        rw e (receive-call σ x piece lent e ∙ ap (λ (c : Ended). handedBy x piece c (c .told .refusal)) (locked-call σ r f l run lent) ∙ by t (plainBy (publicOf r) run lent) (t .refusal))
+        let t : Told = toldBy (publicOf r) run fit (lent .room) in
+        rw e (receive-call σ x piece lent e ∙ ap (λ (c : Ended). handedBy x piece c (c .told .refusal)) (locked-call σ r f l run lent) ∙ by t (plainBy (publicOf r) run fit (lent .room)) (t .refusal))
     go false e = rw e (receive-over σ x piece lent e ∙ ap (λ (k : ℕ). declined (overfull k) x (lent .room)) (refusal-legal σ r lent f))
 
 -- the settings stay, but for a right password
-shown-or : (v : Public) → v .plain .verified ≡ false → (h : Receiver) (piece : List ℕ) (lent : Lent) → shown v h piece lent .plain .verified ≡ false → shown v h piece lent .plain ≡ v .plain
+shown-or : (v : Public) → v .plain .verified ≡ false → (h : Receiver) (piece : List ℕ) (fit : Bool) (room : List ℕ) → shown v h piece fit room .plain .verified ≡ false
+    → shown v h piece fit room .plain ≡ v .plain
 unfolding shown shownAs shownBy overShown
-shown-or v e h piece lent = go (leb (h .count) holds)
+shown-or v e h piece fit room = go (leb (h .count) holds)
   where
     t : Told
-    t = toldBy v (runOf h piece) lent
+    t = toldBy v (runOf h piece) fit room
 
     p : Plain
-    p = plainBy v (runOf h piece) lent
+    p = plainBy v (runOf h piece) fit room
 
     shows : ℕ → Shown
     shows k = shownBy (runOf h piece) (length (fitting h piece)) h t p k
@@ -140,8 +145,8 @@ shown-or v e h piece lent = go (leb (h .count) holds)
     by zero = refl
     by (suc k) = refl
 
-    go : (b : Bool) → cond b (shows (t .refusal)) (overShown v h lent) .plain .verified ≡ false → cond b (shows (t .refusal)) (overShown v h lent) .plain ≡ v .plain
-    go true z = by (t .refusal) ∙ plain-or v e (runOf h piece) lent (ap (λ (q : Plain). q .verified) (sym (by (t .refusal))) ∙ z)
+    go : (b : Bool) → cond b (shows (t .refusal)) (overShown v h fit room) .plain .verified ≡ false → cond b (shows (t .refusal)) (overShown v h fit room) .plain ≡ v .plain
+    go true z = by (t .refusal) ∙ plain-or v e (runOf h piece) fit room (ap (λ (q : Plain). q .verified) (sym (by (t .refusal))) ∙ z)
     go false z = refl
 
 -- equal held bytes, whatever lies in the cells past them
@@ -154,22 +159,22 @@ record SameShown (a b : Shown) : Type 0 where
   plain : a .plain ≡ b .plain
   receiver : SameHeld (a .receiver) (b .receiver)
 
-same-shown : (v : Public) (y z : Receiver) → SameHeld y z → (piece : List ℕ) (lent : Lent) → SameShown (shown v y piece lent) (shown v z piece lent)
+same-shown : (v : Public) (y z : Receiver) → SameHeld y z → (piece : List ℕ) (fit : Bool) (room : List ℕ) → SameShown (shown v y piece fit room) (shown v z piece fit room)
 unfolding shown shownAs shownBy overShown fitting runOf
-same-shown v y z h piece lent =
+same-shown v y z h piece fit room =
     let fits : ℕ → List ℕ = λ n. take (holds - n) piece in
-    subst (λ (a : ℕ × (List ℕ × ℕ)). SameShown (shownAs v (a .0) (a .1 .0) (a .1 .1) y lent) (shown v z piece lent))
+    subst (λ (a : ℕ × (List ℕ × ℕ)). SameShown (shownAs v (a .0) (a .1 .0) (a .1 .1) y fit room) (shown v z piece fit room))
     (λ j. (sym (h .count) j, (sym (h .bytes) j ++ fits (sym (h .count) j), length (fits (sym (h .count) j))))) (go (leb (z .count) holds))
   where
     shows : Receiver → ℕ → Shown
-    shows x k = shownBy (runOf z piece) (length (fitting z piece)) x (toldBy v (runOf z piece) lent) (plainBy v (runOf z piece) lent) k
+    shows x k = shownBy (runOf z piece) (length (fitting z piece)) x (toldBy v (runOf z piece) fit room) (plainBy v (runOf z piece) fit room) k
 
     same : (k : ℕ) → SameShown (shows y k) (shows z k)
     same zero = record { told = refl; plain = refl; receiver = record { count = refl; bytes = refl } }
     same (suc k) = record { told = refl; plain = refl; receiver = h }
 
-    go : (b : Bool) → SameShown (cond b (shows y (toldBy v (runOf z piece) lent .refusal)) (overShown v y lent)) (cond b (shows z (toldBy v (runOf z piece) lent .refusal)) (overShown v z lent))
-    go true = same (toldBy v (runOf z piece) lent .refusal)
+    go : (b : Bool) → SameShown (cond b (shows y (toldBy v (runOf z piece) fit room .refusal)) (overShown v y fit room)) (cond b (shows z (toldBy v (runOf z piece) fit room .refusal)) (overShown v z fit room))
+    go true = same (toldBy v (runOf z piece) fit room .refusal)
     go false = record { told = refl; plain = refl; receiver = h }
 
 quiet : Told
@@ -185,67 +190,86 @@ locked-switched σ r h f l =
 
 -- ---- the second half
 
--- two talks that got back the same over the same events, from readers with the contents g and h
-pub record ReceiverBlind (g h : Guarded) (d e : Talk) : Type 0 where
-  pub events : d .events ≡ e .events
+-- two talks that got back the same, over events that are paired, from readers of c pages with the contents g and h
+pub record ReceiverBlind (c : ℕ) (g h : Guarded) (d e : Talk) : Type 0 where
+  pub events : Paired c (d .events) (e .events)
   pub told : d .told ≡ e .told
   pub settings : d .last .reader .plain ≡ e .last .reader .plain
   pub held : SameHeld (d .last .receiver) (e .last .receiver)
   pub kept-one : d .last .reader .guarded ≡ kept g (d .events)
   pub kept-other : e .last .reader .guarded ≡ kept h (e .events)
 
-module _ (σ : Shape) (p : Plain) (l : T (locked p)) where
+module _ (σ : Shape) (c : ℕ) (p : Plain) (l : T (locked p)) where
   unverified : (g : Guarded) → T (legal σ (reader p g)) → p .verified ≡ false
   unverified g f = shut-of σ (reader p g) f l .unverified
 
-  blind : (es : List Event) (y z : Receiver) → SameHeld y z → (g h : Guarded) → T (legal σ (reader p g)) → T (legal σ (reader p h)) → publicOf (reader p g) ≡ publicOf (reader p h)
-      → ReceiverBlind g h (talk σ (line (reader p g) y) es) (talk σ (line (reader p h) z) es)
-  unfolding talk onLine endsAt begins kept publicOf wiped capacity showing
-  blind [] y z w g h f k v = record { events = refl; told = refl; settings = refl; held = w; kept-one = refl; kept-other = refl }
-  blind (received piece lent ∷ es) y z w g h f k v =
-      rw (locked-receive σ (reader p g) y f l piece lent, locked-receive σ (reader p h) z k l piece lent, ← v, ← same .told, ← same .plain)
-      (go (s .plain .verified) refl (blind es (s .receiver) (u .receiver) (same .receiver) g h f k v))
+  -- what is public of both
+  v : Public
+  v = record { plain = p; capacity = c }
+
+  call-shows : (g : Guarded) → capacity g ≡ c → T (legal σ (reader p g)) → (h : Receiver) (piece : List ℕ) (lent : Lent)
+      → receiveOf σ (line (reader p g) h) piece lent ≡ showing (shown v h piece (fitChip c (lent .chip)) (lent .room)) g
+  unfolding publicOf v
+  call-shows g e f h piece lent =
+      locked-receive σ (reader p g) h f l piece lent ∙ ap (λ (n : ℕ). showing (shown record { plain = p; capacity = n } h piece (fitChip n (lent .chip)) (lent .room)) g) e
+
+  blind : (es fs : List Event) → Paired c es fs → (y z : Receiver) → SameHeld y z → (g h : Guarded) → capacity g ≡ c → capacity h ≡ c → T (legal σ (reader p g)) → T (legal σ (reader p h))
+      → ReceiverBlind c g h (talk σ (line (reader p g) y) es) (talk σ (line (reader p h) z) fs)
+  unfolding talk onLine endsAt begins kept wiped capacity showing v
+  blind [] [] q y z w g h m n f k = record { events = tt; told = refl; settings = refl; held = w; kept-one = refl; kept-other = refl }
+  blind [] (e ∷ fs) q y z w g h m n f k = absurd q
+  blind (e ∷ es) [] q y z w g h m n f k = absurd q
+  blind (received piece one ∷ es) (switch ∷ fs) q y z w g h m n f k = absurd q
+  blind (switch ∷ es) (received piece other ∷ fs) q y z w g h m n f k = absurd q
+  blind (received piece one ∷ es) (received piece′ other ∷ fs) (run, (room, (chip, more))) y z w g h m n f k =
+      rw (call-shows g m f y piece one, there, ← same .told, ← same .plain) (go (s .plain .verified) refl (blind es fs more (s .receiver) (u .receiver) (same .receiver) g h m n f k))
     where
+      fit : Bool
+      fit = fitChip c (one .chip)
+
       s : Shown
-      s = shown (publicOf (reader p g)) y piece lent
+      s = shown v y piece fit (one .room)
 
       u : Shown
-      u = shown (publicOf (reader p g)) z piece lent
+      u = shown v z piece fit (one .room)
 
       same : SameShown s u
-      same = same-shown (publicOf (reader p g)) y z w piece lent
+      same = same-shown v y z w piece fit (one .room)
 
-      rest : Bool → Plain → Guarded → Receiver → Talk
-      rest b q c x = cond b (endsAt (line (reader q c) x)) (talk σ (line (reader q c) x) es)
+      there : receiveOf σ (line (reader p h) z) piece′ other ≡ showing u h
+      there = call-shows h n k z piece′ other ∙ (λ j. showing (shown v z (sym run j) (sym chip j) (sym room j)) h)
 
-      go : (b : Bool) → s .plain .verified ≡ b → ReceiverBlind g h (talk σ (line (reader p g) (s .receiver)) es) (talk σ (line (reader p h) (u .receiver)) es)
-          → ReceiverBlind g h (begins (received piece lent) (s .told) (rest b (s .plain) g (s .receiver))) (begins (received piece lent) (s .told) (rest b (s .plain) h (u .receiver)))
-      go true e i = record { events = refl; told = refl; settings = refl; held = same .receiver; kept-one = refl; kept-other = refl }
+      rest : List Event → Bool → Plain → Guarded → Receiver → Talk
+      rest xs b q c x = cond b (endsAt (line (reader q c) x)) (talk σ (line (reader q c) x) xs)
+
+      go : (b : Bool) → s .plain .verified ≡ b → ReceiverBlind c g h (talk σ (line (reader p g) (s .receiver)) es) (talk σ (line (reader p h) (u .receiver)) fs)
+          → ReceiverBlind c g h (begins (received piece one) (s .told) (rest es b (s .plain) g (s .receiver))) (begins (received piece′ other) (s .told) (rest fs b (s .plain) h (u .receiver)))
+      go true e i = record { events = (run, (room, (chip, tt))); told = refl; settings = refl; held = same .receiver; kept-one = refl; kept-other = refl }
       go false e i =
-          subst (λ (q : Plain). ReceiverBlind g h (begins (received piece lent) (s .told) (rest false q g (s .receiver))) (begins (received piece lent) (s .told) (rest false q h (u .receiver))))
-          (sym (shown-or (publicOf (reader p g)) (unverified g f) y piece lent e))
+          subst (λ (q : Plain). ReceiverBlind c g h (begins (received piece one) (s .told) (rest es false q g (s .receiver))) (begins (received piece′ other) (s .told) (rest fs false q h (u .receiver))))
+          (sym (shown-or v (unverified g f) y piece fit (one .room) e))
           record {
-            events = ap (λ (x : List Event). received piece lent ∷ x) (i .events);
+            events = (run, (room, (chip, i .events)));
             told = ap (λ (x : List Told). s .told ∷ x) (i .told);
             settings = i .settings;
             held = i .held;
             kept-one = i .kept-one;
             kept-other = i .kept-other;
           }
-  blind (switch ∷ es) y z w g h f k v =
+  blind (switch ∷ es) (switch ∷ fs) q y z w g h m n f k =
       rw (locked-switched σ (reader p g) y f l, locked-switched σ (reader p h) z k l)
       (go (p .verified) (unverified g f)
-      (blind es (holding []) (holding []) record { count = refl; bytes = refl } (wiped g) (wiped h) (wiped-legal σ (reader p g) f l) (wiped-legal σ (reader p h) k l) v))
+      (blind es fs q (holding []) (holding []) record { count = refl; bytes = refl } (wiped g) (wiped h) m n (wiped-legal σ (reader p g) f l) (wiped-legal σ (reader p h) k l)))
     where
       next : Guarded → Line
       next c = line (reader p (wiped c)) (holding [])
 
-      go : (b : Bool) → b ≡ false → ReceiverBlind (wiped g) (wiped h) (talk σ (next g) es) (talk σ (next h) es)
-          → ReceiverBlind g h (begins switch quiet (cond b (endsAt (next g)) (talk σ (next g) es))) (begins switch quiet (cond b (endsAt (next h)) (talk σ (next h) es)))
+      go : (b : Bool) → b ≡ false → ReceiverBlind c (wiped g) (wiped h) (talk σ (next g) es) (talk σ (next h) fs)
+          → ReceiverBlind c g h (begins switch quiet (cond b (endsAt (next g)) (talk σ (next g) es))) (begins switch quiet (cond b (endsAt (next h)) (talk σ (next h) fs)))
       go true e i = absurd (true≢false e)
       go false e i =
           record {
-            events = ap (λ (x : List Event). switch ∷ x) (i .events);
+            events = i .events;
             told = ap (λ (x : List Told). quiet ∷ x) (i .told);
             settings = i .settings;
             held = i .held;
@@ -253,13 +277,12 @@ module _ (σ : Shape) (p : Plain) (l : T (locked p)) where
             kept-other = i .kept-other;
           }
 
--- legal locked readers of equal capacity and equal settings but for the filled marks and the origins, with equal held bytes
+-- legal locked readers of equal capacity and equal settings but for the filled marks, the origins and status bit 1, with equal held bytes
 pub receiver-second-half : (σ : Shape) (r t : Reader) (y z : Receiver) → T (legal σ r) → T (legal σ t) → T (locked (r .plain)) → r .plain ≡ t .plain → capacity (r .guarded) ≡ capacity (t .guarded)
-    → SameHeld y z → (es : List Event) → ReceiverBlind (r .guarded) (t .guarded) (talk σ (line r y) es) (talk σ (line t z) es)
-unfolding publicOf
-receiver-second-half σ r t y z f k l e c w es =
+    → SameHeld y z → (es fs : List Event) → Paired (capacity (r .guarded)) es fs
+    → ReceiverBlind (capacity (r .guarded)) (r .guarded) (t .guarded) (talk σ (line r y) es) (talk σ (line t z) fs)
+receiver-second-half σ r t y z f k l e c w es fs paired =
     let copy : Reader = reader (r .plain) (t .guarded) in
     let same : copy ≡ t = ap (λ (p : Plain). reader p (t .guarded)) e in
-    subst (λ (x : Reader). ReceiverBlind (r .guarded) (t .guarded) (talk σ (line r y) es) (talk σ (line x z) es)) same
-    (blind σ (r .plain) l es y z w (r .guarded) (t .guarded) f (subst (λ (x : Reader). T (legal σ x)) (sym same) k)
-    (ap (λ (n : ℕ). record { plain = r .plain; capacity = n }) c))
+    subst (λ (x : Reader). ReceiverBlind (capacity (r .guarded)) (r .guarded) (t .guarded) (talk σ (line r y) es) (talk σ (line x z) fs)) same
+    (blind σ (capacity (r .guarded)) (r .plain) l es fs paired y z w (r .guarded) (t .guarded) refl (sym c) f (subst (λ (x : Reader). T (legal σ x)) (sym same) k))

@@ -9,7 +9,7 @@ use Rattle.protocol.specs.declared.Switched.{Switched}
 use Rattle.protocol.specs.declared.Built.{Built}
 use Rattle.protocol.specs.declared.Received.{Received}
 use Rattle.protocol.specs.declared.Emptied.{Emptied}
-use Rattle.protocol.specs.Records.{transferOf, originOf, readerOf, endedOf, switchedOf, receivedOf, emptiedOf, madeOf}
+use Rattle.protocol.specs.Records.{transferOf, originOf, readerOf, lentOf, endedOf, switchedOf, receivedOf, emptiedOf, madeOf}
 
 -- settings; templates, index, notepad, buffers 1 and 2. `transferOf` and `originOf` are in Words
 pub reader-is : (s : Settings) (t i n b d : List ℕ) → readerOf s t i n b d
@@ -25,7 +25,7 @@ pub reader-is : (s : Settings) (t i n b d : List ℕ) → readerOf s t i n b d
             verified = s .verified;
             transfer = transferOf (s .transfer) (s .got);
           };
-      guarded = record { templates = t; index = i; notepad = n; buffer1 = record { bytes = b; filled = s .filled1; origin = originOf (s .origin1) }; buffer2 = record { bytes = d; filled = s .filled2; origin = originOf (s .origin2) } };
+      guarded = record { templates = t; index = i; notepad = n; buffer1 = record { bytes = b; filled = s .filled1; origin = originOf (s .origin1) }; buffer2 = record { bytes = d; filled = s .filled2; origin = originOf (s .origin2) }; found = s .found };
     }
 reader-is s t i n b d = refl
 
@@ -51,6 +51,10 @@ receive-is c t i n b d room = refl
 pub emptied-is : (c : Emptied) (t i n b d : List ℕ) → emptiedOf c t i n b d
     ≡ record { told = record { refusal = c .refusal; used = 0; length = 0; room = [] }; after = record { reader = readerOf (c .settings) t i n b d; receiver = c .receiver } }
 emptied-is c t i n b d = refl
+
+-- what is lent anew: scores, thresholds, reply room
+pub lent-is : (scores thresholds room : List ℕ) → lentOf scores thresholds room ≡ record { chip = record { scores = scores; thresholds = thresholds }; room = room }
+lent-is scores thresholds room = refl
 
 -- the builder
 pub build-is : (m : Built) (room : List ℕ) → madeOf m room ≡ record { refusal = m .refusal; length = m .length; room = room }

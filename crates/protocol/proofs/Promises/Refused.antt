@@ -4,14 +4,14 @@
 use mathlib.Core.Path.{_≡_, refl}
 use mathlib.Core.Logic.{_↔_}
 use mathlib.Core.List.{List, [], _∷_}
-use Prim.Native.Nat.{ℕ, zero, suc, _+_, _≤_}
+use Prim.Native.Nat.{ℕ, zero, suc, _+_, _*_, _≤_}
 use native.Mathlib.Omega.{arith}
-use lib.Dec.{T, leb, leb→le, le→leb, eqb→eq}
+use lib.Dec.{T, eqb, leb, leb→le, le→leb, eqb→eq}
 use lib.ListN.{length, drop}
 use Rattle.protocol.specs.Packet.{lengthOf, packet, accepts, Made, buildRefusal, buildAs, buildOf}
-use Rattle.protocol.specs.Reader.{Reader}
-use Rattle.protocol.specs.Call.{core, Lent, fitLent, fitLengths, fitBuffers, fitRoom, sound, Ended, refusalOf, refused, carried, callAs, callOf, switchRefusal, switchAs, switchOf}
-use Rattle.protocol.proofs.Laws.Logic.{and-l, and-r}
+use Rattle.protocol.specs.Reader.{Reader, capacity}
+use Rattle.protocol.specs.Call.{core, Lent, fitLent, fitChip, fitLengths, fitBuffers, fitRoom, sound, Ended, refusalOf, refused, carried, callAs, callOf, switchRefusal, switchAs, switchOf}
+use Rattle.protocol.proofs.Laws.Logic.{and-l, and-r, and-i, eq→eqb}
 use Rattle.protocol.proofs.Laws.Lines.{Line, unless, Follows, follows}
 use Rattle.protocol.proofs.Laws.Lists.{drop-lay}
 use Rattle.protocol.proofs.Laws.Finder.{length-packet}
@@ -33,13 +33,36 @@ abbrev pub Ends : Reader → List ℕ → Ended → ℕ → Type 0
 Ends r lent e zero = e .told .refusal ≡ 0
 Ends r lent e (suc n) = Unused lent e (suc n) × (e .after ≡ r)
 
+-- request [8]: "1 for scores not C long or thresholds not five"
+pub record ChipLengths (r : Reader) (lent : Lent) : Type 0 where
+  pub scores : (c : ℕ) → length (r .guarded .templates) ≡ 512 * c → length (lent .chip .scores) ≡ c
+  pub thresholds : length (lent .chip .thresholds) ≡ 5
+
 -- "1: a lent length, the reply room's apart"; "2: reply room below 700"; "3: a setting or transfer is not legal, or an index bit at or above C is set"
 abbrev pub call-lines : Reader → Lent → List Line
-call-lines r lent = unless (Lengths (r .guarded)) 1 ∷ unless (700 ≤ length (lent .room)) 2 ∷ unless (Settled r) 3 ∷ []
+call-lines r lent = unless (Lengths (r .guarded)) 1 ∷ unless (ChipLengths r lent) 1 ∷ unless (700 ≤ length (lent .room)) 2 ∷ unless (Settled r) 3 ∷ []
 
-pub fit-room : (lent : Lent) → T (fitLent lent) ↔ (700 ≤ length (lent .room))
+pub chip-mean : (r : Reader) (lent : Lent) → Lengths (r .guarded) → T (fitChip (capacity (r .guarded)) (lent .chip)) ↔ ChipLengths r lent
+unfolding fitChip capacity
+chip-mean r lent m = (
+  λ t.
+      (let e = eqb→eq (length (lent .chip .scores)) (capacity (r .guarded)) (search (and-l)) in
+      record { scores = λ c l. omega arith; thresholds = eqb→eq (length (lent .chip .thresholds)) 5 (search (and-r)) }),
+  λ k.
+      (let e : length (lent .chip .scores) ≡ capacity (r .guarded) = k .scores (capacity (r .guarded)) (omega (arith, m .templates)) in
+      and-i (eqb (length (lent .chip .scores)) (capacity (r .guarded))) (eqb (length (lent .chip .thresholds)) 5) (eq→eqb _ _ e) (eq→eqb _ _ (k .thresholds))),
+)
+
+pub fit-room : (lent : Lent) → T (fitRoom (lent .room)) ↔ (700 ≤ length (lent .room))
 unfolding fitRoom
 fit-room lent = (leb→le 700 (length (lent .room)), le→leb 700 (length (lent .room)))
+
+-- what is lent anew is fit
+pub fit-lent : (r : Reader) (lent : Lent) → Lengths (r .guarded) → T (fitLent (capacity (r .guarded)) lent) ↔ (ChipLengths r lent × (700 ≤ length (lent .room)))
+fit-lent r lent m = (
+  λ t. (chip-mean r lent m .0 (search (and-l)), fit-room lent .0 (search (and-r))),
+  λ k. and-i (fitChip (capacity (r .guarded)) (lent .chip)) (fitRoom (lent .room)) (chip-mean r lent m .1 (k .0)) (fit-room lent .1 (k .1)),
+)
 
 module _ (r : Reader) (s : List ℕ) (lent : Lent) where
   called : (n : ℕ) → Ends r (lent .room) (callAs r s lent n) n
@@ -51,15 +74,17 @@ module _ (r : Reader) (s : List ℕ) (lent : Lent) where
   pub call-refusals : Follows (call-lines r lent) (Ends r (lent .room) (callOf core r s lent))
   unfolding callOf refusalOf
   call-refusals =
-      follows ((fitLengths core (r .guarded), 1) ∷ (fitLent lent, 2) ∷ (sound r, 3) ∷ []) (call-lines r lent) (Ends r (lent .room) (callOf core r s lent))
-      (lengths-mean (r .guarded), (refl, λ m. (fit-room lent, (refl, λ u. (settings-mean r m, (refl, λ k. tt)))))) (called (refusalOf core r lent))
+      follows ((fitLengths core (r .guarded), 1) ∷ (fitChip (capacity (r .guarded)) (lent .chip), 1) ∷ (fitRoom (lent .room), 2) ∷ (sound r, 3) ∷ []) (call-lines r lent) (Ends r (lent .room) (callOf core r s lent))
+      (lengths-mean (r .guarded), (refl, λ m. (chip-mean r lent m, (refl, λ h. (fit-room lent, (refl, λ u. (settings-mean r m, (refl, λ k. tt)))))))) (called (refusalOf core r lent))
 
-  -- and a call that is not refused had a legal reader and a reply room of at least 700 bytes
-  pub refuses-only : callOf core r s lent .told .refusal ≡ 0 → Means r × (700 ≤ length (lent .room))
+  -- and a call that is not refused had a legal reader, a score for each page, five thresholds, and a reply room of at least 700 bytes
+  pub refuses-only : callOf core r s lent .told .refusal ≡ 0 → Means r × (ChipLengths r lent × (700 ≤ length (lent .room)))
   unfolding refused
   refuses-only =
-      call-kinds core r s lent (λ (e : Ended). e .told .refusal ≡ 0 → Means r × (700 ≤ length (lent .room))) (λ n e. absurd (omega arith))
-      (λ t u e. (legal-means r t, fit-room lent .0 u))
+      call-kinds core r s lent (λ (e : Ended). e .told .refusal ≡ 0 → Means r × (ChipLengths r lent × (700 ≤ length (lent .room)))) (λ n e. absurd (omega arith))
+      (λ t u e.
+      let m = legal-means r t in
+      (m, (chip-mean r lent (m .lengths) .0 (search (and-l)), fit-room lent .0 (search (and-r)))))
 
 -- ---- the line switch
 

@@ -1,5 +1,5 @@
 -- Document 01's table of commands, its tests: each row's, left to right, with the code that it gives where it fails. One table under one statement.
-use mathlib.Core.Bool.{Bool, true, false, _&&_, not}
+use mathlib.Core.Bool.{Bool, true, false, _&&_, not, cond}
 use mathlib.Core.Path.{_≡_, refl, sym, ap, _∙_, subst}
 use mathlib.Core.Logic.{_⊎_, inl, inr, _↔_}
 use mathlib.Core.List.{List, [], _∷_, _++_}
@@ -12,7 +12,8 @@ use Rattle.protocol.specs.Numbers.{highestSize}
 use Rattle.protocol.specs.Tests.{verdict, within}
 use Rattle.protocol.specs.Index.{bit, stored}
 use Rattle.protocol.specs.Reader.{Reader, capacity, locked, bufferOf}
-use Rattle.protocol.specs.Commands.{Barred, store, loadChar, upChar, downChar, deletChar, empty, setSysPara, readSysPara, setPassword, setAddress, writeNotepad, readNotepad, templeteNum, readIndexTable, barred, command}
+use Rattle.protocol.specs.Search.{searchOf, matchCode}
+use Rattle.protocol.specs.Commands.{Barred, searchFor, store, loadChar, upChar, downChar, deletChar, empty, setSysPara, readSysPara, setPassword, setAddress, writeNotepad, readNotepad, templeteNum, readIndexTable, barred, command}
 use Rattle.protocol.specs.Data.{acknowledge}
 use Rattle.protocol.specs.Table.{Row, second, inRange, rule}
 use Rattle.protocol.specs.Step.{order, hear, says, carryAs, rested}
@@ -28,8 +29,9 @@ use Rattle.protocol.proofs.Promises.Told.{Replies, Says, answered, page
 abbrev pub InRange : ℕ → ℕ → Type 0
 InRange k v = (k ≡ 4 → (1 ≤ v) × (v ≤ 12)) × ((k ≡ 5 → (1 ≤ v) × (v ≤ 5)) × (k ≡ 6 → v ≤ 3))
 
--- the table: of the reader t, unless this holds, that code; 22h is request [5]'s, and page 3 of the index request [6]'s
+-- the table: of the reader t, unless this holds, that code; 22h is request [5]'s, page 3 of the index request [6]'s, and Search request [8]'s
 abbrev pub lines : Reader → Barred → List Line
+lines t (searchFor b p n) = unless (Numbered b) 0x01 ∷ unless (p < pages t) 0x0b ∷ unless (buffer b (t .guarded) .filled ≡ true) 0x0c ∷ []
 lines t (store b p) = unless (Numbered b) 0x01 ∷ unless (p < pages t) 0x0b ∷ unless (buffer b (t .guarded) .filled ≡ true) 0x0c ∷ unless (has t p ≡ false) 0x22 ∷ []
 lines t (loadChar b p) = unless (Numbered b) 0x01 ∷ unless (p < pages t) 0x0b ∷ unless (has t p ≡ true) 0x0c ∷ []
 lines t (upChar b) = unless (Numbered b) 0x01 ∷ unless (buffer b (t .guarded) .filled ≡ true) 0x0d ∷ []
@@ -44,6 +46,13 @@ lines t (writeNotepad p b) = unless (p ≤ 15) 0x1c ∷ []
 lines t (readNotepad p) = unless (p ≤ 15) 0x1c ∷ []
 lines t templeteNum = []
 lines t (readIndexTable p) = unless (p ≤ 3) 0x0b ∷ []
+
+-- the command is a Search
+pub record Search (c : Barred) : Type 0 where
+  pub buffer : ℕ
+  pub start : ℕ
+  pub count : ℕ
+  pub asked : c ≡ searchFor buffer start count
 
 -- ---- each test says its line's condition
 
@@ -92,7 +101,7 @@ range k v (inr (inr e)) = rw e (λ t. (λ x. absurd (omega arith), (λ x. absurd
 -- ---- the statement
 
 -- t: the reader once an open transfer has ended
-module _ (r : Reader) (s : List ℕ) (lent : Lent) (f : T (legal core r)) (u : T (fitLent lent)) (l : locked (r .plain) ≡ false) where
+module _ (r : Reader) (s : List ℕ) (lent : Lent) (f : T (legal core r)) (u : T (fitLent (capacity (r .guarded)) lent)) (l : locked (r .plain) ≡ false) where
   abbrev t : Reader
   t = rested r
 
@@ -108,8 +117,9 @@ module _ (r : Reader) (s : List ℕ) (lent : Lent) (f : T (legal core r)) (u : T
   unfolding core
   indexed p = rw (spared r .index, legal-means r f .lengths .index) (λ x. (let h = ltb→lt p 4 x in omega arith), λ h. lt→ltb p 4 (omega arith))
 
-  matches : (c : Barred) → Matches (rule t c .tests) (lines t c)
+  matches : (c : Barred) → Matches (rule (lent .chip) t c .tests) (lines t c)
   unfolding rule capacity stored bit
+  matches (searchFor b p n) = (numbered b, (refl, λ i. (below p (pages t), (refl, λ h. (filled t b i, (refl, λ e. tt))))))
   matches (store b p) = (numbered b, (refl, λ i. (below p (pages t), (refl, λ h. (filled t b i, (refl, λ e. (untruth (has t p), (refl, λ n. tt))))))))
   matches (loadChar b p) = (numbered b, (refl, λ i. (below p (pages t), (refl, λ h. (truth (has t p), (refl, λ e. tt))))))
   matches (upChar b) = (numbered b, (refl, λ i. (filled t b i, (refl, λ e. tt))))
@@ -125,26 +135,54 @@ module _ (r : Reader) (s : List ℕ) (lent : Lent) (f : T (legal core r)) (u : T
   matches templeteNum = tt
   matches (readIndexTable p) = (indexed p, (refl, λ h. tt))
 
-  -- the call is answered 00h, with what may follow it
-  pub record Done : Type 0 where
+  -- the command's own code: 00h, or 09h of a Search
+  abbrev pub Carries : Barred → ℕ → Type 0
+  Carries c code = (code ≡ 0x00) ⊎ ((code ≡ 0x09) × Search c)
+
+  -- the call is answered by it, with what may follow it
+  pub record Done (c : Barred) : Type 0 where
+    pub code : ℕ
+    pub codes : Carries c code
     pub bytes : List ℕ
     pub behind : List ℕ
-    pub told : Replies (acknowledge (called .after .plain .address) 0x00 bytes ++ behind) s lent called
+    pub told : Replies (acknowledge (called .after .plain .address) code bytes ++ behind) s lent called
 
   -- or another code alone, and nothing changes
-  abbrev pub Answers : ℕ → Type 0
-  Answers zero = Done
-  Answers (suc k) = Says t (suc k) s lent called
+  abbrev pub Answers : Barred → ℕ → Type 0
+  Answers c zero = Done c
+  Answers c (suc k) = Says t (suc k) s lent called
 
-  pub rows : (c : Barred) → hear (r .plain .address) s ≡ order (command (barred c)) → Follows (lines t c) Answers
-  unfolding carryAs says
-  rows c h = follows (rule t c .tests) (lines t c) Answers (matches c) (go (verdict (rule t c .tests)) refl)
+  carries : (c : Barred) → Carries c (rule (lent .chip) t c .code)
+  unfolding rule matchCode
+  carries (searchFor b p n) = go (searchOf (lent .chip) (t .plain .level) (t .guarded) p n .found)
     where
-      go : (k : ℕ) → verdict (rule t c .tests) ≡ k → Answers k
+      go : (f : Bool) → Carries (searchFor b p n) (cond f 0x00 0x09)
+      go true = inl refl
+      go false = inr (refl, record { buffer = b; start = p; count = n; asked = refl })
+  carries (store b p) = inl refl
+  carries (loadChar b p) = inl refl
+  carries (upChar b) = inl refl
+  carries (downChar b) = inl refl
+  carries (deletChar p n) = inl refl
+  carries empty = inl refl
+  carries (setSysPara k v) = inl refl
+  carries readSysPara = inl refl
+  carries (setPassword w) = inl refl
+  carries (setAddress a) = inl refl
+  carries (writeNotepad p b) = inl refl
+  carries (readNotepad p) = inl refl
+  carries templeteNum = inl refl
+  carries (readIndexTable p) = inl refl
+
+  pub rows : (c : Barred) → hear (r .plain .address) s ≡ order (command (barred c)) → Follows (lines t c) (Answers c)
+  unfolding carryAs says
+  rows c h = follows (rule (lent .chip) t c .tests) (lines t c) (Answers c) (matches c) (go (verdict (rule (lent .chip) t c .tests)) refl)
+    where
+      go : (k : ℕ) → verdict (rule (lent .chip) t c .tests) ≡ k → Answers c k
       go zero v =
-          let w : Row = rule t c in
-          let g = answered core r s lent f u (carryAs t w zero) (row-answer r s l c h zero v) in
-          let same = follow-append (acknowledge (carryAs t w zero .after .plain .address) 0x00 (w .bytes)) (w .behind) in
-          let now = ap (λ (x : Reader). acknowledge (x .plain .address) 0x00 (w .bytes) ++ w .behind) (sym (g .after)) in
-          record { bytes = w .bytes; behind = w .behind; told = subst (λ (x : List ℕ). Replies x s lent called) (same ∙ now) (g .told) }
-      go (suc k) v = answered core r s lent f u (says t (suc k)) (row-answer r s l c h (suc k) v)
+          let w : Row = rule (lent .chip) t c in
+          let g = answered core r s lent f u (carryAs t w zero) (row-answer (lent .chip) r s l c h zero v) in
+          let same = follow-append (acknowledge (carryAs t w zero .after .plain .address) (w .code) (w .bytes)) (w .behind) in
+          let now = ap (λ (x : Reader). acknowledge (x .plain .address) (w .code) (w .bytes) ++ w .behind) (sym (g .after)) in
+          record { code = w .code; codes = carries c; bytes = w .bytes; behind = w .behind; told = subst (λ (x : List ℕ). Replies x s lent called) (same ∙ now) (g .told) }
+      go (suc k) v = answered core r s lent f u (says t (suc k)) (row-answer (lent .chip) r s l c h (suc k) v)

@@ -23,7 +23,7 @@ use Rattle.protocol.proofs.Laws.Answers.{obeys}
 use Rattle.protocol.proofs.Promises.Told.{Gives, answered, word, pages}
 
 -- p and g: settings and contents of the reader once an open transfer has ended
-module _ (σ : Shape) (r : Reader) (s : List ℕ) (lent : Lent) (f : T (legal σ r)) (u : T (fitLent lent)) (l : locked (r .plain) ≡ false) where
+module _ (σ : Shape) (r : Reader) (s : List ℕ) (lent : Lent) (f : T (legal σ r)) (u : T (fitLent (capacity (r .guarded)) lent)) (l : locked (r .plain) ≡ false) where
   abbrev p : Plain
   p = rested r .plain
 
@@ -37,9 +37,9 @@ module _ (σ : Shape) (r : Reader) (s : List ℕ) (lent : Lent) (f : T (legal σ
   abbrev Ends : List ℕ → List ℕ → Plain → Guarded → Type 0
   Ends address bytes q h = Gives (acknowledge address 0x00 bytes) record { plain = q; guarded = h } s lent (callOf σ r s lent)
 
-  given : (c : Barred) → Asks c → T (passed (rule (rested r) c .tests))
-      → Gives (carryAs (rested r) (rule (rested r) c) zero .reply) (carryAs (rested r) (rule (rested r) c) zero .after) s lent (callOf σ r s lent)
-  given c h d = answered σ r s lent f u (carryAs (rested r) (rule (rested r) c) zero) (obeys r s l c h d)
+  given : (c : Barred) → Asks c → T (passed (rule (lent .chip) (rested r) c .tests))
+      → Gives (carryAs (rested r) (rule (lent .chip) (rested r) c) zero .reply) (carryAs (rested r) (rule (lent .chip) (rested r) c) zero .after) s lent (callOf σ r s lent)
+  given c h d = answered σ r s lent f u (carryAs (rested r) (rule (lent .chip) (rested r) c) zero) (obeys (lent .chip) r s l c h d)
 
   range : (a v b : ℕ) → a ≤ v → v ≤ b → T (within a v b && true)
   unfolding within
@@ -72,10 +72,11 @@ module _ (σ : Shape) (r : Reader) (s : List ℕ) (lent : Lent) (f : T (legal σ
   unfolding carryAs follow rule apply inRange withParameter withTuning within highestSize
   sets-size v h m = given (setSysPara 6 v) h (and-i (leb v 3) true (le→leb v 3 m) tt)
 
-  -- ReadSysPara: 16 bytes: status, type, C, level, address, size code, baud factor; the status word is 4 if the verified mark is set, otherwise 0
+  -- ReadSysPara: 16 bytes: status, type, C, level, address, size code, baud factor; the status word is 4 if the verified mark is set, otherwise 0, and by request [8]
+  -- 2 more if status bit 1 is
   pub reads-parameters : Asks readSysPara
       → Ends (p .address)
-      (word (cond (p .verified) 4 0) ++ (word (p .sensor) ++ (word (pages (rested r)) ++ (word (p .level) ++ (p .address ++ (word (p .size) ++ word (p .baud))))))) p g
+      (word (cond (p .verified) 4 0 + cond (g .found) 2 0) ++ (word (p .sensor) ++ (word (pages (rested r)) ++ (word (p .level) ++ (p .address ++ (word (p .size) ++ word (p .baud))))))) p g
   unfolding carryAs follow rule apply joined two statusOf capacity
   reads-parameters h = given readSysPara h tt
 
@@ -104,6 +105,7 @@ module _ (σ : Shape) (r : Reader) (s : List ℕ) (lent : Lent) (f : T (legal σ
         notepad = take (32 * q) (g .notepad) ++ (b ++ drop (32 * q + length b) (g .notepad));
         buffer1 = g .buffer1;
         buffer2 = g .buffer2;
+        found = g .found;
       }
   unfolding carryAs follow rule apply withNotepad lay
   writes-note q b h d = given (writeNotepad q b) h (noted q d)

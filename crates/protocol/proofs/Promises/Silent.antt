@@ -9,7 +9,7 @@ use Rattle.protocol.specs.declared.Found.the-variants.{Whole}
 use Rattle.protocol.specs.Bytes.{same}
 use Rattle.protocol.specs.Packet.{addressAt, identifierAt}
 use Rattle.protocol.specs.Finder.{findOf}
-use Rattle.protocol.specs.Reader.{Reader}
+use Rattle.protocol.specs.Reader.{Reader, capacity}
 use Rattle.protocol.specs.Step.{Heard, nothing, hearAs, hearAt, hear, silence, answer}
 use Rattle.protocol.specs.Call.{Shape, Lent, fitLent, legal, callOf}
 use Rattle.protocol.proofs.Laws.Lists.{same-no}
@@ -19,7 +19,7 @@ either : (b : Bool) → cond {A = Heard} b nothing nothing ≡ nothing
 either true = refl
 either false = refl
 
-module _ (σ : Shape) (r : Reader) (s : List ℕ) (lent : Lent) (f : T (legal σ r)) (u : T (fitLent lent)) (p n : ℕ) (w : findOf s ≡ Whole p n) where
+module _ (σ : Shape) (r : Reader) (s : List ℕ) (lent : Lent) (f : T (legal σ r)) (u : T (fitLent (capacity (r .guarded)) lent)) (p n : ℕ) (w : findOf s ≡ Whole p n) where
   -- silent, nothing changes
   abbrev pub Silence : Type 0
   Silence = Gives [] r s lent (callOf σ r s lent)

@@ -7,8 +7,9 @@ use Prim.Native.Nat.{ℕ, zero, suc}
 use lib.Dec.{T}
 use Rattle.protocol.specs.Tests.{within}
 use Rattle.protocol.specs.Reader.{Reader, fresh, sizeOf, withMark, withTransfer, withTuning, withPassword, withAddress}
-use Rattle.protocol.specs.Commands.{Free, verifyPassword, handShake, Barred, store, loadChar, upChar, downChar, deletChar, empty, setSysPara, readSysPara, setPassword, setAddress, writeNotepad, readNotepad, templeteNum, readIndexTable, barred, command}
+use Rattle.protocol.specs.Commands.{Free, verifyPassword, handShake, Barred, searchFor, store, loadChar, upChar, downChar, deletChar, empty, setSysPara, readSysPara, setPassword, setAddress, writeNotepad, readNotepad, templeteNum, readIndexTable, barred, command}
 use Rattle.protocol.specs.Bytes.{follow}
+use Rattle.protocol.specs.Search.{Chip}
 use Rattle.protocol.specs.Data.{acknowledge}
 use Rattle.protocol.specs.Table.{rule, apply, freeRule, publicOf, withParameter}
 use Rattle.protocol.specs.Step.{Heard, order, hear, Said, silence, says, carryAs, carryFree, rested, takeAs, answer, stepOf, switched}
@@ -43,8 +44,8 @@ Unset σ r [] = Unit {0}
 Unset σ r (received s lent ∷ es) = Denied r (hear (r .plain .address) s) (replyOf (callOf σ r s lent .told)) × Unset σ (callOf σ r s lent .after) es
 Unset σ r (switch ∷ es) = Unset σ (switchOf r .after) es
 
-module _ (r : Reader) (h : Heard) where
-  set-keeps : (k v : ℕ) → h ≡ order (command (barred (setSysPara k v))) → T (within 4 k 6) → Denied r h (carryAs (rested r) (rule (rested r) (setSysPara k v)) zero .reply)
+module _ (χ : Chip) (r : Reader) (h : Heard) where
+  set-keeps : (k v : ℕ) → h ≡ order (command (barred (setSysPara k v))) → T (within 4 k 6) → Denied r h (carryAs (rested r) (rule χ (rested r) (setSysPara k v)) zero .reply)
       → withParameter k v (rested r .plain) .size ≡ rested r .plain .size
   unfolding withParameter withTuning carryAs rule apply follow
   set-keeps k v e t u = go (parameter k .0 t)
@@ -57,10 +58,11 @@ module _ (r : Reader) (h : Heard) where
           (u v (e ∙ ap (λ (j : ℕ). order (command (barred (setSysPara j v)))) q)
           (rw q (ap (λ (b : List ℕ). acknowledge b 0x00 []) (spared r .address))))
 
-  does-keeps : (c : Barred) → h ≡ order (command (barred c)) → T (passed (rule (rested r) c .tests)) → Denied r h (carryAs (rested r) (rule (rested r) c) zero .reply)
-      → apply (rule (rested r) c .effect) (rested r) .plain .size ≡ rested r .plain .size
+  does-keeps : (c : Barred) → h ≡ order (command (barred c)) → T (passed (rule χ (rested r) c .tests)) → Denied r h (carryAs (rested r) (rule χ (rested r) c) zero .reply)
+      → apply (rule χ (rested r) c .effect) (rested r) .plain .size ≡ rested r .plain .size
   unfolding rule apply withTransfer withPassword withAddress
   does-keeps (setSysPara k v) e t u = set-keeps k v e (search (and-l)) u
+  does-keeps (searchFor b p n) e t u = refl
   does-keeps (store b p) e t u = refl
   does-keeps (loadChar b p) e t u = refl
   does-keeps (upChar b) e t u = refl
@@ -85,10 +87,10 @@ module _ (r : Reader) (h : Heard) where
   takes-keeps w true got content = refl
   takes-keeps w false got content = refl
 
-  answer-keeps : Denied r h (answer r h .reply) → answer r h .after .plain .size ≡ r .plain .size
+  answer-keeps : Denied r h (answer χ r h .reply) → answer χ r h .after .plain .size ≡ r .plain .size
   unfolding silence says carryAs carryFree
   answer-keeps =
-      answer-kinds (λ (o : Said). Denied r h (o .reply) → o .after .plain .size ≡ r .plain .size) r h
+      answer-kinds (λ (o : Said). Denied r h (o .reply) → o .after .plain .size ≡ r .plain .size) χ r h
       record {
         silent = λ u. refl;
         refuses = λ n u. spared r .size;
@@ -102,7 +104,7 @@ pub call-keeps : (σ : Shape) (r : Reader) (s : List ℕ) (lent : Lent) → Deni
 unfolding refused carried stepOf replyOf
 call-keeps σ r s lent =
     call-kinds σ r s lent (λ (e : Ended). Denied r (hear (r .plain .address) s) (replyOf (e .told)) → e .after .plain .size ≡ r .plain .size) (λ n u. refl)
-    (λ t f u. answer-keeps r (hear (r .plain .address) s) (subst (Denied r (hear (r .plain .address) s)) (take-lay _ (lent .room)) u))
+    (λ t f u. answer-keeps (lent .chip) r (hear (r .plain .address) s) (subst (Denied r (hear (r .plain .address) s)) (take-lay _ (lent .room)) u))
 
 pub switch-keeps : (r : Reader) → switchOf r .after .plain .size ≡ r .plain .size
 unfolding switchOf switchAs refused switched withTransfer withMark

@@ -12,7 +12,8 @@ use Rattle.protocol.specs.Bytes.{lay}
 use Rattle.protocol.specs.Tests.{within}
 use Rattle.protocol.specs.Index.{stored}
 use Rattle.protocol.specs.Reader.{Transfer, closed, opened, unfit, Plain, noOrigin, Buffer, Reader, capacity, sizeOf, keyed, locked, bufferOf, emptied, withMark, withTransfer, withPassword, withAddress, withTuning, withBuffer}
-use Rattle.protocol.specs.Commands.{Free, verifyPassword, handShake, Barred, store, loadChar, upChar, downChar, deletChar, empty, setSysPara, readSysPara, setPassword, setAddress, writeNotepad, readNotepad, templeteNum, readIndexTable, free}
+use Rattle.protocol.specs.Search.{Chip}
+use Rattle.protocol.specs.Commands.{Free, verifyPassword, handShake, Barred, searchFor, store, loadChar, upChar, downChar, deletChar, empty, setSysPara, readSysPara, setPassword, setAddress, writeNotepad, readNotepad, templeteNum, readIndexTable, free}
 use Rattle.protocol.specs.Table.{second, inRange, withParameter, rule, apply, freeRule, publicOf}
 use Rattle.protocol.specs.Step.{Heard, hear, Said, silence, says, carryAs, carryFree, ended, rested, laidIn, takeAs, answer, stepOf, wiped, switched}
 use Rattle.protocol.specs.Call.{Shape, Lent, fitBuffers, fitPlain, fitTransfer, legal, Typed, Ended, refused, carried, callOf, switchRefusal, switchAs, switchOf}
@@ -57,9 +58,10 @@ module _ (σ : Shape) (ok : σ .most ≤ 8 * σ .indexed) where
   -- ---- the rows
 
   -- where a row's tests pass, its effect is proper
-  module _ (r : Reader) (z : r .plain .transfer ≡ closed) (k : Good σ ok r) (u : locked (r .plain) ≡ false) where
-    pub row-proper : (c : Barred) → Long c → T (passed (rule r c .tests)) → Proper σ ok r (rule r c .effect)
+  module _ (χ : Chip) (r : Reader) (z : r .plain .transfer ≡ closed) (k : Good σ ok r) (u : locked (r .plain) ≡ false) where
+    pub row-proper : (c : Barred) → Long c → T (passed (rule χ r c .tests)) → Proper σ ok r (rule χ r c .effect)
     unfolding rule withPassword withAddress fitPlain
+    row-proper (searchFor b p n) l t = tt
     row-proper (store b p) l t = (
       ltb→lt p (capacity (r .guarded)) (search (and-l, and-r)),
       (T→true (bufferOf (second b) (r .guarded) .filled) (search (and-l, and-r)), T→false (stored (r .guarded .index) p) (search (and-l, and-r))),
@@ -138,19 +140,19 @@ module _ (σ : Shape) (ok : σ .most ≤ 8 * σ .indexed) where
   -- ---- an answer
 
   -- a command carried out
-  pub row-good : (r : Reader) → Good σ ok r → (c : Barred) → Long c → locked (rested r .plain) ≡ false → T (passed (rule (rested r) c .tests))
-      → Good σ ok (apply (rule (rested r) c .effect) (rested r))
-  row-good r k c l u t =
+  pub row-good : (χ : Chip) (r : Reader) → Good σ ok r → (c : Barred) → Long c → locked (rested r .plain) ≡ false → T (passed (rule χ (rested r) c .tests))
+      → Good σ ok (apply (rule χ (rested r) c .effect) (rested r))
+  row-good χ r k c l u t =
       let q : Good σ ok (rested r) = good-rested r k in
       let z : rested r .plain .transfer ≡ closed = rested-closed r k in
-      effect-good σ ok (rule (rested r) c .effect) (rested r) (row-proper (rested r) z q u c l t) z q
+      effect-good σ ok (rule χ (rested r) c .effect) (rested r) (row-proper χ (rested r) z q u c l t) z q
 
-  answer-good : (r : Reader) → Good σ ok r → (h : Heard) → LongHeard h → Good σ ok (answer r h .after)
+  answer-good : (χ : Chip) (r : Reader) → Good σ ok r → (h : Heard) → LongHeard h → Good σ ok (answer χ r h .after)
   unfolding silence says carryAs
-  answer-good r k h l =
+  answer-good χ r k h l =
       let q : Good σ ok (rested r) = good-rested r k in
       let z : rested r .plain .transfer ≡ closed = rested-closed r k in
-      answer-kinds (λ (a : Said). Good σ ok (a .after)) r h
+      answer-kinds (λ (a : Said). Good σ ok (a .after)) χ r h
       record {
         silent = k;
         refuses = λ n. q;
@@ -159,7 +161,7 @@ module _ (σ : Shape) (ok : σ .most ≤ 8 * σ .indexed) where
             λ w last right got content e e′ f.
             taken-good r k w got content (moving (r .plain) (r .guarded) w got (subst (λ (t : Transfer). T (fitTransfer (r .plain) (r .guarded) t)) e (k .transfer))) last
             (fitting (r .plain) got last right content f);
-        does = λ c e u t. row-good r k c (subst LongHeard e l) u t;
+        does = λ c e u t. row-good χ r k c (subst LongHeard e l) u t;
       }
 
   -- ---- calls and line switches
@@ -179,7 +181,7 @@ module _ (σ : Shape) (ok : σ .most ≤ 8 * σ .indexed) where
   unfolding refused carried stepOf
   call-good r s lent k =
       call-kinds σ r s lent (λ (e : Ended). Good σ ok (e .after)) (λ n. k)
-      (λ t u. answer-good r k (hear (r .plain .address) s) (long-heard (r .plain .address) s))
+      (λ t u. answer-good (lent .chip) r k (hear (r .plain .address) s) (long-heard (r .plain .address) s))
 
   switch-good : (r : Reader) → Good σ ok r → Good σ ok (switchOf r .after)
   unfolding switchOf switchAs refused switched wiped withMark withTransfer emptied fitPlain capacity fitBuffers bufferOf

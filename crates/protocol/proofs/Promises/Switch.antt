@@ -1,4 +1,5 @@
--- Document 01: "Line switch: verified mark and filled marks cleared, transfer closed, both buffers zeroed." Request [7]: it makes both origins none.
+-- Document 01: "Line switch: verified mark and filled marks cleared, transfer closed, both buffers zeroed." Request [7]: it makes both origins none. Request [8]: it clears
+-- status bit 1.
 -- Whatever the settings were.
 use mathlib.Core.Bool.{true, false}
 use mathlib.Core.Path.{_≡_, refl}
@@ -21,6 +22,7 @@ pub record Wiped (r : Reader) (e : Ended) : Type 0 where
   pub origin2 : e .after .guarded .buffer2 .origin ≡ noOrigin
   pub buffer1 : e .after .guarded .buffer1 .bytes ≡ replicate 512 0
   pub buffer2 : e .after .guarded .buffer2 .bytes ≡ replicate 512 0
+  pub found : e .after .guarded .found ≡ false
   -- the rest stays
   pub templates : e .after .guarded .templates ≡ r .guarded .templates
   pub index : e .after .guarded .index ≡ r .guarded .index
@@ -48,6 +50,7 @@ switch-wipes r b c =
       origin2 = refl;
       buffer1 = refl;
       buffer2 = refl;
+      found = refl;
       templates = refl;
       index = refl;
       notepad = refl;

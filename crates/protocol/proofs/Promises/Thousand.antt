@@ -12,7 +12,7 @@ use lib.ListN.{length, take, drop, getD, replicate, length-drop}
 use lib.Seq.{length-take-le, getD-take, getD-drop}
 use Rattle.protocol.specs.Index.{setBits}
 use Rattle.protocol.specs.BringOver.{broughtOver, Brought, bringRefusal, bringAs, bringOver}
-use Rattle.protocol.specs.Reader.{Reader, locked}
+use Rattle.protocol.specs.Reader.{Reader, locked, capacity}
 use Rattle.protocol.specs.Commands.{readIndexTable, barred, command}
 use Rattle.protocol.specs.Data.{acknowledge}
 use Rattle.protocol.specs.Step.{order, hear, rested}
@@ -40,7 +40,7 @@ refuses-index r s lent d = call-refusals r s lent .1 (λ (m : Lengths (r .guarde
 abbrev indexPage : List ℕ → ℕ → List ℕ
 indexPage x n = take 32 (drop (32 * n) x)
 
-module _ (r : Reader) (s : List ℕ) (lent : Lent) (f : T (legal core r)) (u : T (fitLent lent)) (l : locked (r .plain) ≡ false) (n : ℕ)
+module _ (r : Reader) (s : List ℕ) (lent : Lent) (f : T (legal core r)) (u : T (fitLent (capacity (r .guarded)) lent)) (l : locked (r .plain) ≡ false) (n : ℕ)
     (h : hear (r .plain .address) s ≡ order (command (barred (readIndexTable n)))) where
   pub record TellsPage : Type 0 where
     pub gives : Gives (acknowledge (r .plain .address) 0x00 (indexPage (r .guarded .index) n)) (rested r) s lent (callOf core r s lent)

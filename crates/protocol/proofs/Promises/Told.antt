@@ -11,7 +11,7 @@ use lib.ListN.{length, take, drop, getD, replicate}
 use Rattle.protocol.specs.declared.Found.the-variants.{Whole}
 use Rattle.protocol.specs.Finder.{findOf, usedOf}
 use Rattle.protocol.specs.Bytes.{lay}
-use Rattle.protocol.specs.Reader.{Transfer, noOrigin, Buffer, Guarded, Reader, bufferOf, withTransfer, withBuffer, reader}
+use Rattle.protocol.specs.Reader.{Transfer, noOrigin, Buffer, Guarded, Reader, bufferOf, withTransfer, withBuffer, reader, capacity}
 use Rattle.protocol.specs.Data.{acknowledge}
 use Rattle.protocol.specs.Table.{isBuffer, second}
 use Rattle.protocol.specs.Step.{hear, Said, answer, stepOf}
@@ -45,8 +45,8 @@ lay-front : (s d : List ℕ) → lay 0 s d ≡ s ++ drop (length s) d
 unfolding lay
 lay-front s d = let e : 0 + length s ≡ length s = omega arith in ap (λ (n : ℕ). s ++ drop n d) e
 
--- a legal reader with a fit reply room gives its answer to what it heard
-pub answered : (σ : Shape) (r : Reader) (s : List ℕ) (lent : Lent) → T (legal σ r) → T (fitLent lent) → (a : Said) → answer r (hear (r .plain .address) s) ≡ a
+-- a legal reader gives, where what is lent anew is fit, its answer to what it heard
+pub answered : (σ : Shape) (r : Reader) (s : List ℕ) (lent : Lent) → T (legal σ r) → T (fitLent (capacity (r .guarded)) lent) → (a : Said) → answer (lent .chip) r (hear (r .plain .address) s) ≡ a
     → Gives (a .reply) (a .after) s lent (callOf σ r s lent)
 unfolding carried stepOf usedOf
 answered σ r s lent f u a e =
@@ -116,11 +116,12 @@ pub record WithBuffer (b : ℕ) (c : Buffer) (m : Transfer) (t x : Reader) : Typ
   pub templates : x .guarded .templates ≡ t .guarded .templates
   pub index : x .guarded .index ≡ t .guarded .index
   pub notepad : x .guarded .notepad ≡ t .guarded .notepad
+  pub found : x .guarded .found ≡ t .guarded .found
 
 pub with-buffer : (w : Bool) (c : Buffer) (m : Transfer) (t : Reader) → WithBuffer (number w) c m t (reader (withTransfer m (t .plain)) (withBuffer w c (t .guarded)))
 unfolding withTransfer withBuffer
-with-buffer true c m t = record { settings = refl; chosen = refl; spare = refl; templates = refl; index = refl; notepad = refl }
-with-buffer false c m t = record { settings = refl; chosen = refl; spare = refl; templates = refl; index = refl; notepad = refl }
+with-buffer true c m t = record { settings = refl; chosen = refl; spare = refl; templates = refl; index = refl; notepad = refl; found = refl }
+with-buffer false c m t = record { settings = refl; chosen = refl; spare = refl; templates = refl; index = refl; notepad = refl; found = refl }
 
 -- the table's own tests and choices of a buffer say the same
 pub numbered : (b : ℕ) → T (isBuffer b) ↔ Numbered b

@@ -13,8 +13,8 @@ use borrow.Author.Tests.{ne-eqb, le-leb, lt-ltb}
 use Rattle.protocol.specs.Bytes.{Bytes, part, zeros, lay}
 use Rattle.protocol.specs.Finder.{findOf}
 use Rattle.protocol.specs.Index.{bit, stored, setBit, clearBits}
-use Rattle.protocol.specs.Reader.{Plain, fromPage, Buffer, Reader, locked}
-use Rattle.protocol.specs.Commands.{Barred, store, loadChar, upChar, downChar, deletChar, empty, setSysPara, readSysPara, setPassword, setAddress, writeNotepad, readNotepad, templeteNum, readIndexTable, free, barred, damaged, unknown, misfit, command}
+use Rattle.protocol.specs.Reader.{Plain, fromPage, Buffer, Reader, locked, capacity}
+use Rattle.protocol.specs.Commands.{Barred, searchFor, store, loadChar, upChar, downChar, deletChar, empty, setSysPara, readSysPara, setPassword, setAddress, writeNotepad, readNotepad, templeteNum, readIndexTable, free, barred, damaged, unknown, misfit, command}
 use Rattle.protocol.specs.Data.{acknowledge}
 use Rattle.protocol.specs.Step.{Heard, nothing, order, piece, hear, rested}
 use Rattle.protocol.specs.Call.{Shape, core, Lent, fitLent, legal, Ended, callOf}
@@ -25,7 +25,7 @@ use Rattle.protocol.proofs.Laws.Index.{Fine, not-among, stored-with, st
 use Rattle.protocol.proofs.Laws.Effects.{away}
 use Rattle.protocol.proofs.Laws.Answers.{spared}
 use Rattle.protocol.proofs.Laws.Locked.{rested-still}
-use Rattle.protocol.proofs.Laws.History.{Library, Keeps, events-keep}
+use Rattle.protocol.proofs.Laws.History.{call-capacity, Library, Keeps, events-keep}
 use Rattle.protocol.proofs.Promises.Told.{Replies, Says, pages, page, has, Numbered, buffer, other}
 use Rattle.protocol.proofs.Promises.StaysLegal.{Legal, good, rested-closed, stays-legal}
 use Rattle.protocol.proofs.Promises.Moves.{Forgets, Stored, store-moves, Deleted, delete-moves}
@@ -34,7 +34,7 @@ use Rattle.protocol.proofs.Promises.Rows.{rows}
 -- ---- "Store to a page whose bit is set must now answer 22h and change nothing", "after 01h, 0Bh and 0Ch"
 
 -- whatever bytes the page and the buffer have, the same ones too
-pub answers-22 : (r : Reader) (s : List ℕ) (lent : Lent) (f : T (legal core r)) (u : T (fitLent lent)) (l : locked (r .plain) ≡ false) (b p : ℕ)
+pub answers-22 : (r : Reader) (s : List ℕ) (lent : Lent) (f : T (legal core r)) (u : T (fitLent (capacity (r .guarded)) lent)) (l : locked (r .plain) ≡ false) (b p : ℕ)
     → hear (r .plain .address) s ≡ order (command (barred (store b p))) → Numbered b → p < pages r → buffer b (rested r .guarded) .filled ≡ true
     → has r p ≡ true → Says (rested r) 0x22 s lent (callOf core r s lent)
 answers-22 r s lent f u l b p h i m e o =
@@ -46,8 +46,8 @@ answers-22 r s lent f u l b p h i m e o =
 pub whole-page : (t : List ℕ) (p : ℕ) → length (part (512 * p) 512 t) ≡ 512 → p < length t / 512
 whole-page t p e = let f = length-take 512 (drop (512 * p) t) in let g = length-drop (512 * p) t in omega arith
 
-module _ (σ : Shape) (ok : σ .most ≤ 8 * σ .indexed) (r : Reader) (l : Legal σ ok r) (u : locked (r .plain) ≡ false) (s : List ℕ) (lent : Lent) (v : T (fitLent lent))
-    (s′ : List ℕ) (lent′ : Lent) (v′ : T (fitLent lent′)) where
+module _ (σ : Shape) (ok : σ .most ≤ 8 * σ .indexed) (r : Reader) (l : Legal σ ok r) (u : locked (r .plain) ≡ false) (s : List ℕ) (lent : Lent) (v : T (fitLent (capacity (r .guarded)) lent))
+    (s′ : List ℕ) (lent′ : Lent) (v′ : T (fitLent (capacity (r .guarded)) lent′)) where
   -- the first call, and the one behind it
   abbrev cleared : Ended
   cleared = callOf σ r s lent
@@ -117,9 +117,12 @@ module _ (σ : Shape) (ok : σ .most ≤ 8 * σ .indexed) (r : Reader) (l : Lega
       vacant : has (cleared .after) p ≡ false
       vacant = d .bits p ∙ rw (le-leb p p (omega arith), lt-ltb p (p + 1) (omega arith)) refl
 
-      w : Stored σ ok (cleared .after) (stays-legal σ ok r l (received s lent)) (ap locked (d .quiet .settings) ∙ spared r .lock ∙ u) s′ lent′ v′ b p
+      fit : T (fitLent (capacity (cleared .after .guarded)) lent′)
+      fit = rw (call-capacity σ ok r s lent) v′
+
+      w : Stored σ ok (cleared .after) (stays-legal σ ok r l (received s lent)) (ap locked (d .quiet .settings) ∙ spared r .lock ∙ u) s′ lent′ fit b p
       w =
-          store-moves σ ok (cleared .after) (stays-legal σ ok r l (received s lent)) (ap locked (d .quiet .settings) ∙ spared r .lock ∙ u) s′ lent′ v′ b p
+          store-moves σ ok (cleared .after) (stays-legal σ ok r l (received s lent)) (ap locked (d .quiet .settings) ∙ spared r .lock ∙ u) s′ lent′ fit b p
           (ap (λ (a : List ℕ). hear a s′) address ∙ h′) i there (ap (λ (c : Buffer). c .filled) buffers ∙ e) vacant
 
       bits : (q : ℕ) → Dec (p ≡ q) → (eqb p q || (not (leb p q && ltb q (p + 1)) && has r q)) ≡ (eqb p q || has r q)
@@ -159,6 +162,7 @@ module _ (q : ℕ) (x : Exchange) (a : List ℕ) (e : x .reply ≡ acknowledge a
   seen-order (deletChar p n) h (inl (l, m)) = inl (one-of p n record { address = a; asked = h; reply = e } l m)
   seen-order (deletChar p n) h (inr d) = inr d
   seen-order empty h d = inl (all record { address = a; asked = h; reply = e })
+  seen-order (searchFor b p n) h d = inr d
   seen-order (store b p) h d = inr d
   seen-order (loadChar b p) h d = inr d
   seen-order (upChar b) h d = inr d

@@ -15,7 +15,7 @@ use Rattle.protocol.specs.Numbers.{fourBytes, dataPacket, lastPacket}
 use Rattle.protocol.specs.Bytes.{joined, split}
 use Rattle.protocol.specs.Packet.{packet, lengthOf, accepts, addressAt, identifierAt, contentAt, rightAt, endAt}
 use Rattle.protocol.specs.Finder.{findOf}
-use Rattle.protocol.specs.Reader.{Buffer, Reader, sizeOf, locked, bufferOf}
+use Rattle.protocol.specs.Reader.{Buffer, Reader, sizeOf, locked, bufferOf, capacity}
 use Rattle.protocol.specs.Commands.{barred, upChar, command}
 use Rattle.protocol.specs.Data.{acknowledge, packets, dataPackets}
 use Rattle.protocol.specs.Table.{isBuffer, second, rule, apply}
@@ -102,7 +102,7 @@ pub record Uploads (r : Reader) (b s : List ℕ) (lent : Lent) (e : Ended) : Typ
   pub after : e .after ≡ r
 
 module _ (σ : Shape) (ok : σ .most ≤ 8 * σ .indexed) where
-  pub upload : (r : Reader) → Legal σ ok r → locked (r .plain) ≡ false → (b : ℕ) → Numbered b → (s : List ℕ) (lent : Lent) → T (fitLent lent)
+  pub upload : (r : Reader) → Legal σ ok r → locked (r .plain) ≡ false → (b : ℕ) → Numbered b → (s : List ℕ) (lent : Lent) → T (fitLent (capacity (r .guarded)) lent)
       → hear (r .plain .address) s ≡ order (command (barred (upChar b))) → buffer b (rested r .guarded) .filled ≡ true
       → Uploads (rested r) (buffer b (rested r .guarded) .bytes) s lent (callOf σ r s lent)
   unfolding carryAs rule apply dataPackets
@@ -119,8 +119,8 @@ module _ (σ : Shape) (ok : σ .most ≤ 8 * σ .indexed) where
       let same : c ≡ buffer b (t .guarded) = buffer-is b i (t .guarded) in
       let f : T (c .filled) = rw (same, m) tt in
       let g =
-      answered σ r s lent (l .legal) v (carryAs t (rule t (upChar b)) zero)
-      (obeys r s u (upChar b) h (and-i (isBuffer b) (c .filled && true) (numbered b .1 i) (and-i (c .filled) true f tt)))
+      answered σ r s lent (l .legal) v (carryAs t (rule (lent .chip) t (upChar b)) zero)
+      (obeys (lent .chip) r s u (upChar b) h (and-i (isBuffer b) (c .filled && true) (numbered b .1 i) (and-i (c .filled) true f tt)))
       in
       subst (λ (x : Buffer). Uploads t (x .bytes) s lent (callOf σ r s lent)) same
       record {

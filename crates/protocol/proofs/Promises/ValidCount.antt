@@ -10,7 +10,7 @@ use lib.ListN.{length}
 use Rattle.protocol.specs.Bytes.{zeros, same}
 use Rattle.protocol.specs.Tests.{among, countBelow}
 use Rattle.protocol.specs.Index.{stored, setBits}
-use Rattle.protocol.specs.Reader.{Reader, locked}
+use Rattle.protocol.specs.Reader.{Reader, locked, capacity}
 use Rattle.protocol.specs.Commands.{templeteNum, barred, command}
 use Rattle.protocol.specs.Data.{acknowledge}
 use Rattle.protocol.specs.Step.{order, hear, rested}
@@ -18,7 +18,7 @@ use Rattle.protocol.specs.Call.{Shape, Lent, fitLent, legal, callOf}
 use Rattle.protocol.specs.Dialogue.{Event, finally, exchanges, Act, history, live}
 use Rattle.protocol.proofs.Laws.Index.{Fine, stored-with, stored-span, stored-zeros, fine-with, fine-span, fine-zeros}
 use Rattle.protocol.proofs.Laws.Count.{count-ext}
-use Rattle.protocol.proofs.Laws.History.{Keeps, events-keep}
+use Rattle.protocol.proofs.Laws.History.{ever-capacity, Keeps, events-keep}
 use Rattle.protocol.proofs.Laws.Answers.{spared}
 use Rattle.protocol.proofs.Promises.Told.{Gives, word}
 use Rattle.protocol.proofs.Promises.StaysLegal.{Legal, ever-legal}
@@ -76,10 +76,10 @@ module _ (σ : Shape) (ok : σ .most ≤ 8 * σ .indexed) where
   valid-count r z es = tells-count (σ .indexed) (finally σ r es .guarded .index) (history (exchanges σ r es) []) (tells-ever r [] (rw z (tells-none (σ .indexed))) es)
 
   -- and TempleteNum answers them, at any time that the reader is not locked
-  pub count-told : (r : Reader) → Legal σ ok r → r .guarded .index ≡ zeros (σ .indexed) → (es : List Event) (s : List ℕ) (lent : Lent) → T (fitLent lent)
+  pub count-told : (r : Reader) → Legal σ ok r → r .guarded .index ≡ zeros (σ .indexed) → (es : List Event) (s : List ℕ) (lent : Lent) → T (fitLent (capacity (r .guarded)) lent)
       → locked (finally σ r es .plain) ≡ false → hear (finally σ r es .plain .address) s ≡ order (command (barred templeteNum))
       → Gives (acknowledge (finally σ r es .plain .address) 0x00 (word (livePages r es))) (rested (finally σ r es)) s lent (callOf σ (finally σ r es) s lent)
   count-told r f z es s lent u l h =
       let t : Reader = finally σ r es in
       let same = ap₂ (λ (a : List ℕ) (n : ℕ). acknowledge a 0x00 (word n)) (spared t .address) (ap setBits (spared t .index) ∙ valid-count r z es) in
-      subst (λ (x : List ℕ). Gives x (rested t) s lent (callOf σ t s lent)) same (tells-number σ t s lent (ever-legal σ ok r f es .legal) u l h)
+      subst (λ (x : List ℕ). Gives x (rested t) s lent (callOf σ t s lent)) same (tells-number σ t s lent (ever-legal σ ok r f es .legal) (rw (ever-capacity σ ok r es) u) l h)

@@ -8,7 +8,7 @@ use native.Mathlib.Omega.{arith}
 use lib.Dec.{T, eqb, T-not, not-T}
 use borrow.Author.Tests.{eqb-true, eq-eqb, ne-eqb}
 use lib.ListN.{length, getD, take, replicate}
-use Rattle.protocol.specs.Numbers.{pageBytes, leastPages, mostPages, indexBytes, indexPageBytes, oldIndexBytes, addedBytes, notepadBytes, noteBytes, replyRoom, fourBytes, lowestLevel, highestLevel, lowestBaud, highestBaud, highestSize, baudParameter, levelParameter, sizeParameter, verifiedStatus, firstMark, secondMark, headBytes, frameBytes, commandPacket, dataPacket, acknowledgePacket, lastPacket, shortest, longest, longestOther, holds, done, badPacket, badPage, nothingThere, nothingToSend, transferFailed, badRange, wrongPassword, unknownCommand, badParameter, badValue, badNotePage, passwordFirst, pageTaken, badLength, badRoom, badSetting, badContent, noCount, noPage}
+use Rattle.protocol.specs.Numbers.{pageBytes, leastPages, mostPages, indexBytes, indexPageBytes, oldIndexBytes, addedBytes, notepadBytes, noteBytes, replyRoom, fourBytes, levels, lowestLevel, highestLevel, lowestBaud, highestBaud, highestSize, baudParameter, levelParameter, sizeParameter, verifiedStatus, foundStatus, firstMark, secondMark, headBytes, frameBytes, commandPacket, dataPacket, acknowledgePacket, lastPacket, shortest, longest, longestOther, holds, done, badPacket, notFound, badPage, nothingThere, nothingToSend, transferFailed, badRange, wrongPassword, unknownCommand, badParameter, badValue, badNotePage, passwordFirst, pageTaken, badLength, badRoom, badSetting, badContent, noCount, noPage}
 use Rattle.protocol.specs.Bytes.{Bytes, two, four, same, lay, joined}
 use Rattle.protocol.specs.Tests.{countBelow}
 use Rattle.protocol.specs.Index.{bit, stored, setBits}
@@ -24,15 +24,16 @@ use Rattle.protocol.proofs.Laws.Count.{set-weights}
 -- ---- the numbers, by name
 
 pub record Numbers : Type 0 where
-  -- a page, C from 1 to 1000, the index and the part of it that ReadIndexTable gives, the notepad and its page, the reply room, an address
+  -- a page, C from 1 to 1000, the index and the part of it that ReadIndexTable gives, the notepad and its page, the reply room, an address; by request [8]
+  -- the thresholds
   pub memory :
-      (pageBytes ∷ leastPages ∷ mostPages ∷ indexBytes ∷ indexPageBytes ∷ notepadBytes ∷ noteBytes ∷ replyRoom ∷ fourBytes ∷ [])
-      ≡ (512 ∷ 1 ∷ 1000 ∷ 128 ∷ 32 ∷ 512 ∷ 32 ∷ 700 ∷ 4 ∷ [])
+      (pageBytes ∷ leastPages ∷ mostPages ∷ indexBytes ∷ indexPageBytes ∷ notepadBytes ∷ noteBytes ∷ replyRoom ∷ fourBytes ∷ levels ∷ [])
+      ≡ (512 ∷ 1 ∷ 1000 ∷ 128 ∷ 32 ∷ 512 ∷ 32 ∷ 700 ∷ 4 ∷ 5 ∷ [])
   -- request [6]: an index stored before it, and the zero bytes that bring it over
   pub added : (oldIndexBytes ∷ addedBytes ∷ []) ≡ (32 ∷ 96 ∷ [])
   -- level 1 to 5, baud factor 1 to 12, size code up to 3
   pub ranges : (lowestLevel ∷ highestLevel ∷ lowestBaud ∷ highestBaud ∷ highestSize ∷ []) ≡ (1 ∷ 5 ∷ 1 ∷ 12 ∷ 3 ∷ [])
-  pub parameters : (baudParameter ∷ levelParameter ∷ sizeParameter ∷ verifiedStatus ∷ []) ≡ (4 ∷ 5 ∷ 6 ∷ 4 ∷ [])
+  pub parameters : (baudParameter ∷ levelParameter ∷ sizeParameter ∷ verifiedStatus ∷ foundStatus ∷ []) ≡ (4 ∷ 5 ∷ 6 ∷ 4 ∷ 2 ∷ [])
   pub refusals : (badLength ∷ badRoom ∷ badSetting ∷ badContent ∷ noCount ∷ []) ≡ (1 ∷ 2 ∷ 3 ∷ 4 ∷ 0xffff ∷ [])
   -- request [7]: no origin, in a settings record
   pub originless : noPage ≡ 0xffff
@@ -40,8 +41,8 @@ pub record Numbers : Type 0 where
   pub packets : (firstMark ∷ secondMark ∷ headBytes ∷ frameBytes ∷ shortest ∷ longest ∷ longestOther ∷ holds ∷ []) ≡ (0xef ∷ 0x01 ∷ 9 ∷ 11 ∷ 3 ∷ 258 ∷ 256 ∷ 267 ∷ [])
   pub identifiers : (commandPacket ∷ dataPacket ∷ acknowledgePacket ∷ lastPacket ∷ []) ≡ (1 ∷ 2 ∷ 7 ∷ 8 ∷ [])
   pub codes :
-      (done ∷ badPacket ∷ badPage ∷ nothingThere ∷ nothingToSend ∷ transferFailed ∷ badRange ∷ wrongPassword ∷ unknownCommand ∷ badParameter ∷ badValue ∷ badNotePage ∷ passwordFirst ∷ pageTaken ∷ [])
-      ≡ (0x00 ∷ 0x01 ∷ 0x0b ∷ 0x0c ∷ 0x0d ∷ 0x0e ∷ 0x10 ∷ 0x13 ∷ 0x19 ∷ 0x1a ∷ 0x1b ∷ 0x1c ∷ 0x21 ∷ 0x22 ∷ [])
+      (done ∷ badPacket ∷ notFound ∷ badPage ∷ nothingThere ∷ nothingToSend ∷ transferFailed ∷ badRange ∷ wrongPassword ∷ unknownCommand ∷ badParameter ∷ badValue ∷ badNotePage ∷ passwordFirst ∷ pageTaken ∷ [])
+      ≡ (0x00 ∷ 0x01 ∷ 0x09 ∷ 0x0b ∷ 0x0c ∷ 0x0d ∷ 0x0e ∷ 0x10 ∷ 0x13 ∷ 0x19 ∷ 0x1a ∷ 0x1b ∷ 0x1c ∷ 0x21 ∷ 0x22 ∷ [])
 
 pub numbers : Numbers
 unfolding highestSize longest holds
@@ -70,6 +71,7 @@ pub record Memory : Type 0 where
         notepad = replicate n 0;
         buffer1 = record { bytes = replicate 512 0; filled = false; origin = noOrigin };
         buffer2 = record { bytes = replicate 512 0; filled = false; origin = noOrigin };
+        found = false;
       }
 
 pub memory : Memory
@@ -90,7 +92,7 @@ memory =
 
 pub record Kept : Type 0 where
   -- fresh: password 0, address FFFFFFFFh, level 3, size code 2, baud factor 6, type 0, marks clear, no transfer; by request [7]
-  -- no origins
+  -- no origins, and by request [8] status bit 1 clear
   pub fresh-is : (t i n b d : List ℕ) → freshOf t i n b d
       ≡ record {
         plain =
@@ -104,16 +106,15 @@ pub record Kept : Type 0 where
               verified = false;
               transfer = closed;
             };
-        guarded = record { templates = t; index = i; notepad = n; buffer1 = record { bytes = b; filled = false; origin = noOrigin }; buffer2 = record { bytes = d; filled = false; origin = noOrigin } };
+        guarded = record { templates = t; index = i; notepad = n; buffer1 = record { bytes = b; filled = false; origin = noOrigin }; buffer2 = record { bytes = d; filled = false; origin = noOrigin }; found = false };
       }
   -- size codes 0, 1, 2, 3 mean 32, 64, 128, 256 data bytes
   pub sizes : (sizeOf 0 ∷ sizeOf 1 ∷ sizeOf 2 ∷ sizeOf 3 ∷ []) ≡ (32 ∷ 64 ∷ 128 ∷ 256 ∷ [])
   -- locked: password not zero and verified mark clear
   pub keyed-means : (p : Plain) → T (keyed p) ↔ (p .password ≢ 0 ∷ 0 ∷ 0 ∷ 0 ∷ [])
   pub locked-means : (p : Plain) → T (locked p) ↔ ((p .password ≢ 0 ∷ 0 ∷ 0 ∷ 0 ∷ []) × (p .verified ≡ false))
-  -- the status word is 4 if the verified mark is set, otherwise 0
-  pub status-set : (p : Plain) → p .verified ≡ true → statusOf p ≡ 4
-  pub status-clear : (p : Plain) → p .verified ≡ false → statusOf p ≡ 0
+  -- the status word is 4 if the verified mark is set, otherwise 0; by request [8] and 2 more if status bit 1 is
+  pub status-is : (statusOf false false ∷ statusOf false true ∷ statusOf true false ∷ statusOf true true ∷ []) ≡ (0 ∷ 2 ∷ 4 ∷ 6 ∷ [])
   -- buffer 1 or 2, by number
   pub buffer-means : (b : ℕ) → T (isBuffer b) ↔ ((b ≡ 1) ⊎ (b ≡ 2))
   pub buffer-one : (g : Guarded) → bufferOf (second 1) g ≡ g .buffer1
@@ -166,8 +167,7 @@ kept =
       sizes = refl;
       keyed-means = keyed-iff;
       locked-means = locked-iff;
-      status-set = λ p e. rw e refl;
-      status-clear = λ p e. rw e refl;
+      status-is = refl;
       buffer-means = buffer-iff;
       buffer-one = λ g. refl;
       buffer-two = λ g. refl;

@@ -149,7 +149,7 @@ module _ {M : Type 1} (𝓤 : URA M) (H : Heap 𝓤) (A : Atoms 𝓤) (W : Given
   goes-g = qed W (‵ (T.the-row .own h (val h ∷ [])) ∷ (raw Toks ⊛ raw Asks) ∷ ‵ Owns ∷ []) ∵ move ! (0 ∷ 2 ∷ []) $ fjoin ! $ move ! (1 ∷ []) $ split ! $ move ! (0 ∷ 2 ∷ []) $ join ! $ frame ! $ done !
 
   module _ (C : Calls 𝓤 H) (Λ : Loops 𝓤 H) (fm : FmC 𝓤 H (W .laws) C) (known : Triple 𝓤 (C #g) (G 𝓤 H A at-mem run)) where
-    walk : Fits (xs .0) → Fits (xs .1 .0)
+    walk : Fits u8 (xs .0) → Fits u8 (xs .1 .0)
         → ent 𝓤 (sep 𝓤 (onEntry 𝓤 H A f.signature (κ, κs) (q, qs) x at) Asks) (WpFn 𝓤 H C Λ code.function passed Post)
     walk fit₀ fit₁ =
         qed W (((‵ (flft κ q) ⊛ raw Toks) ⊛ ‵ (owns (MutRef (named 0) κ T.the-row ∷ rows κs) x at)) ∷ raw Asks ∷ []) ∵ split ! $ split ! $ move ! (1 ∷ 3 ∷ []) $ join ! $ move ! (2 ∷ []) $ fsplit ! $ fsplit3 ! $ drop ! $ move ! (0 ∷ 1 ∷ 4 ∷ 3 ∷ 2 ∷ []) $

@@ -17,6 +17,12 @@ indexed c = search
 unfoldable start : tie.After-receive → tie.Start
 start c = search
 
+slice-aggregate-receive : tie.Need-slice-aggregate-receive
+slice-aggregate-receive c = search needs
+
+slice-aggregate-receive-2 : tie.Need-slice-aggregate-receive-2
+slice-aggregate-receive-2 c = search needs
+
 receive-requires : tie.Need-receive-requires
 receive-requires c κs = search needs
 
@@ -53,6 +59,8 @@ pub offer-spec : {M : Type 1} → statement M
 offer-spec =
     tie.close
     (tie.spec
+    slice-aggregate-receive
+    slice-aggregate-receive-2
     receive-requires
     same-length
     same-length-2

@@ -17,5 +17,9 @@ returns-3 : tie.Need-returns-3
 unfolding fitMarks fitMark
 returns-3 c = search (picks, needs)
 
+returns-4 : tie.Need-returns-4
+unfolding fitMarks fitMark
+returns-4 c = search (picks, needs)
+
 pub has-fit-marks-spec : {M : Type 1} → statement M
-has-fit-marks-spec = tie.close (tie.spec returns returns-2 returns-3)
+has-fit-marks-spec = tie.close (tie.spec returns returns-2 returns-3 returns-4)

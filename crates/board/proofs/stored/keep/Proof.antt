@@ -13,7 +13,7 @@ module _ (old : StoredSettings) (new : Settings) (refusal : ℕ) where
   refused : (refusal ≡ 0 → ⊥) → old ≡ keptOf old new refusal
   refused d = rw (ne-eqb refusal 0 d) refl
 
-  accepted : (a : StoredSettings) → refusal ≡ 0 → a ≡ storedAt (old .spare) new → a ≡ keptOf old new refusal
+  accepted : (a : StoredSettings) → refusal ≡ 0 → a ≡ storedAt new → a ≡ keptOf old new refusal
   accepted a z e = rw (eq-eqb refusal 0 z) e
 
 returns : tie.Need-returns

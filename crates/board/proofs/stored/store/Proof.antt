@@ -9,9 +9,9 @@ use Rattle.board.specs.Storing.{storedAt}
 use Rattle.board.proofs.stored.store.Statement.{statement}
 use Rattle.board.proofs.stored.store.Tie as tie
 
-listed : (s : Settings) (spare v f g : ℕ) → v ≡ markOf (s .verified) → f ≡ markOf (s .filled1) → g ≡ markOf (s .filled2)
-    → _≡_ {A = StoredSettings} record { password = s .password; address = s .address; level = s .level; size = s .size; baud = s .baud; transfer = s .transfer; sensor = s .sensor; got = s .got; verified = v; filled1 = f; filled2 = g; spare = spare; origin1 = s .origin1; origin2 = s .origin2 } (storedAt spare s)
-listed s spare v f g p q r = rw (p, q, r) refl
+listed : (s : Settings) (v f g h : ℕ) → v ≡ markOf (s .verified) → f ≡ markOf (s .filled1) → g ≡ markOf (s .filled2) → h ≡ markOf (s .found)
+    → _≡_ {A = StoredSettings} record { password = s .password; address = s .address; level = s .level; size = s .size; baud = s .baud; transfer = s .transfer; sensor = s .sensor; got = s .got; verified = v; filled1 = f; filled2 = g; found = h; origin1 = s .origin1; origin2 = s .origin2 } (storedAt s)
+listed s v f g h p q r o = rw (p, q, r, o) refl
 
 flag-requires : tie.Need-flag-requires
 flag-requires c κs = search needs
@@ -22,8 +22,11 @@ flag-requires-2 c κs = search needs
 flag-requires-3 : tie.Need-flag-requires-3
 flag-requires-3 c κs = search needs
 
+flag-requires-4 : tie.Need-flag-requires-4
+flag-requires-4 c κs = search needs
+
 returns : tie.Need-returns
 returns c = search listed
 
 pub store-spec : {M : Type 1} → statement M
-store-spec = tie.close (tie.spec flag-requires flag-requires-2 flag-requires-3 returns)
+store-spec = tie.close (tie.spec flag-requires flag-requires-2 flag-requires-3 flag-requires-4 returns)

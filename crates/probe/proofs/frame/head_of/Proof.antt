@@ -18,7 +18,7 @@ listed : (c : StoredReceived) (k g o q : List ℕ) → k ≡ wordOf (c .line .se
     ∷ byteAt (c .line .settings .address) 0 ∷ byteAt (c .line .settings .address) 1 ∷ byteAt (c .line .settings .address) 2 ∷ byteAt (c .line .settings .address) 3
     ∷ c .line .settings .level ∷ c .line .settings .size ∷ c .line .settings .baud ∷ c .line .settings .transfer
     ∷ byteAt k 0 ∷ byteAt k 1 ∷ byteAt g 0 ∷ byteAt g 1
-    ∷ c .line .settings .verified ∷ c .line .settings .filled1 ∷ c .line .settings .filled2
+    ∷ c .line .settings .verified ∷ c .line .settings .filled1 ∷ c .line .settings .filled2 ∷ c .line .settings .found
     ∷ byteAt o 0 ∷ byteAt o 1 ∷ byteAt q 0 ∷ byteAt q 1 ∷ []
     ≡ headOf c
 listed c k g o q d e f h = rw (d, e, f, h) refl

@@ -61,17 +61,20 @@ shared-slice-read-t35 c = search needs
 shared-slice-read-t37 : tie.Need-shared-slice-read-t37
 shared-slice-read-t37 c = search needs
 
+shared-slice-read-t39 : tie.Need-shared-slice-read-t39
+shared-slice-read-t39 c = search needs
+
 word-at-requires-3 : tie.Need-word-at-requires-3
 word-at-requires-3 c κs = search needs
 
-cast-t39 : tie.Need-cast-t39
-cast-t39 c = search needs
+cast-t41 : tie.Need-cast-t41
+cast-t41 c = search needs
 
 word-at-requires-4 : tie.Need-word-at-requires-4
 word-at-requires-4 c κs = search needs
 
-cast-t41 : tie.Need-cast-t41
-cast-t41 c = search needs
+cast-t43 : tie.Need-cast-t43
+cast-t43 c = search needs
 
 returns : tie.Need-returns
 returns c =
@@ -104,8 +107,9 @@ settings-of-spec =
     shared-slice-read-t33
     shared-slice-read-t35
     shared-slice-read-t37
+    shared-slice-read-t39
     word-at-requires-3
-    cast-t39
-    word-at-requires-4
     cast-t41
+    word-at-requires-4
+    cast-t43
     returns)

@@ -10,6 +10,7 @@ use Rattle.protocol.specs.Numbers.{pageBytes, noPage, done}
 use Rattle.protocol.specs.Tests.{verdict}
 use Rattle.protocol.specs.Bytes.{zeros, follow}
 use Rattle.protocol.specs.Reader.{opened, Reader}
+use Rattle.protocol.specs.Search.{Chip}
 use Rattle.protocol.specs.Data.{acknowledge}
 use Rattle.protocol.specs.Table.{apply, rule, isBuffer}
 use Rattle.protocol.specs.Commands.{downChar}
@@ -27,10 +28,10 @@ use borrow.Author.Needs.{needs}
 use Rattle.reader.proofs.buffers.down_char.Statement.{statement}
 use Rattle.reader.proofs.buffers.down_char.Tie as tie
 
-module _ (s : Settings) (t i m b d : List ℕ) (n : ℕ) (a : Answer) (known : Bool) (k : known ≡ isBuffer n) where
+module _ (χ : Chip) (s : Settings) (t i m b d : List ℕ) (n : ℕ) (a : Answer) (known : Bool) (k : known ≡ isBuffer n) where
   awaits : (q o : Settings) (x y : List ℕ) → a ≡ codeAlone done q → q ≡ withTransfer n 0 o → o ≡ withHeld n false noPage s
       → buffers x y ≡ changed n (λ (z : List ℕ). zeros (length z)) b d → length b ≡ pageBytes → length d ≡ pageBytes → not known ≡ false
-      → saidOf a t i m x y ≡ obeyed s t i m b d (downChar n)
+      → saidOf a t i m x y ≡ obeyed χ s t i m b d (downChar n)
   unfolding carry carryAs rule verdict follow sent apply
   awaits q o x y e f g r l w h =
       let v : transferOf n 0 ≡ opened (eqb n 2) 0 = opened-at n 0 (sym k ∙ not-false known h) in
@@ -52,7 +53,7 @@ plain-requires c κs = search needs
 
 returns : tie.Need-returns
 unfolding rule
-returns c = record { said = λ t i m. search no-buffer; ready = search ready-alone }
+returns c = record { said = λ χ t i m. search no-buffer; ready = search ready-alone }
 
 wipe-requires : tie.Need-wipe-requires
 wipe-requires c κs = search needs
@@ -77,7 +78,7 @@ unfolding start asked
 returns-2 c =
     let p = (let s : tie.Start = search start in s .pre) in
     let k = (let a : tie.After-is-buffer = search asked in a .is-buffer .ensures) in
-    record { said = λ t i m. search awaits; ready = search (ready-alone, size-moved, size-held) }
+    record { said = λ χ t i m. search awaits; ready = search (ready-alone, size-moved, size-held) }
 
 pub down-char-spec : {M : Type 1} → statement M
 down-char-spec =

@@ -9,6 +9,7 @@ use Rattle.protocol.specs.Numbers.{nothingToSend}
 use Rattle.protocol.specs.Tests.{verdict}
 use Rattle.protocol.specs.Bytes.{zeros, follow}
 use Rattle.protocol.specs.Reader.{bufferOf}
+use Rattle.protocol.specs.Search.{Chip}
 use Rattle.protocol.specs.Table.{apply, rule, isBuffer}
 use Rattle.protocol.specs.Commands.{upChar}
 use Rattle.protocol.specs.Step.{says, carry, carryAs}
@@ -23,13 +24,13 @@ use borrow.Author.Needs.{needs}
 use Rattle.reader.proofs.buffers.up_char.Statement.{statement}
 use Rattle.reader.proofs.buffers.up_char.Tie as tie
 
-module _ (s : Settings) (t i m b d : List ℕ) (n : ℕ) (a : Answer) (known : Bool) (k : known ≡ isBuffer n) (f : not known ≡ false)
+module _ (χ : Chip) (s : Settings) (t i m b d : List ℕ) (n : ℕ) (a : Answer) (known : Bool) (k : known ≡ isBuffer n) (f : not known ≡ false)
     (full : Bool) (l : full ≡ cond (eqb n 2) (s .filled2) (s .filled1)) where
-  not-filled : a ≡ codeAlone nothingToSend s → not full ≡ true → saidOf a t i m b d ≡ obeyed s t i m b d (upChar n)
+  not-filled : a ≡ codeAlone nothingToSend s → not full ≡ true → saidOf a t i m b d ≡ obeyed χ s t i m b d (upChar n)
   unfolding carry carryAs rule verdict says follow sent bufferOf
   not-filled e g = rw (e, ← k, not-false known f, chosen-filled, ← l, not-true full g)
 
-  goes-up : a ≡ answerOf true 0 0 (zeros listedBytes) n s → not full ≡ false → saidOf a t i m b d ≡ obeyed s t i m b d (upChar n)
+  goes-up : a ≡ answerOf true 0 0 (zeros listedBytes) n s → not full ≡ false → saidOf a t i m b d ≡ obeyed χ s t i m b d (upChar n)
   unfolding carry carryAs rule verdict says sent apply bufferOf
   goes-up e g =
       let some : eqb n 0 ≡ false = not-none n (sym k ∙ not-false known f) in
@@ -43,7 +44,7 @@ plain-requires c κs = search needs
 
 returns : tie.Need-returns
 unfolding rule
-returns c = record { said = λ t i m b d. search no-buffer; ready = search ready-alone }
+returns c = record { said = λ χ t i m b d. search no-buffer; ready = search ready-alone }
 
 filled-of-requires : tie.Need-filled-of-requires
 filled-of-requires c κs = search needs
@@ -52,13 +53,13 @@ plain-requires-2 : tie.Need-plain-requires-2
 plain-requires-2 c κs = search needs
 
 returns-2 : tie.Need-returns-2
-returns-2 c = record { said = λ t i m b d. search not-filled; ready = search ready-alone }
+returns-2 c = record { said = λ χ t i m b d. search not-filled; ready = search ready-alone }
 
 sending-requires : tie.Need-sending-requires
 sending-requires c κs = search needs
 
 returns-3 : tie.Need-returns-3
-returns-3 c = record { said = λ t i m b d. search goes-up; ready = search ready-sending }
+returns-3 c = record { said = λ χ t i m b d. search goes-up; ready = search ready-sending }
 
 pub up-char-spec : {M : Type 1} → statement M
 up-char-spec =

@@ -9,6 +9,7 @@ use borrow.Author.Needs.{needs}
 use Rattle.protocol.specs.declared.Settings.{Settings}
 use Rattle.protocol.specs.Numbers.{commandPacket, acknowledgePacket, lastPacket}
 use Rattle.protocol.specs.Reader.{Reader}
+use Rattle.protocol.specs.Search.{Chip}
 use Rattle.protocol.specs.Commands.{orderOf}
 use Rattle.protocol.specs.Step.{Said, silence, heed, ended, takeIn, rested, hearAs, answer}
 use Rattle.protocol.specs.Records.{transferOf, readerOf}
@@ -19,21 +20,21 @@ use Rattle.reader.proofs.call.act.Statement.{statement}
 use Rattle.reader.proofs.call.act.Tie as tie
 
 -- each return as a law: what was said, and the identifier that led there
-module _ (s : Settings) (t i m b d x : List ℕ) (k : ℕ) (right : Bool) where
-  commands : (q : Settings) (u v : List ℕ) (said : Said) → k ≡ commandPacket → said ≡ heed (readerOf q t i m u v) (orderOf right x)
+module _ (χ : Chip) (s : Settings) (t i m b d x : List ℕ) (k : ℕ) (right : Bool) where
+  commands : (q : Settings) (u v : List ℕ) (said : Said) → k ≡ commandPacket → said ≡ heed χ (readerOf q t i m u v) (orderOf right x)
       → ((t i m : List ℕ) → readerOf q t i m u v ≡ ended (readerOf s t i m b d) (transferOf (s .transfer) (s .got)))
-      → said ≡ answer (readerOf s t i m b d) (hearAs k right x)
+      → said ≡ answer χ (readerOf s t i m b d) (hearAs k right x)
   unfolding answer hearAs rested
-  commands q u v said e f g = rw (eq-eqb k commandPacket e) (f ∙ ap (λ (r : Reader). heed r (orderOf right x)) (g t i m))
+  commands q u v said e f g = rw (eq-eqb k commandPacket e) (f ∙ ap (λ (r : Reader). heed χ r (orderOf right x)) (g t i m))
 
   module _ (n : k ≡ commandPacket → ⊥) where
-    says-nothing : (a : Answer) → a ≡ nothingSaid s → k ≡ acknowledgePacket → saidOf a t i m b d ≡ answer (readerOf s t i m b d) (hearAs k right x)
+    says-nothing : (a : Answer) → a ≡ nothingSaid s → k ≡ acknowledgePacket → saidOf a t i m b d ≡ answer χ (readerOf s t i m b d) (hearAs k right x)
     unfolding answer hearAs silence
     says-nothing a f e = rw (f, ne-eqb k commandPacket n, eq-eqb k acknowledgePacket e)
 
     brings : (a : Answer) (u v : List ℕ) → (k ≡ acknowledgePacket → ⊥)
         → ((t i m : List ℕ) → saidOf a t i m u v ≡ takeIn (readerOf s t i m b d) (eqb k lastPacket) right x (transferOf (s .transfer) (s .got)))
-        → saidOf a t i m u v ≡ answer (readerOf s t i m b d) (hearAs k right x)
+        → saidOf a t i m u v ≡ answer χ (readerOf s t i m b d) (hearAs k right x)
     unfolding answer hearAs
     brings a u v w f = rw (ne-eqb k commandPacket n, ne-eqb k acknowledgePacket w) (f t i m)
 
@@ -63,6 +64,7 @@ command-requires c κs =
             buffer2 = search needs;
             size = search size-same;
           };
+      scored = p .scored;
       some = p .some;
       high = p .high;
     }

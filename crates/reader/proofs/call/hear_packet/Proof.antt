@@ -12,6 +12,7 @@ use Rattle.protocol.specs.declared.Found.the-variants.{Whole}
 use Rattle.protocol.specs.Numbers.{headBytes}
 use Rattle.protocol.specs.Bytes.{same, lay}
 use Rattle.protocol.specs.Packet.{addressAt, identifierAt, rightAt}
+use Rattle.protocol.specs.Search.{Chip}
 use Rattle.protocol.specs.Step.{hearAs, hearAt, answer, Said}
 use Rattle.protocol.specs.Call.{carried}
 use Rattle.protocol.specs.Records.{readerOf, endedOf}
@@ -24,19 +25,19 @@ use Rattle.reader.proofs.call.hear_packet.Statement.{statement}
 use Rattle.reader.proofs.call.hear_packet.Tie as tie
 
 -- each return as a law: what was called, and the tests that led there
-module _ (s : Settings) (t i m b d x y : List ℕ) (at len : ℕ) (ours : Bool) (o : ours ≡ same (addressAt x at) (s .address)) (r : Called) where
+module _ (χ : Chip) (s : Settings) (t i m b d x y : List ℕ) (at len : ℕ) (ours : Bool) (o : ours ≡ same (addressAt x at) (s .address)) (r : Called) where
   other : r ≡ called 0 (at + headBytes + len) 0 s → not ours ≡ true
-      → endedOf r t i m b d y ≡ carriedOf (at + headBytes + len) (answer (readerOf s t i m b d) (hearAt (s .address) x (Whole at len))) y
-  other e n = rw (e, hear-other (s .address) x at len (sym o ∙ not-true ours n)) (sym (carried-silence (at + headBytes + len) (readerOf s t i m b d) y))
+      → endedOf r t i m b d y ≡ carriedOf (at + headBytes + len) (answer χ (readerOf s t i m b d) (hearAt (s .address) x (Whole at len))) y
+  other e n = rw (e, hear-other (s .address) x at len (sym o ∙ not-true ours n)) (sym (carried-silence χ (at + headBytes + len) (readerOf s t i m b d) y))
 
   answered : (t′ i′ m′ b′ d′ y′ : List ℕ) (a : Answer) (n : ℕ) (right : Bool) → r ≡ called 0 (at + headBytes + len) n (a .settings)
       → n ≡ length (spokenOf a b′ d′) → y′ ≡ lay 0 (spokenOf a b′ d′) y → right ≡ rightAt x at len → not ours ≡ false
-      → saidOf a t′ i′ m′ b′ d′ ≡ answer (readerOf s t i m b d) (hearAs (identifierAt x at) right (take (at + headBytes + (len - 2) - (at + headBytes)) (drop (at + headBytes) x)))
-      → endedOf r t′ i′ m′ b′ d′ y′ ≡ carriedOf (at + headBytes + len) (answer (readerOf s t i m b d) (hearAt (s .address) x (Whole at len))) y
+      → saidOf a t′ i′ m′ b′ d′ ≡ answer χ (readerOf s t i m b d) (hearAs (identifierAt x at) right (take (at + headBytes + (len - 2) - (at + headBytes)) (drop (at + headBytes) x)))
+      → endedOf r t′ i′ m′ b′ d′ y′ ≡ carriedOf (at + headBytes + len) (answer χ (readerOf s t i m b d) (hearAt (s .address) x (Whole at len))) y
   unfolding carried
   answered t′ i′ m′ b′ d′ y′ a n right e w l g k f =
       let h = hear-ours (s .address) x at len right (sym o ∙ not-false ours k) g in
-      rw (e, w, l) (ap (λ (z : Said). carriedOf (at + headBytes + len) z y) (f ∙ ap (answer (readerOf s t i m b d)) h))
+      rw (e, w, l) (ap (λ (z : Said). carriedOf (at + headBytes + len) z y) (f ∙ ap (answer χ (readerOf s t i m b d)) h))
 
 -- places that are far back from the later returns
 unfoldable right : tie.After-act → tie.After-is-right
@@ -98,7 +99,7 @@ unfolding start
 act-requires c κs =
     let p = (let s : tie.Start = search start in s .pre) in
     record {
-      commands = record { fit = search; some = simp (length-take, length-drop) (omega arith); high = simp (length-take, length-drop) (omega arith) };
+      commands = record { fit = search; scored = search; some = simp (length-take, length-drop) (omega arith); high = simp (length-take, length-drop) (omega arith) };
       legal = search;
     }
 
@@ -140,7 +141,7 @@ returns-2 c =
     let k = (let p : tie.Else1 = search (right, passed) in p .if1 .left) in
     let w = (let p : tie.After-speak = search in p .speak .ensures) in
     let e = (let p : tie.After-called-of2 = search in p .called-of2 .ensures) in
-    answered _ _ _ _ _ _ _ _ _ _ _ o _ _ _ _ _ _ _ a _ _ e (w .0) (w .1) g k f
+    answered _ _ _ _ _ _ _ _ _ _ _ _ o _ _ _ _ _ _ _ a _ _ e (w .0) (w .1) g k f
 
 pub hear-packet-spec : {M : Type 1} → statement M
 hear-packet-spec =

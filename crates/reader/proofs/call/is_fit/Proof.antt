@@ -1,4 +1,4 @@
--- Each length is compared with the one that document 01 fixes; the first that differs answers.
+-- Each length is compared with the one that document 01 and request [8] fix; the first that differs answers.
 use Rattle.wire.proofs.Picks.{picks}
 use borrow.Author.Needs.{needs}
 use Rattle.protocol.specs.Tests.{within}
@@ -38,7 +38,15 @@ returns-7 : tie.Need-returns-7
 unfolding lengthsFit within core
 returns-7 c = search (picks, needs)
 
+returns-8 : tie.Need-returns-8
+unfolding lengthsFit within core
+returns-8 c = search (picks, needs)
+
+returns-9 : tie.Need-returns-9
+unfolding lengthsFit within core
+returns-9 c = search (picks, needs)
+
 pub is-fit-spec : {M : Type 1} → statement M
 is-fit-spec =
     tie.close
-    (tie.spec mul-if1 returns returns-2 returns-3 returns-4 returns-5 returns-6 returns-7)
+    (tie.spec mul-if1 returns returns-2 returns-3 returns-4 returns-5 returns-6 returns-7 returns-8 returns-9)

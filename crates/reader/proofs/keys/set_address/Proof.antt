@@ -8,6 +8,7 @@ use Rattle.protocol.specs.Numbers.{fourBytes, done}
 use Rattle.protocol.specs.Tests.{verdict}
 use Rattle.protocol.specs.Bytes.{part, follow}
 use Rattle.protocol.specs.Reader as readers
+use Rattle.protocol.specs.Search.{Chip}
 use Rattle.protocol.specs.Table.{apply, rule}
 use Rattle.protocol.specs.Commands.{setAddress}
 use Rattle.protocol.specs.Step.{carry, carryAs}
@@ -21,10 +22,10 @@ use borrow.Author.Needs.{needs}
 use Rattle.reader.proofs.keys.set_address.Statement.{statement}
 use Rattle.reader.proofs.keys.set_address.Tie as tie
 
-address-set : (s q : Settings) (t i m b d x w : List ℕ) (a : Answer) → a ≡ codeAlone done q → q ≡ withAddress w s → w ≡ part 1 fourBytes x → length x ≡ 1 + fourBytes
-    → saidOf a t i m b d ≡ obeyed s t i m b d (setAddress (drop 1 x))
+address-set : (χ : Chip) (s q : Settings) (t i m b d x w : List ℕ) (a : Answer) → a ≡ codeAlone done q → q ≡ withAddress w s → w ≡ part 1 fourBytes x → length x ≡ 1 + fourBytes
+    → saidOf a t i m b d ≡ obeyed χ s t i m b d (setAddress (drop 1 x))
 unfolding carry carryAs rule verdict follow sent apply readers.withAddress
-address-set s q t i m b d x w a e o f h = rw (e, o, f ∙ take-rest 1 fourBytes x h)
+address-set χ s q t i m b d x w a e o f h = rw (e, o, f ∙ take-rest 1 fourBytes x h)
 
 four-at-requires : tie.Need-four-at-requires
 four-at-requires c κs = search needs
@@ -36,7 +37,7 @@ plain-requires : tie.Need-plain-requires
 plain-requires c κs = search needs
 
 returns : tie.Need-returns
-returns c = record { said = λ t i m b d. search address-set; ready = search (ready-alone, size-address) }
+returns c = record { said = λ χ t i m b d. search address-set; ready = search (ready-alone, size-address) }
 
 pub set-address-spec : {M : Type 1} → statement M
 set-address-spec =

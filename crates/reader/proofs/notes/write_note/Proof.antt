@@ -11,6 +11,7 @@ use Rattle.protocol.specs.Numbers.{noteBytes, done, badNotePage}
 use Rattle.protocol.specs.Tests.{verdict}
 use Rattle.protocol.specs.Bytes.{byteAt, follow}
 use Rattle.protocol.specs.Reader.{withNotepad}
+use Rattle.protocol.specs.Search.{Chip}
 use Rattle.protocol.specs.Table.{apply, rule}
 use Rattle.protocol.specs.Commands.{writeNotepad}
 use Rattle.protocol.specs.Step.{says, carry, carryAs}
@@ -25,14 +26,14 @@ use borrow.Author.Needs.{needs}
 use Rattle.reader.proofs.notes.write_note.Statement.{statement}
 use Rattle.reader.proofs.notes.write_note.Tie as tie
 
-module _ (s : Settings) (t i n b d x : List ℕ) (a : Answer) (w : ℕ) (e : w ≡ byteAt x 1) where
-  no-note : a ≡ codeAlone badNotePage s → length n / noteBytes ≤ w → saidOf a t i n b d ≡ obeyed s t i n b d (writeNotepad (byteAt x 1) (drop 2 x))
+module _ (χ : Chip) (s : Settings) (t i n b d x : List ℕ) (a : Answer) (w : ℕ) (e : w ≡ byteAt x 1) where
+  no-note : a ≡ codeAlone badNotePage s → length n / noteBytes ≤ w → saidOf a t i n b d ≡ obeyed χ s t i n b d (writeNotepad (byteAt x 1) (drop 2 x))
   unfolding carry carryAs rule verdict says follow sent
   no-note f h = rw (f, ← e, le-ltb _ _ h)
 
   noted : (y z : List ℕ) → a ≡ codeAlone done s → w < length n / noteBytes → length x ≡ 2 + noteBytes → y ≡ layFront (take (34 - 2) (drop 2 x)) (replicate noteBytes 0)
       → z ≡ layFront y (take (noteBytes * w + noteBytes - noteBytes * w) (drop (noteBytes * w) n))
-      → saidOf a t i (putMid (noteBytes * w) (noteBytes * w + noteBytes - noteBytes * w) n z) b d ≡ obeyed s t i n b d (writeNotepad (byteAt x 1) (drop 2 x))
+      → saidOf a t i (putMid (noteBytes * w) (noteBytes * w + noteBytes - noteBytes * w) n z) b d ≡ obeyed χ s t i n b d (writeNotepad (byteAt x 1) (drop 2 x))
   unfolding carry carryAs rule verdict follow sent apply withNotepad
   noted y z f h l g k =
       let v : take noteBytes (drop 2 x) ≡ drop 2 x = take-rest 2 noteBytes x l in
@@ -52,7 +53,7 @@ plain-requires : tie.Need-plain-requires
 plain-requires c κs = search needs
 
 returns : tie.Need-returns
-returns c = record { said = λ t i b d. search no-note; ready = search ready-alone }
+returns c = record { said = λ χ t i b d. search no-note; ready = search ready-alone }
 
 mul-a : tie.Need-mul-a
 mul-a c = search needs
@@ -97,7 +98,7 @@ same-length : tie.Need-same-length
 same-length c = search needs
 
 returns-2 : tie.Need-returns-2
-returns-2 c = record { said = λ t i b d. search noted; ready = search ready-alone }
+returns-2 c = record { said = λ χ t i b d. search noted; ready = search ready-alone }
 
 pub write-note-spec : {M : Type 1} → statement M
 write-note-spec =

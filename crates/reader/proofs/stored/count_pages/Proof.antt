@@ -8,6 +8,7 @@ use Rattle.protocol.specs.declared.Settings.{Settings}
 use Rattle.protocol.specs.Numbers.{indexBytes}
 use Rattle.protocol.specs.Tests.{verdict}
 use Rattle.protocol.specs.Bytes.{two, follow}
+use Rattle.protocol.specs.Search.{Chip}
 use Rattle.protocol.specs.Table.{apply, rule}
 use Rattle.protocol.specs.Commands.{templeteNum}
 use Rattle.protocol.specs.Step.{carry, carryAs}
@@ -21,10 +22,10 @@ use borrow.Author.Needs.{needs}
 use Rattle.reader.proofs.stored.count_pages.Statement.{statement}
 use Rattle.reader.proofs.stored.count_pages.Tie as tie
 
-counted : (s : Settings) (t i m b d : List ℕ) (a : Answer) (n : ℕ) → a ≡ answerOf true 0 2 (set (set (replicate listedBytes 0) 0 (n / 256)) 1 (n % 256)) 0 s
-    → n ≡ countOf indexBytes i → length i ≡ indexBytes → n < 65536 → saidOf a t i m b d ≡ obeyed s t i m b d templeteNum
+counted : (χ : Chip) (s : Settings) (t i m b d : List ℕ) (a : Answer) (n : ℕ) → a ≡ answerOf true 0 2 (set (set (replicate listedBytes 0) 0 (n / 256)) 1 (n % 256)) 0 s
+    → n ≡ countOf indexBytes i → length i ≡ indexBytes → n < 65536 → saidOf a t i m b d ≡ obeyed χ s t i m b d templeteNum
 unfolding carry carryAs rule verdict follow sent two apply
-counted s t i m b d a n e f l h = rw (e, high-byte n h, f ∙ counts indexBytes i l) refl
+counted χ s t i m b d a n e f l h = rw (e, high-byte n h, f ∙ counts indexBytes i l) refl
 
 cast-count : tie.Need-cast-count
 cast-count c = search needs
@@ -48,7 +49,7 @@ listed-requires : tie.Need-listed-requires
 listed-requires c κs = search needs
 
 returns : tie.Need-returns
-returns c = record { said = λ t m b d. search (counted, needs); ready = search ready-listed }
+returns c = record { said = λ χ t m b d. search (counted, needs); ready = search ready-listed }
 
 pub count-pages-spec : {M : Type 1} → statement M
 count-pages-spec =

@@ -8,6 +8,7 @@ use Rattle.protocol.specs.Numbers.{pageBytes, done}
 use Rattle.protocol.specs.Tests.{verdict}
 use Rattle.protocol.specs.Bytes.{zeros, follow}
 use Rattle.protocol.specs.Reader.{Reader, capacity, withLibrary, withoutPages}
+use Rattle.protocol.specs.Search.{Chip}
 use Rattle.protocol.specs.Data.{acknowledge}
 use Rattle.protocol.specs.Table.{apply, rule}
 use Rattle.protocol.specs.Commands.{empty}
@@ -21,10 +22,10 @@ use borrow.Author.Needs.{needs}
 use Rattle.reader.proofs.stored.empty_all.Statement.{statement}
 use Rattle.reader.proofs.stored.empty_all.Tie as tie
 
-all-empty : (q s : Settings) (t i m b d u j v w : List ℕ) (a : Answer) → a ≡ codeAlone done q → u ≡ zeros (length t) → j ≡ zeros (length i)
-    → Forgot 0 (length t / pageBytes) q s v w b d → saidOf a u j m v w ≡ obeyed s t i m b d empty
+all-empty : (χ : Chip) (q s : Settings) (t i m b d u j v w : List ℕ) (a : Answer) → a ≡ codeAlone done q → u ≡ zeros (length t) → j ≡ zeros (length i)
+    → Forgot 0 (length t / pageBytes) q s v w b d → saidOf a u j m v w ≡ obeyed χ s t i m b d empty
 unfolding carry carryAs rule verdict follow sent apply withLibrary withoutPages capacity
-all-empty q s t i m b d u j v w a e x y z =
+all-empty χ q s t i m b d u j v w a e x y z =
     rw (e, x, y) (ap (λ (r : Reader). record { reply = acknowledge (r .plain .address) done []; after = r }) (z .after (zeros (length t)) (zeros (length i)) m))
 
 -- the start, from where the buffers have forgotten
@@ -59,7 +60,7 @@ returns : tie.Need-returns
 unfolding start
 returns c =
     let p = (let s : tie.Start = search start in s .pre) in
-    record { said = λ m. search all-empty; ready = search (ready-alone, size-forgot) }
+    record { said = λ χ m. search all-empty; ready = search (ready-alone, size-forgot) }
 
 pub empty-all-spec : {M : Type 1} → statement M
 empty-all-spec =

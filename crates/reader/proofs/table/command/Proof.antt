@@ -8,6 +8,7 @@ use Rattle.protocol.specs.declared.Settings.{Settings}
 use Rattle.protocol.specs.Bytes.{byteAt, follow}
 use Rattle.protocol.specs.Packet.{lengthOf}
 use Rattle.protocol.specs.Reader.{Plain, Reader}
+use Rattle.protocol.specs.Search.{Chip}
 use Rattle.protocol.specs.Commands.{commands, rowOf, orderOf}
 use Rattle.protocol.specs.Step.{Said, says, obey, heed}
 use Rattle.protocol.specs.Records.{plainOf, readerOf}
@@ -19,21 +20,21 @@ use Rattle.reader.proofs.Ready.{ready-alone}
 use Rattle.reader.proofs.table.command.Statement.{statement}
 use Rattle.reader.proofs.table.command.Tie as tie
 
-stops : (s : Settings) (t i m b d x : List ℕ) (right : Bool) (stop : ℕ) (a : Answer) → a ≡ codeAlone stop s → stop ≡ gateOf right (byteAt x 0) (lengthOf x) (plainOf s) → (stop ≡ 0 → ⊥)
-    → saidOf a t i m b d ≡ heed (readerOf s t i m b d) (orderOf right x)
+stops : (χ : Chip) (s : Settings) (t i m b d x : List ℕ) (right : Bool) (stop : ℕ) (a : Answer) → a ≡ codeAlone stop s → stop ≡ gateOf right (byteAt x 0) (lengthOf x) (plainOf s) → (stop ≡ 0 → ⊥)
+    → saidOf a t i m b d ≡ heed χ (readerOf s t i m b d) (orderOf right x)
 unfolding says follow sent
-stops s t i m b d x right stop a e g z = rw (e, g) (sym (gate-stops (readerOf s t i m b d) x right (λ w. z (g ∙ w))))
+stops χ s t i m b d x right stop a e g z = rw (e, g) (sym (gate-stops χ (readerOf s t i m b d) x right (λ w. z (g ∙ w))))
 
 -- what a passed gate says
 module _ (right : Bool) (k n stop : ℕ) (p : Plain) (g : stop ≡ gateOf right k n p) (z : stop ≡ 0) where
   passed : Admitted k n p
   passed = gate-passes right k n p (sym g ∙ z) .admits
 
-goes : (r : Reader) (x : List ℕ) (right : Bool) (stop : ℕ) (said : Said) → said ≡ obey r (readOf (rowOf commands (byteAt x 0)) x)
-    → stop ≡ gateOf right (byteAt x 0) (lengthOf x) (r .plain) → stop ≡ 0 → said ≡ heed r (orderOf right x)
-goes r x right stop said e g z =
+goes : (χ : Chip) (r : Reader) (x : List ℕ) (right : Bool) (stop : ℕ) (said : Said) → said ≡ obey χ r (readOf (rowOf commands (byteAt x 0)) x)
+    → stop ≡ gateOf right (byteAt x 0) (lengthOf x) (r .plain) → stop ≡ 0 → said ≡ heed χ r (orderOf right x)
+goes χ r x right stop said e g z =
     let p = gate-passes right (byteAt x 0) (lengthOf x) (r .plain) (sym g ∙ z) in
-    e ∙ sym (gate-goes r x right (p .sum) (p .admits .long))
+    e ∙ sym (gate-goes χ r x right (p .sum) (p .admits .long))
 
 shared-slice-read-code : tie.Need-shared-slice-read-code
 shared-slice-read-code c = search needs
@@ -51,7 +52,7 @@ returns : tie.Need-returns
 returns c = (search stops, search ready-alone)
 
 row-requires : tie.Need-row-requires
-row-requires c κs = record { fit = search; admits = search passed }
+row-requires c κs = record { fit = search; scored = search; admits = search passed }
 
 same-length : tie.Need-same-length
 same-length c = search needs

@@ -89,11 +89,11 @@ returns-18 c = search fixed
 
 returns-19 : tie.Need-returns-19
 unfolding commands rowOf lenOf
-returns-19 c = search (picks, needs)
+returns-19 c = search fixed
 
 returns-20 : tie.Need-returns-20
 unfolding commands rowOf lenOf
-returns-20 c = search (picks, needs)
+returns-20 c = search fixed
 
 returns-21 : tie.Need-returns-21
 unfolding commands rowOf lenOf
@@ -114,6 +114,14 @@ returns-24 c = search (picks, needs)
 returns-25 : tie.Need-returns-25
 unfolding commands rowOf lenOf
 returns-25 c = search (picks, needs)
+
+returns-26 : tie.Need-returns-26
+unfolding commands rowOf lenOf
+returns-26 c = search (picks, needs)
+
+returns-27 : tie.Need-returns-27
+unfolding commands rowOf lenOf
+returns-27 c = search (picks, needs)
 
 pub required-spec : {M : Type 1} → statement M
 required-spec =
@@ -143,4 +151,6 @@ required-spec =
     returns-22
     returns-23
     returns-24
-    returns-25)
+    returns-25
+    returns-26
+    returns-27)
