@@ -178,6 +178,16 @@ static void refused_command_rows(size_t capacity) {
     measure_command(0x21, count, sizeof count);
 }
 
+/* The found mark is set: the status word hides it, and the settings keep it. */
+static void locked_parameters_row(size_t capacity) {
+    static const uint8_t read[] = {0x0F};
+    begin(&calls, "locked: 0Fh ReadSysPara", capacity);
+    reader.line.settings.verified = 0;
+    reader.line.settings.found = 1;
+    measure_command(0x00, read, sizeof read);
+    expect(reader.reply[10] == 0 && reader.reply[11] == 0 && reader.line.settings.found);
+}
+
 /* The call that does least: it makes the tests that come before every other, that of the index among them. */
 static const struct row *least;
 
@@ -248,6 +258,7 @@ static void measure_calls(size_t capacity) {
     download_row("download, 128 bytes a packet", capacity, 2);
     download_row("download, 256 bytes a packet", capacity, 3);
     refused_command_rows(capacity);
+    locked_parameters_row(capacity);
     silent_rows(capacity);
     refusal_rows(capacity);
 }

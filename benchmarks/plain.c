@@ -141,7 +141,7 @@ static int fits(const uint8_t *index, size_t pages) {
 
 static int is_locked(const struct bystrodol_settings *settings) {
     static const uint8_t none[4];
-    return memcmp(settings->password, none, sizeof none) != 0 && !settings->verified;
+    return !settings->verified && memcmp(settings->password, none, sizeof none) != 0;
 }
 
 static size_t data_size(const struct bystrodol_settings *settings) { return (size_t)32 << settings->size; }
@@ -278,9 +278,10 @@ static enum code set_parameter(struct bystrodol_settings *settings, uint8_t numb
     }
 }
 
+/* The found mark is guarded, and shows only where the reader is not locked. */
 static void read_parameters(const struct reader *reader, uint8_t data[16]) {
     const struct bystrodol_settings *settings = reader->settings;
-    put16(data, (settings->verified ? 4 : 0) | (settings->found ? 2 : 0));
+    put16(data, (settings->verified ? 4 : 0) | (settings->found && !is_locked(settings) ? 2 : 0));
     put16(data + 2, settings->sensor);
     put16(data + 4, reader->pages);
     put16(data + 6, settings->level);
@@ -385,6 +386,11 @@ static size_t length_of(uint8_t command) {
     }
 }
 
+/* The commands that a locked reader carries out, too. */
+static int is_open(uint8_t command) {
+    return command == READ_SYS_PARA || command == VFY_PWD || command == HAND_SHAKE;
+}
+
 static size_t carry_out(struct reader *reader, uint8_t command, const uint8_t *parameters) {
     uint8_t data[16];
     switch (command) {
@@ -451,8 +457,7 @@ static size_t take_command(struct reader *reader, const uint8_t *packet, size_t 
     size_t length = length_of(command);
     if (length == 0) return reply_code(reader, UNKNOWN_COMMAND);
     if (length != n + SUM_BYTES) return reply_code(reader, BAD_PACKET);
-    if (is_locked(reader->settings) && command != VFY_PWD && command != HAND_SHAKE)
-        return reply_code(reader, PASSWORD_FIRST);
+    if (is_locked(reader->settings) && !is_open(command)) return reply_code(reader, PASSWORD_FIRST);
     return carry_out(reader, command, packet + CONTENT + 1);
 }
 

@@ -1,7 +1,7 @@
 /*
  * Pairs of legal locked readers that differ only in guarded contents get the same runs and line switches, up to and
  * including the right password; first whole, by the step, and then in pieces, by receivers that hold the same. The
- * addresses of a call's instructions must be the same in both.
+ * addresses of a call's instructions must be the same in both, and so must the bytes of the reply.
  */
 #include "benchmarks.h"
 #include "reader.h"
@@ -121,6 +121,8 @@ static const struct {
 };
 
 enum call {
+    READ_PARAMETERS = READ_SYS_PARA * SHAPES + VALID,
+    READ_PARAMETERS_TOO_LONG = READ_SYS_PARA * SHAPES + TOO_LONG,
     OTHER_RUN = COMMANDS * SHAPES,
     DATA_PACKET = OTHER_RUN + sizeof other_runs / sizeof *other_runs,
     LAST_DATA_PACKET,
@@ -133,8 +135,15 @@ enum call {
     NO_CALL
 };
 
-/* The rounds that are all calls, and the calls that one pair gets before the right password. */
-enum { ROUNDS = 6, CALLS_EACH = (LOCKED_CALLS + ROUNDS - 1) / ROUNDS };
+/* Every pair gets the two of ReadSysPara. The rounds that are all others, and how many of these one pair gets. */
+enum { ROUNDS = 6, OTHER_CALLS = LOCKED_CALLS - 2, CALLS_EACH = (OTHER_CALLS + ROUNDS - 1) / ROUNDS };
+
+static enum call other_call(size_t number) {
+    size_t call = number % OTHER_CALLS;
+    call += call >= READ_PARAMETERS;
+    call += call >= READ_PARAMETERS_TOO_LONG;
+    return (enum call)call;
+}
 
 static void append_command(struct command command, enum shape shape) {
     if (shape == NOISY) append_noise(16);
@@ -216,63 +225,78 @@ static __typeof__(bystrodol_receiver_switch) *receiver_switch;
 static int in_pieces;
 static size_t first_count, first_trace[TRACE_MOST];
 
-/* A call of the reader with the whole run, or of its receiver with a piece: the refusal, and the bytes taken. */
+/* What of the last call was not the same in both. */
+static int path_differs, reply_differs;
+
+/* A call of the reader with the whole run, or of its receiver with a piece. The reader takes all of the run. */
 static struct bystrodol_received call_reader(enum call call, const uint8_t *piece, size_t n) {
     struct bystrodol_received received = {BYSTRODOL_ACCEPTED, n, 0};
     if (call == LINE_SWITCH)
         received.refusal = in_pieces ? receiver_switch_stepped(receiver_switch) : line_switch_stepped(line_switch);
     else if (in_pieces)
         received = receive_stepped(receive, piece, n);
-    else
-        received.refusal = call_stepped(step).refusal;
+    else {
+        struct bystrodol_answer answer = call_stepped(step);
+        received.refusal = answer.refusal, received.length = answer.length;
+    }
     return received;
 }
 
-/* Puts a reader of the pair in the place of the called one, calls it, and takes it back. The bytes taken. */
-static size_t make_call(struct reader *called, enum call call, const uint8_t *piece, size_t n) {
+/* Puts a reader of the pair in the place of the called one, calls it, and takes it back. */
+static struct bystrodol_received make_call(struct reader *called, enum call call, const uint8_t *piece, size_t n) {
     copy_reader(&reader, called);
     struct bystrodol_received received = call_reader(call, piece, n);
     if (received.refusal != BYSTRODOL_ACCEPTED) fail("a legal reader was refused");
     if (step_count > TRACE_MOST) fail("a call has more instructions than a trace holds");
     copy_reader(called, &reader);
-    return received.taken;
+    return received;
 }
 
-static int paths_differ(enum call call) {
+/* The reply rooms of a pair have the same bytes before its first call. */
+static int differs(enum call call) {
     make_run(call);
     if (in_pieces) hold_noise();
     size_t at = 0;
     do {
         size_t n = in_pieces ? random_piece(run_length - at) : run_length;
-        size_t taken = make_call(&pair[0], call, run + at, n);
+        struct bystrodol_received first = make_call(&pair[0], call, run + at, n);
         first_count = step_count;
         memcpy(first_trace, step_trace, step_count * sizeof *step_trace);
-        if (make_call(&pair[1], call, run + at, n) != taken) fail("two receivers took different numbers of bytes");
-        if (step_count != first_count || memcmp(first_trace, step_trace, step_count * sizeof *step_trace) != 0)
-            return 1;
-        at += taken;
-    } while (at < run_length);
-    return 0;
+        struct bystrodol_received second = make_call(&pair[1], call, run + at, n);
+        if (second.taken != first.taken) fail("two receivers took different numbers of bytes");
+        path_differs =
+            step_count != first_count || memcmp(first_trace, step_trace, step_count * sizeof *step_trace) != 0;
+        reply_differs =
+            second.length != first.length || memcmp(pair[0].reply, pair[1].reply, sizeof pair[0].reply) != 0;
+        at += first.taken;
+    } while (!path_differs && !reply_differs && at < run_length);
+    return path_differs || reply_differs;
 }
 
-/* A round's calls with a line switch somewhere among them, and then the right password. The first call whose paths differ. */
+/*
+ * ReadSysPara, which tells a locked reader's parameters, right and a byte too long, while the found marks are as the pair
+ * was made; a round's calls with a line switch somewhere among them; and then the right password. The first call that
+ * differs.
+ */
 static enum call first_difference(size_t round) {
     const size_t switched = random_byte() % CALLS_EACH;
+    if (differs(READ_PARAMETERS)) return READ_PARAMETERS;
+    if (differs(READ_PARAMETERS_TOO_LONG)) return READ_PARAMETERS_TOO_LONG;
     for (size_t i = 0; i < CALLS_EACH; i++) {
-        if (i == switched && paths_differ(LINE_SWITCH)) return LINE_SWITCH;
-        enum call call = (enum call)((CALLS_EACH * round + i) % LOCKED_CALLS);
-        if (paths_differ(call)) return call;
+        if (i == switched && differs(LINE_SWITCH)) return LINE_SWITCH;
+        enum call call = other_call(CALLS_EACH * round + i);
+        if (differs(call)) return call;
     }
-    if (paths_differ(RIGHT_PASSWORD)) return RIGHT_PASSWORD;
+    if (differs(RIGHT_PASSWORD)) return RIGHT_PASSWORD;
     if (!pair[0].line.settings.verified || !pair[1].line.settings.verified) fail("the right password was not accepted");
     return NO_CALL;
 }
 
-/* The password is given now: the paths of LoadChar must differ if only one reader has stored the page. */
-static int unlocked_paths_differ(void) {
+/* The password is given now: path and reply of LoadChar must differ if only one reader has stored the page. */
+static int differs_unlocked(void) {
     clear_stored(&pair[0].memory, 0);
     set_stored(&pair[1].memory, 0);
-    return paths_differ(LOAD_FIRST_PAGE);
+    return differs(LOAD_FIRST_PAGE) && path_differs && reply_differs;
 }
 
 /* ---- output */
@@ -310,13 +334,22 @@ static void put_next(const size_t *trace, size_t count, size_t i) {
 }
 
 /* Where the two last calls part: the last instruction that they share, and the next one of each. */
-static void put_difference(const char *name, size_t capacity, size_t number, enum call call) {
+static void put_parting(void) {
     size_t i = 0;
     while (i < first_count && i < step_count && first_trace[i] == step_trace[i]) i++;
-    put_text(name), put_text(": capacity "), put_number(capacity), put_text(", pair "), put_number(number);
-    put_text(", call "), put_number(call), put_text(": after "), put_place(i > 0 ? first_trace[i - 1] : 0);
+    put_text("after "), put_place(i > 0 ? first_trace[i - 1] : 0);
     put_text(" one goes to "), put_next(first_trace, first_count, i);
-    put_text(", the other to "), put_next(step_trace, step_count, i), put_text("\n");
+    put_text(", the other to "), put_next(step_trace, step_count, i);
+}
+
+static void put_difference(const char *name, size_t capacity, size_t number, enum call call) {
+    put_text(name), put_text(": capacity "), put_number(capacity), put_text(", pair "), put_number(number);
+    put_text(", call "), put_number(call), put_text(": ");
+    if (path_differs)
+        put_parting();
+    else
+        put_text("one path, two replies");
+    put_text("\n");
 }
 
 /*
@@ -331,17 +364,19 @@ static int compare_pairs(const char *name, size_t pairs, size_t round) {
         make_pair(capacity, kind, i);
         enum call call = first_difference(i / round);
         if (call == NO_CALL)
-            unlocked_differ += (size_t)unlocked_paths_differ();
+            unlocked_differ += (size_t)differs_unlocked();
         else if (differ++ == 0)
             put_difference(name, capacity, i, call);
     }
     put_text(name), put_text(", unlocked: "), put_number(pairs - differ), put_text(" pairs, ");
-    put_number(unlocked_differ), put_text(" differ (LoadChar of a page that only one has stored: all must)\n");
+    put_number(unlocked_differ), put_text(" differ in path and reply ");
+    put_text("(LoadChar of a page that only one has stored: all must)\n");
     put_text(name), put_text(": "), put_number(pairs), put_text(" pairs, "), put_number(differ), put_text(" differ\n");
     return differ == 0 && unlocked_differ == pairs;
 }
 
 int compare_traces(int of_plain) {
+    if (command_of(READ_SYS_PARA, 1).content[0] != 0x0F) fail("ReadSysPara is not where it is looked for");
     step = of_plain ? plain_step : bystrodol_step;
     line_switch = of_plain ? plain_line_switch : bystrodol_line_switch;
     receive = of_plain ? plain_receive : bystrodol_receive;

@@ -79,6 +79,9 @@
  *     behind buffer 2. The found mark stands where those versions had spare, a byte that the board could use. It is 0 unless the board
  *     wrote to it, and the line switch at power-on makes it 0 in any case. So settings that were stored are loaded as they are; but a
  *     board that used the byte needs another place for what it kept there. An older version takes the found mark for its spare byte.
+ *     In versions 0.1 to 0.8 a locked reader answered ReadSysPara 21h; today it carries it out. Functions, structs and all that is stored
+ *     are as they were, and the board has nothing to bring over. But a host or a board that took this 21h for the sign of a lock must ask
+ *     another command, such as TempleteNum.
  */
 #ifndef BYSTRODOL_H
 #define BYSTRODOL_H
@@ -89,9 +92,9 @@
 /* The version of this header and of the archives. Another major number, or, while that is 0, another minor one, may need a
  * change of the caller. */
 #define BYSTRODOL_VERSION_MAJOR 0
-#define BYSTRODOL_VERSION_MINOR 8
+#define BYSTRODOL_VERSION_MINOR 9
 #define BYSTRODOL_VERSION_PATCH 0
-#define BYSTRODOL_VERSION "0.8.0"
+#define BYSTRODOL_VERSION "0.9.0"
 
 /* ---- lengths, in bytes */
 
@@ -160,6 +163,13 @@
  * found mark, 09h clears it; Search's other codes and every other command keep it, and the line switch clears it. Of the buffer that is
  * named only the filled mark is looked at: the board sees to it that the scores are that buffer's.
  *
+ * A locked reader carries out three commands:
+ *   0Fh ReadSysPara   sensor type, capacity, level, address, size code and baud factor are told to any host; the status word is 0
+ *   13h VfyPwd        the right password unlocks the reader, a wrong one leaves it locked
+ *   40h HandShake     as ever
+ * Any other is answered 21h and changes nothing. Sum, code and length are tested before, as in every reader. A status word of 0 is no
+ * sign of a lock, since a reader without a password may have it, too: a 21h is, as the answer to TempleteNum.
+ *
  * Over power-off nothing of a buffer, a mark, an origin or a transfer is worth keeping: the line switch clears them. So save templates
  * and index after Store, DeletChar and Empty, settings after SetSysPara, SetPwd and SetAdder, and the notepad after
  * WriteNotepad; or compare them with what was saved. After Store save the template before the index, and after DeletChar and Empty
@@ -187,7 +197,9 @@
 #define BYSTRODOL_COMMAND_READ_INDEX_TABLE 0x1Fu /* index page n, one byte, 0 to 3, pages 256 n to 256 n + 255: nothing */
 #define BYSTRODOL_COMMAND_HAND_SHAKE 0x40u       /* nothing */
 
-/* The bits of the status word, which is the first number that ReadSysPara tells: found mark and verified mark. The others are 0. */
+/* The bits of the status word, which is the first number that ReadSysPara tells: found mark and verified mark. The others are 0, and
+ * while the reader is locked all are. The found mark is kept then, and shows again once the reader is unlocked. A reader without a
+ * password is never locked, and shows the found mark whether the verified mark is 0 or 1. */
 #define BYSTRODOL_STATUS_FOUND 2u
 #define BYSTRODOL_STATUS_VERIFIED 4u
 
@@ -211,7 +223,7 @@
 #define BYSTRODOL_CODE_BAD_PARAMETER 0x1Au   /* SetSysPara: no such parameter */
 #define BYSTRODOL_CODE_BAD_VALUE 0x1Bu       /* SetSysPara: a value outside the parameter's range */
 #define BYSTRODOL_CODE_BAD_NOTE_PAGE 0x1Cu   /* no such page of the notepad */
-#define BYSTRODOL_CODE_PASSWORD_FIRST 0x21u  /* the reader is locked */
+#define BYSTRODOL_CODE_PASSWORD_FIRST 0x21u  /* the reader is locked, and the command is not 0Fh, 13h or 40h */
 #define BYSTRODOL_CODE_PAGE_TAKEN 0x22u      /* Store: the page is stored already, and kept; before you delete it, see above */
 
 /* The origin of a buffer that has none. */

@@ -73,7 +73,7 @@ SIZE, SPEED, FILE = ("SIZE", size_code_of), ("BAUD", baud_factor_of), ("FILE", s
 Form = collections.namedtuple("Form", "word kinds command means before after", defaults=((), ()))
 FORMS = (
     Form("handshake", (), "HandShake", "is a reader there?"),
-    Form("parameters", (), "ReadSysPara", "its settings"),
+    Form("parameters", (), "ReadSysPara", "its settings, without a password too"),
     Form("count", (), "TempleteNum", "how many templates are stored"),
     Form("index", (), "ReadIndexTable", "which pages are stored, of all that the reader has"),
     Form("index", (PART,), "ReadIndexTable", "of 256 pages: part 0 is pages 0 to 255, part 1 256 to 511, up to part 3"),
@@ -230,7 +230,8 @@ def parser():
     options.add_argument("words", metavar="WORDS", nargs="+", help="one of the above")
     options.add_argument("--baud", type=int, default=BAUD * FRESH_BAUD_FACTOR, help="speed of the line, %(default)s")
     options.add_argument("--address", default=FRESH_ADDRESS.hex().upper(), help="of the reader, %(default)s")
-    options.add_argument("--password", help="verified first, on the same open port; the reader stays unlocked")
+    options.add_argument("--password", help="verified first, on the same open port; the reader stays unlocked. "
+                         "A locked one answers handshake and parameters without it")
     options.add_argument("--wait", type=float, metavar="SECONDS", default=SECONDS,
                          help="the longest wait for a packet, %(default)s")
     options.add_argument("--yes", action="store_true", help="empty does not ask")

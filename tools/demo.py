@@ -13,8 +13,8 @@ import subprocess
 import sys
 
 from program import TROUBLE, end
-from protocol import (ACKNOWLEDGE, COMMAND, DAMAGED, FRESH_ADDRESS, FRESH_BAUD_FACTOR, FRESH_SIZE_CODE, HEAD,
-                      NOTE, NOT_FOUND, SIZES, TEMPLATE, Packet, content_of, data_packets, number, packet, two_bytes)
+from protocol import (ACKNOWLEDGE, COMMAND, DAMAGED, FOUND, FRESH_ADDRESS, FRESH_BAUD_FACTOR, FRESH_SIZE_CODE, HEAD,
+                      NOTE, NOT_FOUND, SIZES, TEMPLATE, VERIFIED, Packet, content_of, data_packets, number, packet, two_bytes)
 from words import show, show_data
 
 SECONDS = 10                        # the longest wait for an answer
@@ -95,6 +95,12 @@ class Reader:
             raise Wrong("At its end the reader says '%s', status %d." % (rest.hex(" "), self.process.returncode))
 
 
+def parameters(status):
+    """What ReadSysPara lists of a reader in which nothing but the password was set."""
+    return b"".join([two_bytes(status), two_bytes(0), two_bytes(CAPACITY), two_bytes(3), FRESH_ADDRESS,
+                     two_bytes(FRESH_SIZE_CODE), two_bytes(FRESH_BAUD_FACTOR)])
+
+
 def dialogue(reader):
     password = bytes.fromhex("12345678")
     template = bytes(3 * i % 251 for i in range(TEMPLATE))
@@ -102,9 +108,7 @@ def dialogue(reader):
     note = b"Station 12, vault 3".ljust(NOTE, b"\0")
     print("A packet: ef 01, address (4 bytes), identifier (1), length (2), content, sum (2).")
     reader.ask("Is a reader there?", "HandShake")
-    reader.ask("What are its parameters?", "ReadSysPara", listed=b"".join(
-        [two_bytes(0), two_bytes(0), two_bytes(CAPACITY), two_bytes(3), FRESH_ADDRESS, two_bytes(FRESH_SIZE_CODE),
-         two_bytes(FRESH_BAUD_FACTOR)]))
+    reader.ask("What are its parameters?", "ReadSysPara", listed=parameters(0))
     reader.ask("A template goes into buffer 1.", "DownChar", 1)
     reader.download(template)
     reader.ask("Buffer 1 is stored on page 7.", "Store", 1, 7)
@@ -123,7 +127,11 @@ def dialogue(reader):
     reader.ask("So nothing is lost. How many templates are stored?", "TempleteNum", listed=two_bytes(1))
     reader.ask("A password is set. From now on the reader is locked.", "SetPwd", password)
     reader.ask("How many templates are stored?", "TempleteNum", code=0x21)
+    reader.ask("Its parameters are told all the same, but not that the last Search found a page.", "ReadSysPara",
+               listed=parameters(0))
     reader.ask("The right password unlocks it.", "VfyPwd", password)
+    reader.ask("Now the status has both: the password is verified, and a page was found.", "ReadSysPara",
+               listed=parameters(VERIFIED | FOUND))
     reader.ask("Page 7 is deleted.", "DeletChar", 7, 1)
     reader.ask("How many templates are stored?", "TempleteNum", listed=two_bytes(0))
     reader.ask("Buffer 2 was loaded from page 7, and is wiped with it.", "UpChar", 2, code=0x0D)

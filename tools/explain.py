@@ -51,7 +51,7 @@ def rest_of(part):
 
 
 def answer_to(command):
-    """What a reader that is not locked answers to a command with faults."""
+    """What a reader answers to a command with faults, locked or not."""
     is_right = command.sum == sum_of(command.identifier, command.content)
     code = UNKNOWN if is_right and command.code not in BY_CODE else DAMAGED
     return "a reader of this address answers %02Xh, %s" % (code, ACKNOWLEDGES[code])

@@ -30,7 +30,7 @@ NO_PASSWORD = bytes(4)
 # SetSysPara's numbers.
 BAUD_FACTOR, SECURITY_LEVEL, SIZE_CODE = 4, 5, 6
 
-# Bits of the status word, by weight: the last Search found a page; a password is verified.
+# Bits of the status word, by weight: the last Search found a page; a password is verified. A locked reader shows neither.
 FOUND, VERIFIED = 2, 4
 
 DONE, DAMAGED, NOT_FOUND, TRANSFER_FAILED, UNKNOWN = 0x00, 0x01, 0x09, 0x0E, 0x19

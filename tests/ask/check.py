@@ -47,12 +47,13 @@ def side_by_side(function, rows):
 # ---- a reader
 
 DONE = "07 00 03 00 00 0a"
+LOCKED_PARAMETERS = "07 00 13 00 00 00 00 00 00 40 00 05 ff ff ff ff 00 03 00 0c 04 6a"
 # To a fresh reader, in turn: the words, what goes out and what comes back behind the address, the status, and what is said.
 DIALOGUE = (
     ("handshake", "01 00 03 40 00 44", DONE, 0, "command 40h HandShake", "acknowledge 00h, done"),
     ("parameters", "01 00 03 0f 00 13", "07 00 13 00 00 00 00 00 00 40 00 03 ff ff ff ff 00 02 00 06 04 61", 0,
      "capacity 64 (pages)", "security level 3", "128 bytes in a data packet", "57600 baud",
-     "status 0 (no password verified, no page found)"),
+     "status 0 (no password verified; no page found, or not told while locked)"),
     ("count", "01 00 03 1d 00 21", "07 00 05 00 00 00 00 0c", 0, "templates stored 0"),
     ("index", "01 00 04 1f 00 00 24", "07 00 23 00 00", 0, "stored none of pages 0 to 255", "stored: none of 64 pages"),
     ("note|3|Station 12", "01 00 24 18 03 53 74 61 74 69 6f 6e 20 31 32 00", DONE, 0, 'page 3, text "Station 12"'),
@@ -81,7 +82,7 @@ DIALOGUE = (
     ("search|1|12|52", "01 00 08 04 01 00 0c 00 34 00 4e", "07 00 07 09 00 00 00 00 00 17", 1,
      "acknowledge 09h, no page found: page 0, score 0"),
     ("parameters", "01 00 03 0f 00 13", "07 00 13 00 00 00 00 00 00 40 00 03 ff ff ff ff 00 02 00 06 04 61", 0,
-     "status 0 (no password verified, no page found)"),
+     "status 0 (no password verified; no page found, or not told while locked)"),
     ("index", "01 00 04 1f 00 00 24", "07 00 23 00 80 09 00", 0, "stored pages 7 to 8, 11, of pages 0 to 255",
      "stored: 3 of 64 pages: 7 to 8, 11"),
     ("index|0", "01 00 04 1f 00 00 24", "07 00 23 00 80 09 00", 0, "index page 0", "stored pages 7 to 8, 11, of pages 0 to 255"),
@@ -109,17 +110,29 @@ DIALOGUE = (
     ("delete|63|2", "01 00 07 0c 00 3f 00 02 00 55", "07 00 03 10 00 1a", 1, "no such pages"),
     ("delete|11", "01 00 07 0c 00 0b 00 01 00 20", DONE, 0, "page 11, count 1"),
     ("store|1|0", "01 00 06 06 01 00 00 00 0e", DONE, 0),
+    ("search|1|0|1", "01 00 08 04 01 00 00 00 01 00 0f", "07 00 07 00 00 00 00 00 00 0e", 0, "page 0, score 0"),
     ("empty|--yes", "01 00 03 0d 00 11", DONE, 0),
     ("count", "01 00 03 1d 00 21", "07 00 05 00 00 00 00 0c", 0, "templates stored 0"),
     ("set-password|12345678", "01 00 07 12 12 34 56 78 01 2e", DONE, 0, "--password 12345678"),
     ("count", "01 00 03 1d 00 21", "07 00 03 21 00 2b", 1, "locked: the password first"),
     ("search|1|0|64", "01 00 08 04 01 00 00 00 40 00 4e", "07 00 03 21 00 2b", 1, "locked: the password first"),
-    ("upload|1|FOLDER/none", "01 00 03 0f 00 13", "07 00 03 21 00 2b", 1),
+    ("parameters", "01 00 03 0f 00 13", LOCKED_PARAMETERS, 0, "capacity 64 (pages)", "115200 baud",
+     "status 0 (no password verified; no page found, or not told while locked)"),
+    ("index", "01 00 04 1f 00 00 24", "07 00 03 21 00 2b", 1, LOCKED_PARAMETERS, "locked: the password first"),
+    ("upload|1|FOLDER/none", "01 00 04 08 01 00 0e", "07 00 03 21 00 2b", 1, LOCKED_PARAMETERS, "locked: the password first"),
+    ("download|1|FOLDER/template", "01 00 04 09 01 00 0f", "07 00 03 21 00 2b", 1, LOCKED_PARAMETERS, "locked: the password first"),
     ("--password|00000005|empty|--yes", "01 00 07 13 00 00 00 05 00 20", "07 00 03 13 00 1d", 1, "wrong password"),
+    ("parameters", "01 00 03 0f 00 13", LOCKED_PARAMETERS, 0),
+    ("parameters|--password|12345678", "01 00 03 0f 00 13",
+     "07 00 13 00 00 06 00 00 00 40 00 05 ff ff ff ff 00 03 00 0c 04 70", 0, "status 6 (password verified, last Search found a page)"),
+    ("password|00000005", "01 00 07 13 00 00 00 05 00 20", "07 00 03 13 00 1d", 1, "wrong password"),
+    ("parameters", "01 00 03 0f 00 13", LOCKED_PARAMETERS, 0),
     ("count|--password|12345678", "01 00 07 13 12 34 56 78 01 2f", DONE, 0, "host    ef 01 ff ff ff ff 01 00 03 1d 00 21",
      "templates stored 0"),
     ("password|12345678", "01 00 07 13 12 34 56 78 01 2f", DONE, 0),
     ("set-password|00000000", "01 00 07 12 00 00 00 00 00 1a", DONE, 0),
+    ("parameters", "01 00 03 0f 00 13", "07 00 13 00 00 02 00 00 00 40 00 05 ff ff ff ff 00 03 00 0c 04 6c", 0,
+     "status 2 (no password verified, last Search found a page)"),
     ("set-address|12345678", "01 00 07 15 12 34 56 78 01 31", DONE, 0, "--address 12345678"),
     ("--address|12345678|--baud|9600|handshake", "01 00 03 40 00 44", DONE, 0),
 )
@@ -188,7 +201,8 @@ def give_bad_words():
         side_by_side(lambda words: expect(["ask", *words.replace("PORT", peer.name).split("|")], 2, "usage: ./bystrodol ask"),
                      BAD_WORDS)
         expect(["ask"], 2, "usage: ./bystrodol ask")
-        expect(["ask", "--help"], 0, "usage: ./bystrodol ask", "download BUFFER FILE", "search BUFFER START COUNT")
+        expect(["ask", "--help"], 0, "usage: ./bystrodol ask", "download BUFFER FILE", "search BUFFER START COUNT",
+               "its settings, without a password too")
         short, long, there = (os.path.join(folder, name) for name in ("short", "long", "there"))
         for name, length in ((short, 511), (long, 513), (there, 1)):
             with open(name, "wb") as file:
@@ -214,6 +228,7 @@ def run_of(text):
 
 
 OK = run_of("ef 01 A 07 00 03 00 00 0a")
+LOCKED = run_of("ef 01 A 07 00 03 21 00 2b")
 PARAMETERS = run_of("ef 01 A 07 00 13 00 0000 0000 0040 0003 ffffffff 0001 0006 0460")
 
 # A command, the answer, the status, and what is said.
@@ -245,7 +260,9 @@ ANSWERS = (
     ("handshake", run_of("ef 01 A 09 00 03 00 00 0c") + OK, 0, "passed over: ef 01 ff ff ff ff 09 00 03 00 00 0c"),
     ("handshake", [OK[at:at + 1] for at in range(len(OK))], 0, "acknowledge 00h, done"),
     ("set-address|00000001", OK, 2, "it comes from address FFFFFFFF, and not from 00000001"),
-    ("set-address|00000001", run_of("ef 01 A 07 00 03 21 00 2b"), 1, "locked: the password first"),
+    ("set-address|00000001", LOCKED, 1, "locked: the password first"),
+    ("parameters", LOCKED, 1, "locked: the password first"),
+    ("parameters", run_of("ef 01 A 07 00 13 00 0004 0000 0040 0003 ffffffff 0001 0006 0464"), 0, "status 4 (password verified, no page found)"),
     ("handshake", None, 2, "ask: the port "),
 )
 
@@ -271,6 +288,7 @@ UPLOADS = (
     ([PARAMETERS, [OK, *DATA[:-1], DATA[0]]], 2, "it is no packet of identifier 8, last data"),
     ([PARAMETERS, [OK, *data_of(TEMPLATE, 128)]], 2, "a data packet has 128 bytes, and 64 are the size"),
     ([run_of("ef 01 A 07 00 13 00 0000 0000 0040 0003 ffffffff 0004 0006 0463")], 2, "size code is 4, and document 01 has 0 to 3"),
+    ([PARAMETERS, LOCKED], 1, "locked: the password first"),
 )
 
 # The same of a download.
@@ -280,6 +298,7 @@ DOWNLOADS = (
     ([PARAMETERS, OK, *NO_0E, run_of("ef 01 A 07 00 03 0d 00 17")], 1, "the buffer is not filled"),
     ([PARAMETERS, OK, *NO_0E, [OK, *data_of(bytes(512))]], 2, "does not hold what was sent"),
     ([PARAMETERS, run_of("ef 01 A 07 00 03 01 00 0b")], 1, "bad parameter"),
+    ([PARAMETERS, LOCKED], 1, "locked: the password first"),
 )
 
 
@@ -334,6 +353,7 @@ def answer_download(row):
         file.write(TEMPLATE)
         file.flush()
         expect(["ask", peer.name, "--wait", WAIT, "download", "1", file.name], status, said)
+        check((DATA[0] in peer.heard) == (OK in answers), "data packets are sent without a 00h to DownChar, or not sent behind it: " + said)
 
 
 def answer_badly():

@@ -15,7 +15,7 @@ enum { SCORES_ROOM = 1026, THRESHOLDS_ROOM = 11 };
 static const char *const names[PARTS] = {"index", "notepad", "buffer 1", "buffer 2", "run", "reply room", "templates"};
 
 /* Room for each part, more than is right. */
-static const size_t rooms[PARTS] = {385, 513, 513, 513, 64, 701, MOST};
+static const size_t rooms[PARTS] = {385, 513, 513, 513, 267, 701, MOST};
 
 static struct {
     uint8_t before_line[GUARD];
@@ -24,7 +24,7 @@ static struct {
     uint16_t scores[SCORES_ROOM];
     uint8_t before_thresholds[GUARD];
     uint16_t thresholds[THRESHOLDS_ROOM];
-    uint8_t parts[PARTS * GUARD + 385 + 3 * 513 + 64 + 701 + MOST + GUARD];
+    uint8_t parts[PARTS * GUARD + 385 + 3 * 513 + 267 + 701 + MOST + GUARD];
 } area, was, bytes;
 
 static uint8_t *parts[PARTS];
@@ -299,6 +299,24 @@ static inline void is_down(const char *name, int buffer) {
     is_done(name, (size_t)buffer);
 }
 
+/* ---- ReadSysPara */
+
+static inline size_t capacity(void) { return lengths[TEMPLATES] / BYSTRODOL_PAGE_BYTES; }
+
+static const uint8_t read_parameters = BYSTRODOL_COMMAND_READ_SYS_PARA;
+
+/* It is answered with this status word, 2 for the found mark and 4 for the verified mark, and the parameters of a fresh reader of this capacity. */
+static inline void is_told(const char *name, uint8_t status) {
+    const uint8_t content[] = {BYSTRODOL_CODE_DONE, 0, status, 0, 0, TWO(capacity()), 0, 3, 0xFF, 0xFF, 0xFF, 0xFF, 0, 2, 0, 6};
+    uint8_t reply[sizeof content + BYSTRODOL_FRAME_BYTES];
+    is_answered(name, capacity(), reply, bystrodol_build(0xFFFFFFFF, BYSTRODOL_PACKET_ACKNOWLEDGE, content, sizeof content, reply, sizeof reply));
+}
+
+static inline void is_status(const char *name, uint8_t status) {
+    send(BYSTRODOL_PACKET_COMMAND, &read_parameters, 1);
+    is_told(name, status);
+}
+
 /* ---- runs and commands that change no buffer, no mark but the verified one, and no origin */
 
 /* What makes a packet no command to this reader: its address, bytes left out at its end, its identifier, or what is added to its sum; and its code. */
@@ -361,8 +379,12 @@ static const struct {
     {"SetPwd", 5, {0x12, 0, 0, 0, 5}, 0x00},
     {"Empty, locked", 1, {0x0D}, 0x21},
     {"Search, locked", 6, {0x04, 1, 0, 0, 0, 10}, 0x21},
+    {"ReadSysPara, locked", 1, {0x0F}, 0x00},
+    {"ReadSysPara, locked, a byte too long", 2, {0x0F}, 0x01},
     {"VfyPwd, wrong", 5, {0x13, 0, 0, 0, 6}, 0x13},
+    {"ReadSysPara, locked still", 1, {0x0F}, 0x00},
     {"VfyPwd", 5, {0x13, 0, 0, 0, 5}, 0x00},
+    {"ReadSysPara, the password given", 1, {0x0F}, 0x00},
     {"VfyPwd, wrong again", 5, {0x13, 0, 0, 0, 0}, 0x13},
 };
 

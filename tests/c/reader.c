@@ -260,13 +260,12 @@ static void index_pages(size_t pages) {
     }
 }
 
-/* Locked, it tells nothing and changes nothing, whatever its size and whatever page is asked for: 21h. */
+/* Locked, it tells nothing of its pages and changes nothing, whatever its size and whatever page is asked for: 21h. parameters.c has what it does tell. */
 static void locked_library(size_t pages) {
     const size_t last = pages - 1;
     /* Each with its length before it. */
     const uint8_t commands[][7] = {
         {1, BYSTRODOL_COMMAND_TEMPLETE_NUM},
-        {1, BYSTRODOL_COMMAND_READ_SYS_PARA},
         {1, BYSTRODOL_COMMAND_EMPTY},
         {2, BYSTRODOL_COMMAND_READ_INDEX_TABLE, 0},
         {2, BYSTRODOL_COMMAND_READ_INDEX_TABLE, 1},
@@ -338,24 +337,26 @@ static void any_mark(int mark, uint8_t byte) {
 
 /* A command of a code alone, and its answer: 00h and these bytes. */
 static void tells(const char *name, size_t which, uint8_t code, const uint8_t *listed, size_t n) {
-    uint8_t content[17] = {BYSTRODOL_CODE_DONE}, reply[sizeof content + BYSTRODOL_FRAME_BYTES];
+    uint8_t content[3] = {BYSTRODOL_CODE_DONE}, reply[sizeof content + BYSTRODOL_FRAME_BYTES];
     memcpy(content + 1, listed, n);
     send(BYSTRODOL_PACKET_COMMAND, &code, 1);
     is_answered(name, which, reply, bystrodol_build(0xFFFFFFFF, BYSTRODOL_PACKET_ACKNOWLEDGE, content, 1 + n, reply, sizeof reply));
 }
 
 /* Every number of pages, all of them stored and some: TempleteNum tells how many, the service counts as many, and ReadSysPara tells the
- * capacity. */
+ * capacity, of a locked reader too. */
 static void counted(void) {
     for (size_t n = 1; n <= BYSTRODOL_PAGES_MOST; n++) {
         size_t some = n;
         set_up_stored(n);
         tells("all pages stored", n, BYSTRODOL_COMMAND_TEMPLETE_NUM, (const uint8_t[]){TWO(n)}, 2);
-        tells("the capacity", n, BYSTRODOL_COMMAND_READ_SYS_PARA, (const uint8_t[]){0, 2 * found, 0, 0, TWO(n), 0, 3, 0xFF, 0xFF, 0xFF, 0xFF, 0, 2, 0, 6}, 16);
+        is_status("the capacity", (uint8_t)(BYSTRODOL_STATUS_FOUND * found));
         check_of("all pages stored", n, "count", bystrodol_count(parts[INDEX], lengths[INDEX]), n);
         for (size_t page = n % 5; page < n; page += 1 + page % 7) take_bit(page), some--;
         tells("some pages stored", n, BYSTRODOL_COMMAND_TEMPLETE_NUM, (const uint8_t[]){TWO(some)}, 2);
         check_of("some pages stored", n, "count", bystrodol_count(parts[INDEX], lengths[INDEX]), some);
+        area.line.settings.password[n % 4] = 5;
+        is_status("the capacity of a locked reader", 0);
     }
 }
 

@@ -107,7 +107,8 @@ static void add_longest(uint8_t identifier) {
 }
 
 /* What a host may send: a template downloaded, stored, loaded, searched for and uploaded, and one in the longest data packets; noise, a lone EF,
- * a start that no packet has, a wrong sum and another address between; a password; and at the end a packet that is not all there. */
+ * a start that no packet has, a wrong sum and another address between; a password, and the parameters asked for before it is given and after; and at the end a
+ * packet that is not all there. */
 static void make_dialogue(void) {
     static const uint8_t noise[] = {0x00, 0x55, 0xEF, 0xEF, 0x02}, no_packet[] = {0xEF, 0x01, 1, 2, 3, 4, 1, 0x01, 0x2C, 0xEF};
     static const uint8_t elsewhere[] = {0xEF, 0x01, 1, 2, 3, 4, 0x01, 0x00, 0x03, 0x40, 0x00, 0x44};
@@ -135,10 +136,12 @@ static void make_dialogue(void) {
     COMMAND(BYSTRODOL_COMMAND_UP_CHAR, 1);
     add(elsewhere, sizeof elsewhere);
     COMMAND(BYSTRODOL_COMMAND_SET_PWD, 1, 2, 3, 4);
+    COMMAND(BYSTRODOL_COMMAND_READ_SYS_PARA);
     COMMAND(BYSTRODOL_COMMAND_TEMPLETE_NUM);
     run[run_length - 1] ^= 1;
     COMMAND(BYSTRODOL_COMMAND_READ_INDEX_TABLE, 0);
     COMMAND(BYSTRODOL_COMMAND_VFY_PWD, 1, 2, 3, 4);
+    COMMAND(BYSTRODOL_COMMAND_READ_SYS_PARA);
     COMMAND(BYSTRODOL_COMMAND_READ_INDEX_TABLE, 0);
     add_longest(BYSTRODOL_PACKET_DATA);
     run_length--;
@@ -328,10 +331,11 @@ static uint8_t code_of(void) {
 }
 
 /* Settings as they were stored go into the line, and zeros into the receiver. The verified mark was stored, too; and where the found mark is now, a byte that an
- * older version left to the board. */
+ * older version left to the board. The reader is locked then, and tells its parameters. */
 static void power_on(void) {
     static const uint8_t stored[] = {0, 0, 0, 7, 0xFF, 0xFF, 0xFF, 0xFF, 3, 1, 6, 0, 0, 0, 0, 0, 1, 0, 1, 0xAB};
     static const uint8_t switched[] = {0, 0, 0, 7, 0xFF, 0xFF, 0xFF, 0xFF, 3, 1, 6, 0, 0, 0, 0, 0, 0, 0, 0, 0};
+    static const uint8_t told[] = {0, 0, 0, 0, 0, PAGES, 0, 3, 0xFF, 0xFF, 0xFF, 0xFF, 0, 1, 0, 6};
     set_up(&reader);
     memcpy(&reader.line.settings, stored, sizeof stored);
     check("power-on, the line switch", bystrodol_receiver_switch(&reader.line, BUFFERS(&reader)), BYSTRODOL_ACCEPTED);
@@ -343,6 +347,10 @@ static void power_on(void) {
     run_length = 0;
     COMMAND(BYSTRODOL_COMMAND_TEMPLETE_NUM);
     check("power-on, a command", code_of(), BYSTRODOL_CODE_PASSWORD_FIRST);
+    run_length = 0;
+    COMMAND(BYSTRODOL_COMMAND_READ_SYS_PARA);
+    check("power-on, ReadSysPara", code_of(), BYSTRODOL_CODE_DONE);
+    check("power-on, what it tells", differ(replies + 10, told, sizeof told), sizeof told);
     run_length = 0;
     COMMAND(BYSTRODOL_COMMAND_VFY_PWD, 0, 0, 0, 7);
     check("power-on, the password", code_of(), BYSTRODOL_CODE_DONE);

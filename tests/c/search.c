@@ -11,8 +11,6 @@
 static const size_t sizes[] = {1, 8, 9, 64, 255, 256, 257, 605, 999, 1000};
 enum { SIZES = sizeof sizes / sizeof *sizes };
 
-static size_t capacity(void) { return lengths[TEMPLATES] / BYSTRODOL_PAGE_BYTES; }
-
 static void fill(uint16_t *numbers, size_t n, uint16_t number) {
     for (size_t i = 0; i < n; i++) numbers[i] = number;
 }
@@ -245,20 +243,38 @@ static void packet_lengths(void) {
         }
 }
 
-/* Locked it is 21h, whatever it asks for; the password opens it, and keeps the found mark. */
+/* Locked it is 21h, whatever it asks for, and the status word does not show the found mark. The password opens it, and keeps the mark, which shows now. */
 static void locked(void) {
     static const uint8_t verify[] = {BYSTRODOL_COMMAND_VFY_PWD, 0, 0, 0, 5};
     set_up_search(10);
     area.line.settings.password[3] = 5;
+    is_status("before a Search of a locked reader", 0);
     for (uint8_t buffer = 0; buffer <= 2; buffer++)
         for (size_t start = 0; start <= 10; start += 5) {
             send_search(buffer, start, 5);
             is_said("Search of a locked reader", start, BYSTRODOL_CODE_PASSWORD_FIRST);
         }
+    is_status("after a Search of a locked reader", 0);
     send(BYSTRODOL_PACKET_COMMAND, verify, sizeof verify);
     was.line.settings.verified = 1;
     is_done("VfyPwd", 0);
+    is_status("once the password is given", (uint8_t)(BYSTRODOL_STATUS_VERIFIED + BYSTRODOL_STATUS_FOUND * found));
     finds("Search of an opened reader", 0, 5, 5);
+}
+
+/* A Search that found, or did not, before the reader was locked by a new password: hidden while it is locked, and shown again. */
+static void locked_after(size_t count) {
+    static const uint8_t set[] = {BYSTRODOL_COMMAND_SET_PWD, 0, 0, 0, 5}, verify[] = {BYSTRODOL_COMMAND_VFY_PWD, 0, 0, 0, 5};
+    set_up_search(10);
+    finds("a Search before the lock", count, 0, count);
+    send(BYSTRODOL_PACKET_COMMAND, set, sizeof set);
+    was.line.settings.password[3] = 5;
+    is_done("SetPwd", 0);
+    is_status("a Search before the lock, locked", 0);
+    send(BYSTRODOL_PACKET_COMMAND, verify, sizeof verify);
+    was.line.settings.verified = 1;
+    is_done("VfyPwd", 0);
+    is_status("a Search before the lock, unlocked", (uint8_t)(BYSTRODOL_STATUS_VERIFIED + (count ? BYSTRODOL_STATUS_FOUND : 0)));
 }
 
 /* An open transfer is ended first: a Search by its buffer is 0Ch, and one by the other buffer is carried out. A wrong sum ends it, too. */
@@ -281,15 +297,6 @@ static void transfers(void) {
 }
 
 /* ---- the found mark */
-
-/* ReadSysPara tells the status word: 2 for the found mark, 4 for the verified mark. */
-static void is_status(const char *name, uint8_t status) {
-    static const uint8_t read = BYSTRODOL_COMMAND_READ_SYS_PARA;
-    const uint8_t content[] = {BYSTRODOL_CODE_DONE, 0, status, 0, 0, TWO(capacity()), 0, 3, 0xFF, 0xFF, 0xFF, 0xFF, 0, 2, 0, 6};
-    uint8_t reply[sizeof content + BYSTRODOL_FRAME_BYTES];
-    send(BYSTRODOL_PACKET_COMMAND, &read, 1);
-    is_answered(name, status, reply, bystrodol_build(0xFFFFFFFF, BYSTRODOL_PACKET_ACKNOWLEDGE, content, sizeof content, reply, sizeof reply));
-}
 
 /* A Search that finds sets it, one that does not and a line switch clear it; a refused line switch keeps it. */
 static void status(void) {
@@ -456,6 +463,8 @@ static void checks(void) {
     buffers();
     packet_lengths();
     locked();
+    locked_after(10);
+    locked_after(0);
     transfers();
     status();
     kept_by_all_else();

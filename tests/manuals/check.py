@@ -109,6 +109,8 @@ READERS = {
     "halfway": in_transfer(size=3),
     "copied": changed(filled(), origin1=9, origin2=63),
     "matched": changed(filled(), password=PASSWORD, verified=1, found=1),
+    "hiding": changed(filled(), password=PASSWORD, found=1),
+    "keyless": changed(filled(), found=1),
     "lenient": changed(filled(), level=4),
     "zeros": without_chip(filled()),
 }

@@ -66,7 +66,7 @@ MANNERS = {
 
 # The commands that a locked reader bars.
 BARRED = [bytes.fromhex(text) for text in (
-    "04 01 0000 0040", "06 01 0000", "07 01 0000", "08 01", "09 01", "0C 0000 0001", "0D", "0E 05 01", "0F", "12 00000000", "15 12345678",
+    "04 01 0000 0040", "06 01 0000", "07 01 0000", "08 01", "09 01", "0C 0000 0001", "0D", "0E 05 01", "12 00000000", "15 12345678",
     "18 00" + "41" * 32, "19 00", "1D", "1F 00")]
 
 
@@ -131,8 +131,15 @@ NONE_FOUND = bytes(4)       # page 0, score 0
 
 
 def parameters(status):
-    """What ReadSysPara lists of a reader in which nothing was set."""
+    """What ReadSysPara lists of a reader in which nothing but a password was set."""
     return two_bytes(status) + bytes.fromhex("0000 0040 0003 FFFFFFFF 0002 0006")
+
+
+def read_locked(host, what):
+    """A locked reader tells its parameters, and shows status 0 whatever it found. Sum and length are tested as ever."""
+    host.ask("locked, ReadSysPara, " + what, b"\x0f", 0, parameters(0))
+    host.ask("locked, ReadSysPara, a byte too much", b"\x0f\x00", 0x01)
+    host.exchange("locked, ReadSysPara, damaged", next(host.noise) + packet(COMMAND, b"\x0f", sum_error=1), acknowledge(0x01))
 
 
 def enrol(host, number):
@@ -163,11 +170,17 @@ def enrol(host, number):
     for content in BARRED:
         host.ask("locked, %02Xh" % content[0], content, 0x21)
     host.ask("locked, HandShake", b"\x40")
+    read_locked(host, "found")
     host.ask("wrong password", b"\x13" + bytes(4), 0x13)
     host.ask("still locked", b"\x1d", 0x21)
+    host.ask("still locked, ReadSysPara", b"\x0f", 0, parameters(0))
     host.ask("right password", b"\x13" + password)
     host.ask("nothing is lost, TempleteNum", b"\x1d", 0, two_bytes(1))
     host.ask("nothing is lost, ReadSysPara, found", b"\x0f", 0, parameters(6))
+    host.ask("wrong password, unlocked", b"\x13" + bytes(4), 0x13)
+    host.ask("locked again, ReadSysPara", b"\x0f", 0, parameters(0))
+    host.ask("right password again", b"\x13" + password)
+    host.ask("unlocked again, ReadSysPara, found", b"\x0f", 0, parameters(6))
     host.ask("nothing is lost, ReadNotepad", b"\x19" + bytes([number]), 0, note)
     host.upload(2, bytes(template))
 
@@ -177,6 +190,11 @@ def enrol(host, number):
     host.ask("TempleteNum, deleted", b"\x1d", 0, two_bytes(0))
     host.ask("ReadIndexTable, deleted", b"\x1f\x00", 0, index([]))
     host.ask("Search, deleted", search(1, 0, 64), 0x09, NONE_FOUND)
+    host.ask("ReadSysPara, not found", b"\x0f", 0, parameters(4))
+    host.ask("SetPwd, the same", b"\x12" + password)
+    read_locked(host, "not found")
+    host.ask("right password, not found", b"\x13" + password)
+    host.ask("unlocked, ReadSysPara, not found", b"\x0f", 0, parameters(4))
     host.ask("SetPwd, none", b"\x12" + bytes(4))
     host.check_silent("at the end")
 

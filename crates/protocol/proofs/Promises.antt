@@ -33,6 +33,7 @@ pub mod Searches
 pub mod SizeCode
 pub mod FirstDownload
 pub mod Lock
+pub mod Fitter
 pub mod Receiver
 pub mod Cuts
 pub mod Caller

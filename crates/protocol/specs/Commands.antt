@@ -7,8 +7,9 @@ use lib.ListN.{drop}
 use Rattle.protocol.specs.Bytes.{byteAt, wordAt}
 use Rattle.protocol.specs.Packet.{lengthOf}
 
--- a locked reader carries these out too
+-- a locked reader carries these out too: 13h and 40h by document 01, and 0Fh by request [13]
 pub data Free : Type 0 where
+  readSysPara : Free
   verifyPassword : List ℕ → Free
   handShake : Free
 
@@ -22,7 +23,6 @@ pub data Barred : Type 0 where
   deletChar : ℕ → ℕ → Barred
   empty : Barred
   setSysPara : ℕ → ℕ → Barred
-  readSysPara : Barred
   setPassword : List ℕ → Barred
   setAddress : List ℕ → Barred
   writeNotepad : ℕ → List ℕ → Barred
@@ -54,7 +54,7 @@ commands =
     ∷ row 0x0c 7 (λ c. barred (deletChar (wordAt c 1) (wordAt c 3)))
     ∷ row 0x0d 3 (λ c. barred empty)
     ∷ row 0x0e 5 (λ c. barred (setSysPara (byteAt c 1) (byteAt c 2)))
-    ∷ row 0x0f 3 (λ c. barred readSysPara)
+    ∷ row 0x0f 3 (λ c. free readSysPara)
     ∷ row 0x12 7 (λ c. barred (setPassword (drop 1 c)))
     ∷ row 0x13 7 (λ c. free (verifyPassword (drop 1 c)))
     ∷ row 0x15 7 (λ c. barred (setAddress (drop 1 c)))

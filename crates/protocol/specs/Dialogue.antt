@@ -12,7 +12,7 @@ use Rattle.protocol.specs.Tests.{among}
 use Rattle.protocol.specs.Packet.{addressAt}
 use Rattle.protocol.specs.Finder.{findOf}
 use Rattle.protocol.specs.Reader.{Guarded, Reader}
-use Rattle.protocol.specs.Commands.{free, barred, Barred, searchFor, store, loadChar, upChar, downChar, deletChar, empty, setSysPara, readSysPara, setPassword, setAddress, writeNotepad, readNotepad, templeteNum, readIndexTable, damaged, unknown, misfit, command}
+use Rattle.protocol.specs.Commands.{free, barred, Barred, searchFor, store, loadChar, upChar, downChar, deletChar, empty, setSysPara, setPassword, setAddress, writeNotepad, readNotepad, templeteNum, readIndexTable, damaged, unknown, misfit, command}
 use Rattle.protocol.specs.Data.{acknowledge}
 use Rattle.protocol.specs.Step.{Heard, nothing, order, piece, hear, wiped}
 use Rattle.protocol.specs.Call.{Shape, Lent, fitChip, Told, Ended, replyOf, callOf, switchOf}
@@ -96,7 +96,6 @@ actsOf (downChar b) = []
 actsOf (deletChar p n) = cut p n ∷ []
 actsOf empty = cutAll ∷ []
 actsOf (setSysPara k v) = []
-actsOf readSysPara = []
 actsOf (setPassword w) = []
 actsOf (setAddress a) = []
 actsOf (writeNotepad p b) = []

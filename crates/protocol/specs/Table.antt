@@ -1,5 +1,6 @@
 -- The seventeen commands: document 01's table, right half. Each row's tests, left to right, and its effect. Search is request [8]'s; Store's last test is request [5]'s; how many pages
--- ReadIndexTable has goes by the index's length, which is request [6]'s; the buffers' origins are request [7]'s.
+-- ReadIndexTable has goes by the index's length, which is request [6]'s; the buffers' origins are request [7]'s; that the lock
+-- lets ReadSysPara pass is request [13]'s.
 use mathlib.Core.Bool.{Bool, _&&_, _||_, not, cond}
 use mathlib.Core.List.{List, [], _∷_}
 use Prim.Native.Nat.{ℕ, _+_, _*_, _/_}
@@ -10,8 +11,8 @@ use Rattle.protocol.specs.Numbers.{pageBytes, noteBytes, indexPageBytes,
 use Rattle.protocol.specs.Bytes.{two, part, zeros, same, lay, joined}
 use Rattle.protocol.specs.Tests.{Test, within, among}
 use Rattle.protocol.specs.Index.{stored, setBit, clearBits, setBits}
-use Rattle.protocol.specs.Reader.{opened, Plain, Reader, capacity, sizeOf, bufferOf, emptied, loadedFrom, storedOn, withMark, withTransfer, withPassword, withAddress, withTuning, withLibrary, withNotepad, withBuffer, withoutPages, withFound, reader}
-use Rattle.protocol.specs.Commands.{Free, verifyPassword, handShake, Barred, searchFor, store, loadChar, upChar, downChar, deletChar, empty, setSysPara, readSysPara, setPassword, setAddress, writeNotepad, readNotepad, templeteNum, readIndexTable}
+use Rattle.protocol.specs.Reader.{opened, Plain, Reader, capacity, sizeOf, locked, bufferOf, emptied, loadedFrom, storedOn, withMark, withTransfer, withPassword, withAddress, withTuning, withLibrary, withNotepad, withBuffer, withoutPages, withFound, reader}
+use Rattle.protocol.specs.Commands.{Free, readSysPara, verifyPassword, handShake, Barred, searchFor, store, loadChar, upChar, downChar, deletChar, empty, setSysPara, setPassword, setAddress, writeNotepad, readNotepad, templeteNum, readIndexTable}
 use Rattle.protocol.specs.Data.{dataPackets}
 use Rattle.protocol.specs.Search.{Chip, searchOf, matchCode, matchBytes}
 
@@ -91,10 +92,6 @@ withParameter k v p =
     cond (eqb k baudParameter) (withTuning v (p .level) (p .size) p)
     (cond (eqb k levelParameter) (withTuning (p .baud) v (p .size) p) (withTuning (p .baud) (p .level) v p))
 
--- 4 if the verified mark is set, otherwise 0; and by request [8] 2 more if status bit 1 is
-unfoldable pub statusOf : Bool → Bool → ℕ
-statusOf verified found = cond verified verifiedStatus 0 + cond found foundStatus 0
-
 -- the scores and thresholds are those lent with this call
 unfoldable pub rule : Chip → Reader → Barred → Row
 rule χ r (searchFor b p n) =
@@ -116,10 +113,6 @@ rule χ r (downChar b) = does ((isBuffer b, badPacket) ∷ []) (await (second b)
 rule χ r (deletChar p n) = let c = capacity (r .guarded) in does ((ltb p c && leb (p + n) c, badRange) ∷ []) (erase p n)
 rule χ r empty = does [] eraseAll
 rule χ r (setSysPara k v) = does ((within baudParameter k sizeParameter, badParameter) ∷ (inRange k v, badValue) ∷ []) (settle (withParameter k v (r .plain)))
-rule χ r readSysPara =
-    let p = r .plain in
-    gives []
-    (joined (two (statusOf (p .verified) (r .guarded .found)) ∷ two (p .sensor) ∷ two (capacity (r .guarded)) ∷ two (p .level) ∷ p .address ∷ two (p .size) ∷ two (p .baud) ∷ []))
 rule χ r (setPassword w) = does [] (settle (withPassword w (r .plain)))
 rule χ r (setAddress a) = does [] (settle (withAddress a (r .plain)))
 rule χ r (writeNotepad p b) = does ((ltb p (length (r .guarded .notepad) / noteBytes), badNotePage) ∷ []) (note (noteBytes * p) b)
@@ -129,15 +122,17 @@ rule χ r templeteNum = gives [] (two (setBits (r .guarded .index)))
 rule χ r (readIndexTable p) =
     gives ((ltb p (length (r .guarded .index) / indexPageBytes), badPage) ∷ []) (part (indexPageBytes * p) indexPageBytes (r .guarded .index))
 
--- ---- the two that the lock lets pass
+-- ---- the three that the lock lets pass
 
--- all that a locked reader's answers may depend on: the settings but for the filled marks, the origins and status bit 1, and the capacity
+-- all that a locked reader's answers may depend on: the settings but for the filled marks and the origins; the capacity; and status bit 1 as it shows, by request
+-- [13] "as 0 while locked"
 pub record Public : Type 0 where
   pub plain : Plain
   pub capacity : ℕ
+  pub shown : Bool
 
 unfoldable pub publicOf : Reader → Public
-publicOf r = record { plain = r .plain; capacity = capacity (r .guarded) }
+publicOf r = record { plain = r .plain; capacity = capacity (r .guarded); shown = not (locked (r .plain)) && r .guarded .found }
 
 -- such a row sees only that, and changes settings alone: its code, the listed bytes, and the settings after it
 pub record FreeRow : Type 0 where
@@ -145,7 +140,18 @@ pub record FreeRow : Type 0 where
   pub bytes : List ℕ
   pub plain : Plain
 
+-- 4 if the verified mark is set, otherwise 0; and by request [8] 2 more if status bit 1 is
+unfoldable pub statusOf : Bool → Bool → ℕ
+statusOf verified found = cond verified verifiedStatus 0 + cond found foundStatus 0
+
+-- status, type, C, level, address, size code, baud factor
+unfoldable pub parametersOf : Public → List ℕ
+parametersOf v =
+    let p = v .plain in
+    joined (two (statusOf (p .verified) (v .shown)) ∷ two (p .sensor) ∷ two (v .capacity) ∷ two (p .level) ∷ p .address ∷ two (p .size) ∷ two (p .baud) ∷ [])
+
 unfoldable pub freeRule : Public → Free → FreeRow
+freeRule v readSysPara = record { code = done; bytes = parametersOf v; plain = v .plain }
 freeRule v (verifyPassword w) =
     let equal = same w (v .plain .password) in
     record { code = cond equal done wrongPassword; bytes = []; plain = withMark equal (v .plain) }

@@ -54,11 +54,6 @@ pub record Obeyed (a : Answer) (s : Settings) (k : Barred) : Type 0 where
   pub said : (χ : Chip) (t i n b c : List ℕ) → saidOf a t i n b c ≡ obeyed χ s t i n b c k
   pub ready : Ready a
 
--- and sees the number of pages
-pub record ObeyedPages (a : Answer) (s : Settings) (k : Barred) (pages : ℕ) : Type 0 where
-  pub said : (χ : Chip) (t i n b c : List ℕ) → length t / pageBytes ≡ pages → saidOf a t i n b c ≡ obeyed χ s t i n b c k
-  pub ready : Ready a
-
 -- the index, which it reads
 pub record ObeyedIndex (a : Answer) (s : Settings) (k : Barred) (i : List ℕ) : Type 0 where
   pub said : (χ : Chip) (t n b c : List ℕ) → saidOf a t i n b c ≡ obeyed χ s t i n b c k
@@ -87,4 +82,9 @@ pub record ObeyedCopy (a : Answer) (s : Settings) (k : Barred) (t i b c t′ i�
 -- a command that the lock lets pass
 pub record Freed (a : Answer) (s : Settings) (k : Free) : Type 0 where
   pub said : (t i n b c : List ℕ) → saidOf a t i n b c ≡ freed s t i n b c k
+  pub ready : Ready a
+
+-- and sees the number of pages
+pub record FreedPages (a : Answer) (s : Settings) (k : Free) (pages : ℕ) : Type 0 where
+  pub said : (t i n b c : List ℕ) → length t / pageBytes ≡ pages → saidOf a t i n b c ≡ freed s t i n b c k
   pub ready : Ready a

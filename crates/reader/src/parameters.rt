@@ -7,7 +7,7 @@ ghost use Rattle.protocol.specs.Numbers.{highestSize};
 ghost use Rattle.protocol.specs.Bytes.{two, joined};
 ghost use Rattle.protocol.specs.Table.{statusOf};
 ghost use Rattle.protocol.specs.Commands.{setSysPara, readSysPara};
-ghost use Rattle.reader.specs.Commands.{Obeyed, ObeyedPages};
+ghost use Rattle.reader.specs.Commands.{Obeyed, FreedPages};
 use crate::answers;
 use crate::answers::Answer;
 use protocol::Settings;
@@ -118,9 +118,9 @@ fn parameter_bytes(
 // ReadSysPara.
 pub(crate) fn read_parameters(settings: Settings, pages: usize) -> Answer
     requires { ⌜ settings .size ≤ highestSize ⌝ }
-    ensures { λ r. ⌜ ObeyedPages r settings readSysPara pages ⌝ }
+    ensures { λ r. ⌜ FreedPages r settings readSysPara pages ⌝ }
 {
-    let s = status(settings.verified, settings.found);
+    let s = status(settings.verified, settings::shows_found(settings));
     let k = settings.sensor as usize;
     let l = bytes::wide(settings.level);
     let z = bytes::wide(settings.size);

@@ -1,109 +1,59 @@
 -- What comes before the row, against the table of the definitions: one law of every row, had at whatever row a code picks.
-use mathlib.Core.Path.{_≡_, refl, sym, ap, _∙_}
+use mathlib.Core.Path.{_≡_, refl, ap, _∙_}
+use mathlib.Core.Logic.{_≢_}
 use mathlib.Core.Bool.{Bool, true, false, true≢false, _||_, not, cond}
-use mathlib.Core.List.{List, [], _∷_}
+use mathlib.Core.List.{List}
 use Prim.Native.Nat.{ℕ}
 use native.Mathlib.Omega.{arith}
 use lib.Dec.{eqb}
-use lib.ListN.{drop}
 use borrow.Author.Tests.{eqb-true, eq-eqb, ne-eqb}
 use Rattle.protocol.specs.Numbers.{badPacket, unknownCommand, passwordFirst}
-use Rattle.protocol.specs.Bytes.{byteAt, wordAt}
+use Rattle.protocol.specs.Bytes.{byteAt}
 use Rattle.protocol.specs.Packet.{lengthOf}
 use Rattle.protocol.specs.Reader.{Plain, Reader, locked}
-use Rattle.protocol.specs.Commands.{searchFor, store, loadChar, upChar, downChar, deletChar, empty, setSysPara, readSysPara, setPassword, setAddress, writeNotepad, readNotepad, templeteNum, readIndexTable, handShake, Barred, free, barred, Entry, row, commands, Known, none, some, rowOf, orderAs, orderOf}
+use Rattle.protocol.specs.Commands.{handShake, free, Entry, row, commands, Known, none, some, rowOf, orderAs, orderOf}
 use Rattle.protocol.specs.Search.{Chip}
 use Rattle.protocol.specs.Step.{says, obey, heed}
-use Rattle.protocol.proofs.Laws.Commands.{Each, At, row-law}
+use Rattle.protocol.proofs.Laws.Commands.{Each, At, row-law, own-code, BarredRow, barred-rows}
 use Rattle.rules.specs.Commands.{lenOf, readOf, isFree, Admitted, gateOf}
 
--- its length is not 0, and a code that is not free reads as a command that the lock bars
-abbrev Gated : Entry → Type 0
-Gated e = (eqb (e .len) 0 ≡ false) × ((c : List ℕ) → isFree (e .code) ≡ false → (l : Barred) × (e .read c ≡ barred l))
+-- no row's length is 0
+abbrev Long : Entry → Type 0
+Long e = eqb (e .len) 0 ≡ false
 
-gated : Each Gated commands
-unfolding commands isFree
-gated = (
-  (refl, λ c q. (searchFor (byteAt c 1) (wordAt c 2) (wordAt c 4), refl)),
-  (
-    (refl, λ c q. (store (byteAt c 1) (wordAt c 2), refl)),
-    (
-      (refl, λ c q. (loadChar (byteAt c 1) (wordAt c 2), refl)),
-      (
-        (refl, λ c q. (upChar (byteAt c 1), refl)),
-        (
-          (refl, λ c q. (downChar (byteAt c 1), refl)),
-          (
-            (refl, λ c q. (deletChar (wordAt c 1) (wordAt c 3), refl)),
-            (
-              (refl, λ c q. (empty, refl)),
-              (
-                (refl, λ c q. (setSysPara (byteAt c 1) (byteAt c 2), refl)),
-                (
-                  (refl, λ c q. (readSysPara, refl)),
-                  (
-                    (refl, λ c q. (setPassword (drop 1 c), refl)),
-                    (
-                      (refl, λ c q. absurd (true≢false q)),
-                      (
-                        (refl, λ c q. (setAddress (drop 1 c), refl)),
-                        (
-                          (refl, λ c q. (writeNotepad (byteAt c 1) (drop 2 c), refl)),
-                          (
-                            (refl, λ c q. (readNotepad (byteAt c 1), refl)),
-                            (
-                              (refl, λ c q. (templeteNum, refl)),
-                              (
-                                (refl, λ c q. (readIndexTable (byteAt c 1), refl)),
-                                ((refl, λ c q. absurd (true≢false q)), tt),
-                              ),
-                            ),
-                          ),
-                        ),
-                      ),
-                    ),
-                  ),
-                ),
-              ),
-            ),
-          ),
-        ),
-      ),
-    ),
-  ),
-)
+long : Each Long commands
+unfolding commands
+long = (refl, (refl, (refl, (refl, (refl, (refl, (refl, (refl, (refl, (refl, (refl, (refl, (refl, (refl, (refl, (refl, (refl, tt)))))))))))))))))
 
-own-code : (es : List Entry) (k : ℕ) → At (λ e. e .code ≡ k) (rowOf es k)
-unfolding rowOf
-own-code [] k = tt
-own-code (e ∷ es) k = go (eqb k (e .code)) refl (own-code es k)
-  where
-    go : (b : Bool) → eqb k (e .code) ≡ b → At (λ e. e .code ≡ k) (rowOf es k) → At (λ e. e .code ≡ k) (cond b (some e) (rowOf es k))
-    go true q ih = sym (eqb-true k (e .code) q)
-    go false q ih = ih
+-- a code that is not free is none of the three
+not-free : (k : ℕ) → isFree k ≡ false → (k ≢ 0x0f) × ((k ≢ 0x13) × (k ≢ 0x40))
+unfolding isFree
+not-free k q = (λ e. true≢false (rw e at q), (λ e. true≢false (rw e at q), λ e. true≢false (rw e at q)))
 
 module _ (χ : Chip) (r : Reader) (c : List ℕ) where
   -- the gate at a row
   abbrev gateAs : ℕ → Known → ℕ
   gateAs k w = cond (eqb (lenOf w) 0) unknownCommand (cond (eqb (lenOf w) (lengthOf c)) (cond (isFree k || not (locked (r .plain))) 0 passwordFirst) badPacket)
 
-  stops : (k : ℕ) (w : Known) → At Gated w → At (λ e. e .code ≡ k) w → (gateAs k w ≡ 0 → ⊥) → heed χ r (orderAs c w) ≡ says r (gateAs k w)
+  stops : (k : ℕ) (w : Known) → At Long w → At BarredRow w → At (λ e. e .code ≡ k) w → (gateAs k w ≡ 0 → ⊥) → heed χ r (orderAs c w) ≡ says r (gateAs k w)
   unfolding heed orderAs lenOf obey
-  stops k none h q z = refl
-  stops k (some e) h q z = go (eqb (e .len) (lengthOf c)) refl (isFree k) refl (locked (r .plain)) refl
+  stops k none h b q z = refl
+  stops k (some e) h b q z = go (eqb (e .len) (lengthOf c)) refl (isFree k) refl (locked (r .plain)) refl
     where
       go : (a : Bool) → eqb (e .len) (lengthOf c) ≡ a → (o : Bool) → isFree k ≡ o → (l : Bool) → locked (r .plain) ≡ l → heed χ r (orderAs c (some e)) ≡ says r (gateAs k (some e))
-      go false ea o eo l el = rw (ea, h .0) refl
-      go true ea true eo l el = absurd (z (rw (ea, h .0, eo) refl))
-      go true ea false eo false el = absurd (z (rw (ea, h .0, eo, el) refl))
-      go true ea false eo true el = let m = h .1 c (ap isFree q ∙ eo) in rw (ea, h .0, eo, m .1, el) refl
+      go false ea o eo l el = rw (ea, h) refl
+      go true ea true eo l el = absurd (z (rw (ea, h, eo) refl))
+      go true ea false eo false el = absurd (z (rw (ea, h, eo, el) refl))
+      go true ea false eo true el = let n = not-free (e .code) (ap isFree q ∙ eo) in let m = b (n .0) (n .1 .0) (n .1 .1) c in rw (ea, h, eo, m .1, el) refl
 
   -- the gate's code, where it stops
   pub gate-stops : (right : Bool) → (gateOf right (byteAt c 0) (lengthOf c) (r .plain) ≡ 0 → ⊥)
       → heed χ r (orderOf right c) ≡ says r (gateOf right (byteAt c 0) (lengthOf c) (r .plain))
   unfolding gateOf orderOf heed
   gate-stops false z = refl
-  gate-stops true z = stops (byteAt c 0) (rowOf commands (byteAt c 0)) (row-law Gated commands gated (byteAt c 0)) (own-code commands (byteAt c 0)) z
+  gate-stops true z =
+      let k : ℕ = byteAt c 0 in
+      stops k (rowOf commands k) (row-law Long commands long k) (row-law BarredRow commands barred-rows k) (own-code commands k) z
 
   goes : (w : Known) → lenOf w ≡ lengthOf c → heed χ r (orderAs c w) ≡ obey χ r (readOf w c)
   unfolding heed orderAs lenOf readOf

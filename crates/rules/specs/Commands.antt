@@ -19,7 +19,7 @@ readOf (some e) c = e .read c
 
 -- the codes that the lock lets pass
 unfoldable pub isFree : ℕ → Bool
-isFree k = eqb k 0x13 || eqb k 0x40
+isFree k = eqb k 0x0f || eqb k 0x13 || eqb k 0x40
 
 -- a code that passes: its length field is its row's, and it is free or the reader is not locked
 pub record Admitted (k n : ℕ) (p : Plain) : Type 0 where

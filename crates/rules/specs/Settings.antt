@@ -8,6 +8,7 @@ use Rattle.protocol.specs.declared.Settings.{Settings}
 use Rattle.protocol.specs.Numbers.{pageBytes, highestSize, noPage}
 use Rattle.protocol.specs.Index.{clearFrom}
 use Rattle.protocol.specs.Reader.{Reader, sizeOf}
+use Rattle.protocol.specs.Table.{publicOf}
 use Rattle.protocol.specs.Call.{fitPlain, fitTransfer, fitOrigin}
 use Rattle.protocol.specs.Records.{originOf, readerOf}
 
@@ -44,6 +45,10 @@ withFound m s = record-of (s .password) (s .address) (s .level) (s .size) (s .ba
 abbrev pub withSwitch : Settings → Settings
 withSwitch s = record-of (s .password) (s .address) (s .level) (s .size) (s .baud) 0 (s .sensor) 0 false false false false noPage noPage
 
+-- status bit 1 as it shows: the settings decide, and no memory is looked at
+unfoldable pub shownOf : Settings → Bool
+shownOf s = publicOf (readerOf s [] [] [] [] []) .shown
+
 -- ---- the data bytes of a size code
 
 -- a code above the highest counts as the highest
@@ -61,7 +66,7 @@ pub record SizeOf (code r : ℕ) : Type 0 where
 
 -- ---- legal settings
 
--- of the lent memory only the filled marks count, and they are settings: so no memory is looked at
+-- of the lent memory only the filled marks count, and they are settings
 unfoldable pub legalOf : Settings → Bool
 legalOf s =
     let r : Reader = readerOf s [] [] [] [] [] in

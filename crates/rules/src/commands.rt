@@ -47,6 +47,7 @@ pub fn is_free(code: u8) -> bool
     ensures { λ r. ⌜ r ≡ isFree code ⌝ }
 {
     match code {
+        0x0F => true,
         0x13 => true,
         0x40 => true,
         _ => false,

@@ -8,7 +8,7 @@ ghost use Rattle.protocol.specs.Numbers.{highestSize};
 ghost use Rattle.protocol.specs.Reader.{locked};
 ghost use Rattle.protocol.specs.Call.{fitPlain, fitTransfer};
 ghost use Rattle.protocol.specs.Records.{plainOf, transferOf, readerOf, freshOf};
-ghost use Rattle.rules.specs.Settings.{withMark, withPassword, withAddress, withTuning, withTransfer, withFilled, withOrigins, withFound, withSwitch, SizeOf, legalOf};
+ghost use Rattle.rules.specs.Settings.{withMark, withPassword, withAddress, withTuning, withTransfer, withFilled, withOrigins, withFound, withSwitch, shownOf, SizeOf, legalOf};
 use protocol::Settings;
 use protocol::numbers;
 use wire::bytes;
@@ -147,6 +147,14 @@ pub fn is_locked(s: Settings) -> bool
         return false;
     }
     !s.verified
+}
+
+// Status bit 1 as it shows: not while the reader is locked. No branch looks at it.
+pub fn shows_found(s: Settings) -> bool
+    ensures { λ r. ⌜ r ≡ shownOf s ⌝ }
+{
+    let locked = is_locked(s);
+    !locked & s.found
 }
 
 // The data bytes of a size code; a code above the highest counts as the highest.

@@ -112,7 +112,7 @@ impl Author<'_> {
         if self.reader.settings.locked() && self.chance.percent(40) {
             return vec![Event::Bytes(self.right_password())];
         }
-        let scene = match self.chance.below(112) {
+        let scene = match self.chance.below(118) {
             0..=20 => self.runs(1, 1, Author::any_command),
             21..=30 => self.runs(2, 6, Author::any_command),
             31..=36 => self.runs(1, 2, Author::damaged_command),
@@ -131,6 +131,7 @@ impl Author<'_> {
             89..=96 => self.runs(1, 3, Author::origin_command),
             97..=102 => self.runs(1, 2, |author| author.command(SEARCH)),
             103..=108 => self.searches(),
+            109..=114 => self.fitter(),
             _ => vec![Event::LineSwitch],
         };
         self.arranged(scene)

@@ -26,9 +26,6 @@ pub const ROWS: [(u8, usize, &[u8]); COMMANDS.len()] = [
     (HAND_SHAKE, 3, &[]),
 ];
 
-/// The commands that a locked reader carries out.
-const FREE: [u8; 2] = [VFY_PWD, HAND_SHAKE];
-
 /// A command, whether its length was right, and the code that it got.
 type Shown = (u8, bool, u8);
 

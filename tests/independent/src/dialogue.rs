@@ -1,5 +1,5 @@
 //! The stored dialogue with the bench program: what a host sends, and beside it what it must get, written by hand from
-//! document 01 and document 02's requests [2], [3] and [5] to [8].
+//! document 01 and document 02's requests [2], [3], [5] to [8] and [13].
 
 use crate::coverage::ROWS;
 use crate::examples::{bytes, count, COUNT, FINE, HAND_SHAKE};
@@ -41,6 +41,7 @@ const SCENES: &[fn(&mut Host)] = &[
     search_codes,
     searches_between,
     lock,
+    fitter,
     locked,
     passwords,
     addresses,
@@ -573,11 +574,24 @@ fn lock(host: &mut Host) {
     host.command("SetPwd", "12 EF01A5FF", 0x00);
 }
 
+/// A fitter at the locked reader sees its parameters before the password, and what was found only after it.
+fn fitter(host: &mut Host) {
+    host.parameters("locked: parameters, status 0", 0, 5, 2, 6);
+    host.gets("locked: ReadSysPara, wrong sum", &host.damaged(COMMAND, &[0x0F], 1), 0x01);
+    host.command("locked: ReadSysPara of wrong length", "0F 00", 0x01);
+    host.silent("locked: ReadSysPara for another reader", &packet(OTHER, COMMAND, &[0x0F], 0));
+    host.command("wrong password", "13 EF01A5FE", 0x13);
+    host.parameters("still locked: parameters, status 0", 0, 5, 2, 6);
+    host.command("right password", "13 EF01A5FF", 0x00);
+    host.parameters("status 6, both bits again", 6, 5, 2, 6);
+    host.command("SetPwd, the same, locks again", "12 EF01A5FF", 0x00);
+}
+
 /// A locked reader: sum, code and length come before the lock, and the lock before the row's tests.
 fn locked(host: &mut Host) {
     locked_out(host, "04 01 000E 0001, 04 01 000C 0001, 04 03 0000 0001, 04 01 0040 0001");
     locked_out(host, "06 01 0000, 06 00 0000, 06 01 000C, 06 02 000C, 07 01 0007, 08 01, 08 03, 09 01");
-    locked_out(host, "0C 0000 0001, 0C FFFF FFFF, 0D, 0E 04 01, 0E 09 00, 0F, 12 00000000, 15 12345678");
+    locked_out(host, "0C 0000 0001, 0C FFFF FFFF, 0D, 0E 04 01, 0E 09 00, 12 00000000, 15 12345678");
     host.write_note("locked: WriteNotepad page 0", 0, &[0; NOTE], 0x21);
     host.write_note("locked: WriteNotepad page 77h", 0x77, &[0; NOTE], 0x21);
     locked_out(host, "19 00, 19 10, 1D, 1F 00, 1F 01");

@@ -1,6 +1,7 @@
-//! The table of examples P1 to P12, and examples of document 02's requests [1] to [3] and [5] to [8].
+//! The table of examples P1 to P12, and examples of document 02's requests [1] to [3], [5] to [8] and [13].
 
 use crate::examples_origins;
+use crate::examples_parameters;
 use crate::examples_search;
 use crate::host::{packet, FRESH};
 use crate::reader::{Reader, ACKNOWLEDGE, COMMAND, SET};
@@ -40,12 +41,12 @@ pub const FINE: &str = "EF 01 A 07 00 03 00 00 0A";
 const UNKNOWN: &str = "EF 01 A 07 00 03 19 00 23";
 const FAILED: &str = "EF 01 A 07 00 03 0E 00 18";
 const NOT_FILLED: &str = "EF 01 A 07 00 03 0C 00 16";
-const LOCKED: &str = "EF 01 A 07 00 03 21 00 2B";
+pub const LOCKED: &str = "EF 01 A 07 00 03 21 00 2B";
 const STORED: &str = "EF 01 A 07 00 03 22 00 2C";
 const SIZE_CODE_1: &str = "EF 01 A 01 00 05 0E 06 01 00 1B";
 const SIZE_CODE_3: &str = "EF 01 A 01 00 05 0E 06 03 00 1D";
 const SIZE_CODE_4: &str = "EF 01 A 01 00 05 0E 06 04 00 1E";
-const PARAMETERS: &str = "EF 01 A 01 00 03 0F 00 13";
+pub const PARAMETERS: &str = "EF 01 A 01 00 03 0F 00 13";
 const UP_CHAR_1: &str = "EF 01 A 01 00 04 08 01 00 0E";
 const UP_CHAR_2: &str = "EF 01 A 01 00 04 08 02 00 0F";
 const DOWN_CHAR_1: &str = "EF 01 A 01 00 04 09 01 00 0F";
@@ -68,6 +69,7 @@ pub fn all() -> Vec<Example> {
         of_stores(),
         examples_origins::all(),
         examples_search::all(),
+        examples_parameters::all(),
         of_pages(),
         of_index_pages(),
         of_pages_received(),
@@ -96,21 +98,21 @@ fn of_document_01() -> Vec<Example> {
 }
 
 /// The reader with P9's password; the mark is clear.
-fn locked(reader: &Reader) -> Reader {
+pub fn locked(reader: &Reader) -> Reader {
     let mut reader = reader.clone();
     reader.settings.password = [0, 0, 0, 5];
     reader
 }
 
 /// The reader of P11: pages 0 and 9 are stored.
-fn two_stored() -> Reader {
+pub fn two_stored() -> Reader {
     let mut reader = fresh_reader(10);
     reader.index[..2].copy_from_slice(&[0x01, 0x02]);
     reader
 }
 
 /// A reader without a receiver: a run, the bytes used of it, and the reply.
-fn example(name: &'static str, reader: &Reader, steps: &[(&str, usize, &str)]) -> Example {
+pub fn example(name: &'static str, reader: &Reader, steps: &[(&str, usize, &str)]) -> Example {
     let step =
         |&(run, used, reply): &(&str, usize, &str)| Step { run: bytes(run), used, reply: bytes(reply), receiver: None };
     Example { name, receiver: None, reader: reader.clone(), steps: steps.iter().map(step).collect() }
@@ -572,7 +574,7 @@ fn upload_128(byte: &str, sum: &str, last_sum: &str) -> String {
 }
 
 /// So many zero bytes, with a space before each.
-fn zeroes(count: usize) -> String {
+pub fn zeroes(count: usize) -> String {
     " 00".repeat(count)
 }
 

@@ -1,4 +1,5 @@
-//! Examples of document 02's request [8]: what a host sees of a Search, and the Search in frames.
+//! Examples of document 02's request [8]: what a host sees of a Search, and in frames the Search and the status word, the
+//! latter with request [13] too.
 
 use crate::examples::{bytes, exchange, Example, Frames};
 use crate::host::{packet, FRESH};
@@ -315,7 +316,7 @@ fn of_commands() -> Vec<Frames> {
     let open = Stand { rest: "02 0000 0000 00 01 00 F FFFF FFFF", ..FILLED };
     let zeroes = " 00".repeat(32);
     let (note, listed) = (format!("18 01 {zeroes}"), format!("00 {zeroes}"));
-    let rows: [(Stand, &str, &str, Stand); 29] = [
+    let rows: [(Stand, &str, &str, Stand); 30] = [
         (FILLED, "06 01 0001", "00", stored),
         (FILLED, "06 01 0000", "22", FILLED),
         (FILLED, "07 02 0002", "00", loaded),
@@ -342,7 +343,8 @@ fn of_commands() -> Vec<Frames> {
         (FILLED, "40", "00", FILLED),
         (FILLED, "40 00", "01", FILLED),
         (LOCKED, "40", "00", LOCKED),
-        (LOCKED, "0F", "21", LOCKED),
+        (LOCKED, "0F", "00 0000 0000 0004 0003 A 0002 0006", LOCKED),
+        (LOCKED, "1D", "21", LOCKED),
         (FILLED, "05", "19", FILLED),
         (open, "40", "00", FILLED),
     ];
@@ -371,10 +373,21 @@ fn kept(before: Stand, run: &[u8], reply: &[u8], after: Stand) -> [Frames; 2] {
     })
 }
 
-/// ReadSysPara with each of the two bits, both and none; a Search that ends a transfer.
+/// ReadSysPara with each of the two bits, both and none, without a password, with one, and locked; a Search that ends a
+/// transfer.
 fn of_status() -> Vec<Frames> {
     let run = packet(FRESH, COMMAND, &bytes("0F"), 0);
-    let rows = [(0, FILLED, "00"), (1, FILLED, "02"), (0, VERIFIED, "04"), (1, VERIFIED, "06")];
+    let with_password = Stand { password: 5, ..VERIFIED };
+    let rows = [
+        (0, FILLED, "00"),
+        (1, FILLED, "02"),
+        (0, VERIFIED, "04"),
+        (1, VERIFIED, "06"),
+        (0, with_password, "04"),
+        (1, with_password, "06"),
+        (0, LOCKED, "00"),
+        (1, LOCKED, "00"),
+    ];
     let mut all = Vec::new();
     for (mark, stand, status) in rows {
         let listed = bytes(&format!("00 00{status} 0000 0004 0003 A 0002 0006"));

@@ -132,6 +132,22 @@ pub const FOUND_MARKS_SWITCHED: usize = 107;
 pub const FRESH_FOUND_MARKS: usize = 108;
 pub const FOUND_MARKS_BROUGHT_OVER: usize = 109;
 pub const SEARCHES_IN_PIECES: usize = 110;
+pub const COMMANDS_AT_LOCK: usize = 111;
+pub const COMMANDS_BARRED: usize = 112;
+pub const READS_LOCKED_NOT_FOUND: usize = 113;
+pub const READS_LOCKED_FOUND: usize = 114;
+pub const READS_OPEN: usize = 115;
+pub const READS_LOCKED_AFTER: usize = 116;
+pub const READS_OPEN_AFTER: usize = 117;
+pub const READS_IN_TRANSFER: usize = 118;
+pub const LEVELS_TOLD: usize = 119;
+pub const SIZE_CODES_TOLD: usize = 120;
+pub const BAUD_FACTORS_TOLD: usize = 121;
+pub const TYPES_TOLD: usize = 122;
+pub const CAPACITIES_TOLD: usize = 123;
+pub const ADDRESSES_TOLD: usize = 124;
+pub const PASSWORD_BYTES: usize = 125;
+pub const READS_IN_PIECES: usize = 126;
 
 /// What a legal reader on a line brings about, in the stored dialogue too.
 pub const ON_A_LINE: &[usize] = &[
@@ -157,6 +173,10 @@ pub const ON_A_LINE: &[usize] = &[
     BUFFERS_KEPT,
     SEARCHES,
     STATUSES,
+    COMMANDS_AT_LOCK,
+    COMMANDS_BARRED,
+    READS_LOCKED_FOUND,
+    READS_OPEN,
 ];
 /// What else calls and line switches bring about, with a receiver or without.
 pub const CALLED: &[usize] = &[
@@ -230,9 +250,21 @@ pub const CALLED: &[usize] = &[
     THRESHOLDS_REFUSED,
     FOUND_MARKS_REFUSED,
     FOUND_MARKS_SWITCHED,
+    READS_LOCKED_NOT_FOUND,
+    READS_LOCKED_AFTER,
+    READS_OPEN_AFTER,
+    READS_IN_TRANSFER,
+    LEVELS_TOLD,
+    SIZE_CODES_TOLD,
+    BAUD_FACTORS_TOLD,
+    TYPES_TOLD,
+    CAPACITIES_TOLD,
+    ADDRESSES_TOLD,
+    PASSWORD_BYTES,
 ];
 /// What needs a receiver.
-pub const RECEIVED: &[usize] = &[COUNTS, COUNTS_SWITCHED, PAST, LOCKED, PIECES, HELD, SEARCHES_IN_PIECES];
+pub const RECEIVED: &[usize] =
+    &[COUNTS, COUNTS_SWITCHED, PAST, LOCKED, PIECES, HELD, SEARCHES_IN_PIECES, READS_IN_PIECES];
 /// What stands there when fresh settings are asked for.
 pub const FRESHENED: &[usize] = &[FRESH, FRESH_SIZES, FRESH_MARKS, FRESH_ORIGINS, FRESH_FOUND_MARKS];
 /// What an index that is brought over meets.
@@ -248,6 +280,24 @@ pub const BROUGHT: &[usize] = &[
 
 /// The acknowledge codes of document 01, 22h of document 02's request [5] and 09h of its request [8].
 pub const CODES: [u8; 15] = [0x00, 0x01, 0x09, 0x0B, 0x0C, 0x0D, 0x0E, 0x10, 0x13, 0x19, 0x1A, 0x1B, 0x1C, 0x21, 0x22];
+
+/// The commands that a locked reader answers 21h.
+const BARRED: [u8; COMMANDS.len() - FREE.len()] = [
+    SEARCH,
+    STORE,
+    LOAD_CHAR,
+    UP_CHAR,
+    DOWN_CHAR,
+    DELET_CHAR,
+    EMPTY,
+    SET_SYS_PARA,
+    SET_PWD,
+    SET_ADDER,
+    WRITE_NOTEPAD,
+    READ_NOTEPAD,
+    TEMPLETE_NUM,
+    READ_INDEX_TABLE,
+];
 
 /// The acknowledge codes of a Search of the right length.
 const CODES_OF_SEARCH: [u8; 6] = [0x00, 0x01, 0x09, 0x0B, 0x0C, 0x21];
@@ -265,7 +315,7 @@ const UNFIT_SIZE_CODES: [usize; 2] = [MOST_SIZE_CODE + 1, 255];
 /// Pages about 256 and at the end.
 const FAR_PAGES: [usize; 5] = [255, 256, 257, 998, 999];
 
-pub const KINDS: [Kind; 111] = [
+pub const KINDS: [Kind; 127] = [
     Kind { name: "acknowledge codes", awaited: Codes(&CODES) },
     Kind { name: "commands answered 00h", awaited: Codes(&COMMANDS) },
     Kind { name: "uploads by size", awaited: Numbers(&SIZES) },
@@ -435,6 +485,44 @@ pub const KINDS: [Kind; 111] = [
         awaited: Numbers(&[0, 1, 2, 3]),
     },
     Kind { name: "Searches of which a part was held by code", awaited: Codes(&CODES_OF_SEARCH) },
+    Kind { name: "commands answered 00h by a locked reader", awaited: Codes(&FREE) },
+    Kind { name: "commands answered 21h", awaited: Codes(&BARRED) },
+    Kind {
+        name: "ReadSysParas while locked, not found: 0 answered 00h, 1 of a wrong length, 2 of a wrong sum, 3 not ours",
+        awaited: Numbers(&[0, 1, 2, 3]),
+    },
+    Kind {
+        name: "ReadSysParas while locked, found: 0 answered 00h, 1 of a wrong length, 2 of a wrong sum, 3 not ours",
+        awaited: Numbers(&[0, 1, 2, 3]),
+    },
+    Kind {
+        name: "status words told by a reader that is not locked, 10 more if it has a password",
+        awaited: Numbers(&[0, 2, 4, 6, 14, 16]),
+    },
+    Kind {
+        name: "ReadSysParas while locked, after: 0 SetPwd, 1 a wrong password, 3 a line switch, 4 ReadSysPara",
+        awaited: Numbers(&[0, 1, 3, 4]),
+    },
+    Kind {
+        name: "ReadSysParas while not locked, after: 0 SetPwd, 1 a wrong password, 2 the right one, 3 a line switch, \
+               4 ReadSysPara",
+        awaited: Numbers(&[0, 1, 2, 3, 4]),
+    },
+    Kind { name: "status words told by a ReadSysPara that ended a transfer", awaited: Numbers(&[0, 2, 4, 6]) },
+    Kind { name: "levels told while locked", awaited: Numbers(&[1, 2, 3, 4, 5]) },
+    Kind { name: "size codes told while locked", awaited: Numbers(&[0, 1, 2, 3]) },
+    Kind { name: "baud factors told while locked", awaited: Numbers(&[1, 2, 3, 4, 5, 6, 7, 8, 9, 10, 11, 12]) },
+    Kind { name: "types told while locked", awaited: Numbers(&[0, 1, 0x00FF, 0x1234, 0xFFFF]) },
+    Kind { name: "C told while locked", awaited: Numbers(&CAPACITIES_IN_TURN) },
+    Kind { name: "addresses told while locked: 0 zero, 1 the fresh one, 2 another", awaited: Numbers(&[0, 1, 2]) },
+    Kind {
+        name: "parameters told while one byte of the password alone is not zero and locks, by its place",
+        awaited: Numbers(&[0, 1, 2, 3]),
+    },
+    Kind {
+        name: "parameters told while locked, of a packet of which a part was held: 0 not found, 1 found",
+        awaited: Numbers(&[0, 1]),
+    },
 ];
 
 impl Kind {

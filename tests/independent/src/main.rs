@@ -1,5 +1,5 @@
-//! Pits a reader and a receiver, written from document 01 and document 02's requests [1] to [3] and [5] to [8] alone,
-//! against another implementation of the papers, and writes the stored dialogue of the bench program with them.
+//! Pits a reader and a receiver, written from document 01 and document 02's requests [1] to [3], [5] to [8] and [13]
+//! alone, against another implementation of the papers, and writes the stored dialogue of the bench program with them.
 
 mod bench;
 mod bringing_over;
@@ -11,6 +11,7 @@ mod coverage;
 mod dialogue;
 mod examples;
 mod examples_origins;
+mod examples_parameters;
 mod examples_search;
 mod frame;
 mod host;
@@ -18,6 +19,7 @@ mod kinds;
 mod leavers;
 mod limits;
 mod origins;
+mod parameters;
 mod probe;
 mod reader;
 mod readers;
@@ -28,6 +30,7 @@ mod search;
 mod shrink;
 mod tally;
 mod tally_origins;
+mod tally_parameters;
 mod tally_search;
 mod templates;
 mod thousand;
@@ -36,7 +39,9 @@ mod wrong_bringing_over;
 mod wrong_chips;
 mod wrong_found;
 mod wrong_limits;
+mod wrong_lock;
 mod wrong_origins;
+mod wrong_parameters;
 mod wrong_refusals;
 mod wrong_search;
 mod wrong_stores;
@@ -63,8 +68,8 @@ const USAGE: &str = "usage: independent [--cases N] [--seed S] [--quiet] -- PROG
 const DEFAULT_CASES: u64 = 10_000;
 /// So many cases or more must reach all that is counted; the examples do not count.
 const COVERING_CASES: u64 = 2000;
-/// In so many cases there are one dialogue with a reader, one caller of a receiver, two single receivers and one Search;
-/// the others are single readers.
+/// In so many cases there are one dialogue with a reader, one caller of a receiver, two single receivers, one Search
+/// and one ReadSysPara; the others are single readers.
 const TURN: u64 = 8;
 /// How often a long run tells how far it is.
 const PROGRESS: Duration = Duration::from_secs(10);
@@ -202,6 +207,7 @@ fn compare(options: Options) -> Result<(), End> {
             1 => comparer.caller(Caller::new(chance))?,
             2 | 3 => drop(comparer.agreed(&receivers::single(chance))?),
             4 => drop(comparer.agreed(&search::by_chance(chance))?),
+            5 => drop(comparer.agreed(&parameters::by_chance(chance))?),
             _ => drop(comparer.agreed(&cases::single(chance))?),
         }
         if !quiet && told.elapsed() > PROGRESS {
@@ -214,6 +220,7 @@ fn compare(options: Options) -> Result<(), End> {
     comparer.counts()?;
     comparer.origins()?;
     comparer.searches()?;
+    comparer.parameters()?;
     comparer.receivers_in_turn(seed)?;
     comparer.probe.finish()?;
 
@@ -343,13 +350,24 @@ impl Comparer {
         Ok(())
     }
 
-    /// Every length of a piece and every held count, and transfers and Searches cut at every place.
+    /// ReadSysParas of readers locked and not.
+    fn parameters(&mut self) -> Result<(), End> {
+        for (place, request) in parameters::all().enumerate() {
+            self.case = format!("case {place} of the parameters");
+            self.agreed(&request)?;
+        }
+        Ok(())
+    }
+
+    /// Every length of a piece and every held count, and transfers, Searches and visits cut at every place.
     fn receivers_in_turn(&mut self, seed: u64) -> Result<(), End> {
         for (place, request) in receivers::every_length(seed).enumerate() {
             self.case = format!("piece {place} of seed {seed}");
             self.agreed(&request)?;
         }
-        for (place, caller) in receivers::cut_transfers(seed).chain(receivers::cut_searches(seed)).enumerate() {
+        let cut =
+            receivers::cut_transfers(seed).chain(receivers::cut_searches(seed)).chain(receivers::cut_visits(seed));
+        for (place, caller) in cut.enumerate() {
             self.case = format!("cut run {place} of seed {seed}");
             self.caller(caller)?;
         }

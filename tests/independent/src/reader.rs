@@ -1,6 +1,6 @@
 //! The reader of document 01, with the fresh settings of document 02's request [2], the limits of its request [3], the
-//! Store of its request [5], the thousand pages of its request [6], the origins of its request [7] and the Search of its
-//! request [8], written from those papers alone and in document 01's order.
+//! Store of its request [5], the thousand pages of its request [6], the origins of its request [7], the Search of its
+//! request [8] and the ReadSysPara of its request [13], written from those papers alone and in document 01's order.
 
 use std::ops::{Range, RangeInclusive};
 
@@ -75,6 +75,8 @@ pub const COMMANDS: [u8; 17] = [
     READ_INDEX_TABLE,
     HAND_SHAKE,
 ];
+/// The commands that a locked reader carries out.
+pub const FREE: [u8; 3] = [READ_SYS_PARA, VFY_PWD, HAND_SHAKE];
 
 /// A mark as the byte that it is kept in: 0 is clear and 1 is set. Any other byte is a setting that is not legal.
 #[derive(Clone, Copy, Debug, PartialEq, Eq)]
@@ -136,7 +138,7 @@ pub struct Settings {
     pub got: u16,
     pub verified: Mark,
     pub filled: [Mark; 2],
-    /// Status bit 1: set by the 00h of a Search, cleared by its 09h and by a line switch.
+    /// Set by the 00h of a Search, cleared by its 09h and by a line switch.
     pub found: Mark,
     /// The page that each buffer was loaded from or stored to.
     pub origins: [Origin; 2],
@@ -248,6 +250,12 @@ impl Settings {
     /// The data bytes that the size code means; the code is legal.
     pub fn size(&self) -> usize {
         SIZES[usize::from(self.size_code)]
+    }
+
+    /// The status word: bit 1 is the found mark, which a locked reader shows as 0, and bit 2 the verified mark.
+    fn status(&self) -> usize {
+        let found = self.found.is_set() && !self.locked();
+        2 * usize::from(found) + 4 * usize::from(self.verified.is_set())
     }
 
     fn legal(&self) -> bool {
@@ -412,7 +420,7 @@ impl Reader {
         let (code, parameters) = (content[0], &content[1..]);
         let length = length_field(code).ok_or(0x19)?;
         demand(content.len() + 2 == length, 0x01)?;
-        demand(!self.settings.locked() || code == VFY_PWD || code == HAND_SHAKE, 0x21)?;
+        demand(!self.settings.locked() || FREE.contains(&code), 0x21)?;
         self.carry_out(code, parameters)
     }
 
@@ -542,10 +550,8 @@ impl Reader {
 
     fn system_parameters(&self) -> Vec<u8> {
         let settings = &self.settings;
-        let weight = |mark: Mark, weight| if mark.is_set() { weight } else { 0 };
-        let status = weight(settings.found, 2) + weight(settings.verified, 4);
         let mut listed = Vec::new();
-        listed.extend(two_bytes(status));
+        listed.extend(two_bytes(settings.status()));
         listed.extend(settings.sensor_type.to_be_bytes());
         listed.extend(two_bytes(self.capacity()));
         listed.extend(two_bytes(settings.level.into()));

@@ -26,6 +26,18 @@ pub fn single(mut chance: Chance) -> Request {
     chips::suited(&mut chance, Request { kind: kind(receiver), reader, run, room })
 }
 
+/// A call with this run, half of the time of a receiver that holds a part of it.
+pub fn whole_or_in_part(mut chance: Chance, reader: Reader, run: Vec<u8>) -> Request {
+    let (held, piece) = run.split_at(chance.below(run.len()));
+    let room = chance.bytes(ROOM);
+    let request = if chance.percent(50) {
+        Request { kind: Kind::ReceiverCall(Receiver::holding(held)), reader, run: piece.to_vec(), room }
+    } else {
+        Request { kind: Kind::Call, reader, run, room }
+    };
+    chips::suited(&mut chance, request)
+}
+
 /// Calls of legal readers, with pieces of every length and with every legal held count.
 pub fn every_length(seed: u64) -> impl Iterator<Item = Request> {
     (0..ROUNDS * (MOST_PIECE + 1)).map(move |place| {
@@ -242,6 +254,28 @@ pub fn cut_searches(seed: u64) -> impl Iterator<Item = Caller> {
     (0..=run.len()).map(move |place| {
         let (one, other) = run.split_at(place);
         Caller::with(Chance::new(seed, place as u64), reader.clone(), &[one, other])
+    })
+}
+
+/// Callers with a fitter who asks for the parameters before SetPwd and after it, after a wrong password and after the
+/// right one, in two pieces, cut at every place; then after a line switch and after the right password again.
+pub fn cut_visits(seed: u64) -> impl Iterator<Item = Caller> {
+    let mut start = legal_reader(&mut Chance::new(seed, 0), 9);
+    start.settings = Settings::fresh();
+    let command = |content: &[u8]| packet(Settings::fresh().address, COMMAND, content);
+    let asks = command(&[READ_SYS_PARA]);
+    let [sets, wrong, right] =
+        [(SET_PWD, 5), (VFY_PWD, 6), (VFY_PWD, 5)].map(|(code, last)| command(&[code, 0, 0, 0, last]));
+    let run = [&asks, &sets, &asks, &wrong, &asks, &right, &asks].map(|packet| &packet[..]).concat();
+    let visits = (0..=run.len()).flat_map(|place| [(CLEAR, place), (SET, place)]);
+    visits.map(move |(found, place)| {
+        let mut reader = start.clone();
+        reader.settings.found = found;
+        let (one, other) = run.split_at(place);
+        let mut caller = Caller::with(Chance::new(seed, place as u64), reader, &[one, other]);
+        caller.events.push_back(Event::LineSwitch);
+        caller.events.extend([&asks, &right, &asks].map(|packet| Event::Bytes(packet.clone())));
+        caller
     })
 }
 

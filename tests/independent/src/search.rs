@@ -3,12 +3,12 @@
 
 use crate::cases::Author;
 use crate::chance::Chance;
-use crate::chips;
 use crate::frame::{Kind, Request};
 use crate::origins::CAPACITIES;
 use crate::reader::*;
 use crate::readers::{index_of, legal_reader, numbered_reader};
 use crate::receiver::{Receiver, HOLDS};
+use crate::receivers;
 use crate::thousand::calls;
 
 /// C of the readers that meet the most.
@@ -33,14 +33,7 @@ pub fn by_chance(mut chance: Chance) -> Request {
         reader.settings.filled = [SET; 2];
     }
     let run = Author { chance: &mut chance, reader: &reader }.command(SEARCH);
-    let (held, piece) = run.split_at(chance.below(run.len()));
-    let room = chance.bytes(ROOM);
-    let request = if chance.percent(50) {
-        Request { kind: Kind::ReceiverCall(Receiver::holding(held)), reader, run: piece.to_vec(), room }
-    } else {
-        Request { kind: Kind::Call, reader, run, room }
-    };
-    chips::suited(&mut chance, request)
+    receivers::whole_or_in_part(chance, reader, run)
 }
 
 /// Calls with a receiver and without one, then what is not a call.
@@ -131,7 +124,7 @@ fn codes() -> Vec<Request> {
 }
 
 /// The reader with a transfer of this buffer; the other one is filled.
-fn in_transfer(reader: &Reader, buffer: u8) -> Reader {
+pub fn in_transfer(reader: &Reader, buffer: u8) -> Reader {
     let mut reader = reader.clone();
     reader.settings.filled = [Mark::of(buffer == 2), Mark::of(buffer == 1)];
     reader.settings.transfer = buffer;
@@ -257,7 +250,8 @@ fn marks() -> Vec<Request> {
     (0..=255).flat_map(with).collect()
 }
 
-/// Line switches, fresh settings and indexes brought over, which take any found mark, scores and thresholds.
+/// Line switches, fresh settings and indexes brought over, which take any found mark, scores, thresholds, reply room
+/// and held count.
 fn not_calls() -> impl Iterator<Item = Request> {
     let chips = [Chip::zero(1), Chip::zero(2), Chip { scores: Vec::new(), thresholds: vec![1; 4] }];
     let mut readers = Vec::new();
@@ -272,11 +266,18 @@ fn not_calls() -> impl Iterator<Item = Request> {
         let mut short = few();
         short.settings.found = found;
         short.buffers[0].pop();
+        short.index.pop();
         readers.push(short);
     }
-    let switch = Kind::ReceiverLineSwitch(Receiver::holding(&[0xEF]));
-    let kinds = [Kind::LineSwitch, switch, Kind::FreshSettings, Kind::BringOver];
+    let [switch, unfit] =
+        [1, HOLDS as u16 + 1].map(|count| Kind::ReceiverLineSwitch(Receiver { count, ..Receiver::holding(&[0xEF]) }));
+    let kinds = [Kind::LineSwitch, switch, unfit, Kind::FreshSettings, Kind::BringOver];
     readers.into_iter().flat_map(move |reader| {
-        kinds.clone().map(|kind| Request { run: vec![0x15; SHORT_INDEX], ..without_run(kind, &reader) })
+        let room = vec![0x5A; ROOM - usize::from(reader.settings.password[3])];
+        kinds.clone().map(|kind| Request {
+            run: vec![0x15; SHORT_INDEX],
+            room: room.clone(),
+            ..without_run(kind, &reader)
+        })
     })
 }

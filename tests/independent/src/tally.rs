@@ -4,12 +4,15 @@ use crate::frame::{self, Outcome, Request};
 use crate::kinds::{Awaited::UpTo, *};
 use crate::reader::*;
 use crate::receiver::Receiver;
+use crate::tally_parameters::Done;
 use std::collections::BTreeMap;
 
 #[derive(Default)]
 pub struct Tally {
     pub calls: usize,
     counts: BTreeMap<(usize, usize), usize>,
+    /// What was done last that matters to a ReadSysPara, and the settings that it left.
+    pub last: Option<(Done, Settings)>,
 }
 
 impl Tally {
@@ -39,6 +42,7 @@ impl Tally {
         }
         self.add_origins(request, outcome);
         self.add_search(request, outcome);
+        self.add_parameters(request, outcome);
     }
 
     fn add_bringing_over(&mut self, request: &Request, refusal: u8) {

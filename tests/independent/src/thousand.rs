@@ -149,10 +149,13 @@ pub fn calls(reader: Reader, command: &[u8]) -> [Request; 2] {
     calls_with(reader, COMMAND, command)
 }
 
-/// A call of a reader at the fresh address with this packet, and one of a receiver that holds its first half and is
-/// offered the rest.
+/// A call of a reader at the fresh address with this packet, and one of a receiver.
 pub fn calls_with(reader: Reader, identifier: u8, content: &[u8]) -> [Request; 2] {
-    let run = packet(Settings::fresh().address, identifier, content);
+    calls_of(reader, packet(Settings::fresh().address, identifier, content))
+}
+
+/// A call of a reader with this run, and one of a receiver that holds its first half and is offered the rest.
+pub fn calls_of(reader: Reader, run: Vec<u8>) -> [Request; 2] {
     let (held, piece) = run.split_at(run.len() / 2);
     let (receiver, piece) = (Receiver::holding(held), piece.to_vec());
     [(Kind::Call, run), (Kind::ReceiverCall(receiver), piece)].map(|(kind, run)| Request {

@@ -8,7 +8,9 @@ use crate::wrong_bringing_over;
 use crate::wrong_chips;
 use crate::wrong_found;
 use crate::wrong_limits;
+use crate::wrong_lock;
 use crate::wrong_origins;
+use crate::wrong_parameters;
 use crate::wrong_refusals;
 use crate::wrong_search;
 use crate::wrong_stores;
@@ -47,7 +49,14 @@ pub fn errors() -> impl Iterator<Item = &'static (&'static str, Error)> {
     let of_requests = wrong_limits::ERRORS.iter().chain(&wrong_stores::ERRORS).chain(&wrong_thousand::ERRORS);
     let of_origins = wrong_origins::ERRORS.iter().chain(&wrong_wipes::ERRORS).chain(&wrong_refusals::ERRORS);
     let of_search = wrong_search::ERRORS.iter().chain(&wrong_found::ERRORS).chain(&wrong_chips::ERRORS);
-    ERRORS.iter().chain(of_requests).chain(&wrong_bringing_over::ERRORS).chain(of_origins).chain(of_search)
+    let of_lock = wrong_lock::ERRORS.iter().chain(&wrong_parameters::ERRORS);
+    ERRORS
+        .iter()
+        .chain(of_requests)
+        .chain(&wrong_bringing_over::ERRORS)
+        .chain(of_origins)
+        .chain(of_search)
+        .chain(of_lock)
 }
 
 const ERRORS: [(&str, Error); 54] = [
@@ -111,7 +120,7 @@ const ERRORS: [(&str, Error); 54] = [
 fn lock_before_sum(request: &Request) -> Outcome {
     let mut outcome = request.carried_out();
     if let Some(packet) = answered(request, &outcome) {
-        let free = [VFY_PWD, HAND_SHAKE].contains(&packet.content[0]);
+        let free = FREE.contains(&packet.content[0]);
         if request.reader.settings.locked() && !packet.sum_right && !free {
             outcome = reply_instead(request, outcome, &[0x21]);
         }

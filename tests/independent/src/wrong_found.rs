@@ -363,14 +363,19 @@ fn status_verified_hides_found(request: &Request) -> Outcome {
     status(|found, verified| [0, 4 * verified + 2 * found * (1 - verified)], request)
 }
 
-/// ReadSysPara tells this status word, made of the found mark and the verified mark, each 0 or 1.
+/// ReadSysPara tells this status word, made of the found mark, which counts as 0 while locked, and the verified mark.
 fn status(word: fn(u8, u8) -> [u8; 2], request: &Request) -> Outcome {
+    let found = |settings: &Settings| if settings.locked() { CLEAR } else { settings.found };
+    tells_status(|settings| word(found(settings).0, settings.verified.0), request)
+}
+
+/// ReadSysPara tells this status word, made of the settings.
+pub fn tells_status(word: impl Fn(&Settings) -> [u8; 2], request: &Request) -> Outcome {
     let outcome = request.carried_out();
     if !fine(READ_SYS_PARA, request, &outcome) {
         return outcome;
     }
-    let Settings { found, verified, .. } = request.reader.settings;
     let mut content = outcome.room[9..outcome.answer.length - 2].to_vec();
-    content[1..3].copy_from_slice(&word(found.0, verified.0));
+    content[1..3].copy_from_slice(&word(&request.reader.settings));
     reply_instead(request, outcome, &content)
 }

@@ -6,6 +6,7 @@ use crate::reader::*;
 use crate::receiver::HOLDS;
 use crate::wrong::Error::{self, OfReader, OfReceiver};
 use crate::wrong::{code, is_command, received, reply_instead};
+use crate::wrong_lock::{as_if_open, when_locked};
 use crate::wrong_thousand::with_content;
 use std::ops::Range;
 use std::sync::Mutex;
@@ -152,7 +153,7 @@ pub const ERRORS: [(&str, Error); 118] = [
     ("search-takes-buffer-3", OfReader(|request| with_buffer(3, 2, request))),
     ("search-takes-length-7", OfReader(|request| takes_length(7, request))),
     ("search-takes-length-9", OfReader(|request| takes_length(9, request))),
-    ("search-when-locked", OfReader(when_locked)),
+    ("search-when-locked", OfReader(search_when_locked)),
     ("search-row-before-lock", OfReader(row_before_lock)),
     ("search-lock-before-length", OfReader(lock_before_length)),
     ("search-keeps-transfer", OfReader(keeps_transfer)),
@@ -166,7 +167,7 @@ pub const ERRORS: [(&str, Error); 118] = [
     ("receiver-search-above", OfReceiver(|request, held| received(HOLDS, above_threshold_only, request, held))),
     ("receiver-search-vacant-too", OfReceiver(|request, held| received(HOLDS, vacant_too, request, held))),
     ("receiver-search-sum-in-16-bits", OfReceiver(|request, held| received(HOLDS, sum_in_16_bits, request, held))),
-    ("receiver-search-when-locked", OfReceiver(|request, held| received(HOLDS, when_locked, request, held))),
+    ("receiver-search-when-locked", OfReceiver(|request, held| received(HOLDS, search_when_locked, request, held))),
     ("receiver-search-keeps-transfer", OfReceiver(|request, held| received(HOLDS, keeps_transfer, request, held))),
     ("receiver-filled-before-start", OfReceiver(|request, held| received(HOLDS, filled_before_start, request, held))),
     ("receiver-scores-of-call-before", OfReceiver(|request, _| scores_of_call_before(request))),
@@ -565,28 +566,16 @@ fn takes_length(length: usize, request: &Request) -> Outcome {
 }
 
 /// A locked reader carries a Search out.
-fn when_locked(request: &Request) -> Outcome {
-    if let Some(mut outcome) = as_if_open(request) {
-        outcome.reader.settings.verified = CLEAR;
-        return outcome;
-    }
-    request.carried_out()
+fn search_when_locked(request: &Request) -> Outcome {
+    when_locked(SEARCH, request)
 }
 
 /// The tests of the row come before the lock.
 fn row_before_lock(request: &Request) -> Outcome {
-    match as_if_open(request).and_then(|outcome| code(&outcome)) {
+    match as_if_open(SEARCH, request).and_then(|outcome| code(&outcome)) {
         Some(due @ (0x01 | 0x0B | 0x0C)) => gets(due, |_, _| true, request),
         _ => request.carried_out(),
     }
-}
-
-/// What an open reader makes of a Search that gets 21h.
-fn as_if_open(request: &Request) -> Option<Outcome> {
-    let due = code(&request.carried_out());
-    let mut asked = request.clone();
-    asked.reader.settings.verified = SET;
-    (is_command(request, SEARCH) && due == Some(0x21)).then(|| asked.carried_out())
 }
 
 /// A locked reader gives 21h to a Search of a wrong length.

@@ -1,6 +1,8 @@
--- The table of commands: a law of every row, had at whatever row a code picks; the tests of every row; the lengths of parameters.
+-- The table of commands: a law of every row, had at whatever row a code picks; which rows the lock bars; what is read as a command; the tests of every row; the
+-- lengths of parameters.
 use mathlib.Core.Bool.{Bool, true, false, cond}
-use mathlib.Core.Path.{_≡_, refl, _∙_}
+use mathlib.Core.Path.{_≡_, refl, sym, _∙_, subst}
+use mathlib.Core.Logic.{_≢_}
 use mathlib.Core.List.{List, [], _∷_}
 use Prim.Native.Nat.{ℕ, _+_}
 use native.Mathlib.Omega.{arith}
@@ -14,7 +16,7 @@ use Rattle.protocol.specs.Bytes.{byteAt, same}
 use Rattle.protocol.specs.Packet.{lengthOf, addressAt, identifierAt, contentAt, rightAt}
 use Rattle.protocol.specs.Finder.{findOf}
 use Rattle.protocol.specs.Reader.{Reader}
-use Rattle.protocol.specs.Commands.{Barred, searchFor, store, loadChar, upChar, downChar, deletChar, empty, setSysPara, readSysPara, setPassword, setAddress, writeNotepad, readNotepad, templeteNum, readIndexTable, Command, free, barred, Entry, commands, Known, none, some, rowOf, damaged, unknown, misfit, command, orderAs, orderOf}
+use Rattle.protocol.specs.Commands.{Barred, searchFor, store, loadChar, upChar, downChar, deletChar, empty, setSysPara, setPassword, setAddress, writeNotepad, readNotepad, templeteNum, readIndexTable, Command, free, barred, Entry, commands, Known, none, some, rowOf, Order, damaged, unknown, misfit, command, orderAs, orderOf}
 use Rattle.protocol.specs.Search.{Chip}
 use Rattle.protocol.specs.Table.{rule}
 use Rattle.protocol.specs.Step.{Heard, nothing, order, piece, hearAs, hearAt, hear}
@@ -39,6 +41,48 @@ row-law P (e ∷ es) h k = go (eqb k (e .code)) (row-law P es (h .1) k)
     go true ih = h .0
     go false ih = ih
 
+-- which is the code's own
+pub own-code : (es : List Entry) (k : ℕ) → At (λ e. e .code ≡ k) (rowOf es k)
+unfolding rowOf
+own-code [] k = tt
+own-code (e ∷ es) k = go (eqb k (e .code)) refl (own-code es k)
+  where
+    go : (b : Bool) → eqb k (e .code) ≡ b → At (λ e. e .code ≡ k) (rowOf es k) → At (λ e. e .code ≡ k) (cond b (some e) (rowOf es k))
+    go true q ih = sym (eqb-true k (e .code) q)
+    go false q ih = ih
+
+-- ---- every code but 0Fh, 13h and 40h reads as a command that the lock bars
+
+abbrev pub BarredRow : Entry → Type 0
+BarredRow e = e .code ≢ 0x0f → e .code ≢ 0x13 → e .code ≢ 0x40 → (c : List ℕ) → (b : Barred) × (e .read c ≡ barred b)
+
+pub barred-rows : Each BarredRow commands
+unfolding commands
+barred-rows =
+    (λ m n o c. (_, refl), (λ m n o c. (_, refl), (λ m n o c. (_, refl), (λ m n o c. (_, refl), (λ m n o c. (_, refl), (λ m n o c. (_, refl), (λ m n o c. (_, refl), (λ m n o c. (_, refl), (λ m n o c. absurd (m refl), (λ m n o c. (_, refl), (λ m n o c. absurd (n refl), (λ m n o c. (_, refl), (λ m n o c. (_, refl), (λ m n o c. (_, refl), (λ m n o c. (_, refl), (λ m n o c. (_, refl), (λ m n o c. absurd (o refl), tt)))))))))))))))))
+
+-- ---- what is read as a command: the sum is right, and the length is that of the code's row
+
+pub record Fits (right : Bool) (c : List ℕ) (k : Command) : Type 0 where
+  pub sum : right ≡ true
+  pub entry : Entry
+  pub row : rowOf commands (byteAt c 0) ≡ some entry
+  pub long : entry .len ≡ lengthOf c
+  pub read : entry .read c ≡ k
+
+pub order-fits : (right : Bool) (c : List ℕ) (k : Command) → orderOf right c ≡ command k → Fits right c k
+unfolding orderOf orderAs
+order-fits false c k q = let z : _≡_ {A = ℕ} 0 1 = cc in absurd (omega arith)
+order-fits true c k q = go (rowOf commands (byteAt c 0)) refl q
+  where
+    go : (w : Known) → rowOf commands (byteAt c 0) ≡ w → orderAs c w ≡ command k → Fits true c k
+    go none e q = let z : _≡_ {A = ℕ} 0 1 = cc in absurd (omega arith)
+    go (some x) e q = at (eqb (x .len) (lengthOf c)) refl q
+      where
+        at : (t : Bool) → eqb (x .len) (lengthOf c) ≡ t → cond t (command (x .read c)) misfit ≡ command k → Fits true c k
+        at true l q = record { sum = refl; entry = x; row = e; long = eqb-true (x .len) (lengthOf c) l; read = cc }
+        at false l q = let z : _≡_ {A = ℕ} 0 1 = cc in absurd (omega arith)
+
 -- ---- no test of a row gives the code 00h
 
 pub tests-numbered : (χ : Chip) (r : Reader) (c : Barred) → T (numbered (rule χ r c .tests))
@@ -51,7 +95,6 @@ tests-numbered χ r (downChar b) = tt
 tests-numbered χ r (deletChar p n) = tt
 tests-numbered χ r empty = tt
 tests-numbered χ r (setSysPara k v) = tt
-tests-numbered χ r readSysPara = tt
 tests-numbered χ r (setPassword w) = tt
 tests-numbered χ r (setAddress a) = tt
 tests-numbered χ r (writeNotepad p b) = tt
@@ -70,7 +113,6 @@ Long (downChar b) = Unit {0}
 Long (deletChar p n) = Unit {0}
 Long empty = Unit {0}
 Long (setSysPara k v) = Unit {0}
-Long readSysPara = Unit {0}
 Long (setPassword w) = length w ≡ fourBytes
 Long (setAddress a) = length a ≡ fourBytes
 Long (writeNotepad p b) = length b ≡ noteBytes
@@ -102,17 +144,15 @@ LongHeard (order (command c)) = LongCommand c
 LongHeard (piece last right content) = Unit {0}
 
 long-order : (right : Bool) (c : List ℕ) → LongHeard (order (orderOf right c))
-unfolding orderOf orderAs
-long-order false c = tt
-long-order true c = go (rowOf commands (byteAt c 0)) (row-law LongRow commands long-rows (byteAt c 0))
+long-order right c = go (orderOf right c) refl
   where
-    go : (k : Known) → At LongRow k → LongHeard (order (orderAs c k))
-    go none h = tt
-    go (some e) h = at (eqb (e .len) (lengthOf c)) refl
-      where
-        at : (t : Bool) → eqb (e .len) (lengthOf c) ≡ t → LongHeard (order (cond t (command (e .read c)) misfit))
-        at true q = h c (eqb-true (e .len) (lengthOf c) q)
-        at false q = tt
+    go : (o : Order) → orderOf right c ≡ o → LongHeard (order o)
+    go damaged q = tt
+    go unknown q = tt
+    go misfit q = tt
+    go (command k) q =
+        let f : Fits right c k = order-fits right c k q in
+        subst LongCommand (f .read) (subst (At LongRow) (f .row) (row-law LongRow commands long-rows (byteAt c 0)) c (f .long))
 
 either : (b : Bool) (x y : Heard) → LongHeard x → LongHeard y → LongHeard (cond b x y)
 either true x y h k = h

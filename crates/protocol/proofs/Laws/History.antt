@@ -16,7 +16,7 @@ use Rattle.protocol.specs.Packet.{packet, addressAt, identifierAt, right
 use Rattle.protocol.specs.Finder.{findOf}
 use Rattle.protocol.specs.Index.{stored, setBit, clearBits}
 use Rattle.protocol.specs.Reader.{Transfer, closed, opened, unfit, Reader, capacity, bufferOf, emptied, withLibrary, withNotepad, withBuffer, withoutPages, withFound}
-use Rattle.protocol.specs.Commands.{Barred, searchFor, store, loadChar, upChar, downChar, deletChar, empty, setSysPara, readSysPara, setPassword, setAddress, writeNotepad, readNotepad, templeteNum, readIndexTable, barred, command}
+use Rattle.protocol.specs.Commands.{Barred, searchFor, store, loadChar, upChar, downChar, deletChar, empty, setSysPara, setPassword, setAddress, writeNotepad, readNotepad, templeteNum, readIndexTable, barred, command}
 use Rattle.protocol.specs.Data.{acknowledge}
 use Rattle.protocol.specs.Search.{Chip}
 use Rattle.protocol.specs.Table.{second, rule, apply}
@@ -122,7 +122,6 @@ module _ (m : ℕ) (P : List ℕ → List ℕ → List Act → Type 0) (law : Ke
   does-keeps (upChar b) e t = unasked _ _ _ (spared r .templates) (spared r .index) (ap actsIn e)
   does-keeps (downChar b) e t = unasked _ _ _ (spared r .templates) (spared r .index) (ap actsIn e)
   does-keeps (setSysPara n v) e t = unasked _ _ _ (spared r .templates) (spared r .index) (ap actsIn e)
-  does-keeps readSysPara e t = unasked _ _ _ (spared r .templates) (spared r .index) (ap actsIn e)
   does-keeps (setPassword w) e t = unasked _ _ _ (spared r .templates) (spared r .index) (ap actsIn e)
   does-keeps (setAddress b) e t = unasked _ _ _ (spared r .templates) (spared r .index) (ap actsIn e)
   does-keeps (writeNotepad p b) e t = unasked _ _ _ (spared r .templates) (spared r .index) (ap actsIn e)

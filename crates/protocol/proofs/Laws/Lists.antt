@@ -142,6 +142,13 @@ module _ (i : ℕ) (s d : List ℕ) (h : i + length s ≤ length d) where
       ap (λ (m : ℕ). getD (take i d ++ (s ++ drop (i + length s) d)) m 0) e ∙ getD-append-add (take i d) (s ++ drop (i + length s) d) (length s + k) 0
       ∙ getD-append-add s (drop (i + length s) d) k 0 ∙ getD-drop (i + length s) d k 0 ∙ ap (λ (m : ℕ). getD d m 0) f
 
+-- two lists that differ at one place and at their ends, at another place
+pub but-one : (s m u v : List ℕ) (x y j : ℕ) → j ≢ length s → j < length s + suc (length m) → getD (s ++ (x ∷ (m ++ u))) j 0 ≡ getD (s ++ (y ∷ (m ++ v))) j 0
+but-one [] m u v x y zero d l = absurd (d refl)
+but-one [] m u v x y (suc j) d l = List·getD-append m u 0 j (omega arith) ∙ sym (List·getD-append m v 0 j (omega arith))
+but-one (a ∷ s) m u v x y zero d l = refl
+but-one (a ∷ s) m u v x y (suc j) d l = but-one s m u v x y j (λ e. d (ap suc e)) (omega arith)
+
 -- a part that ends before t begins
 pub part-left : (s t : List ℕ) (i n : ℕ) → i + n ≤ length s → part i n (s ++ t) ≡ part i n s
 part-left s t i n h = ap (take n) (drop-append-le i s t (omega arith)) ∙ take-append-le n (drop i s) t (omega (arith, length-drop i s))

@@ -9,7 +9,7 @@ use Rattle.protocol.specs.Numbers.{badPacket, unknownCommand, passwordFi
 use Rattle.protocol.specs.Bytes.{lay}
 use Rattle.protocol.specs.Finder.{findOf, usedOf}
 use Rattle.protocol.specs.Reader.{Transfer, closed, opened, unfit, Plain, Guarded, Reader, capacity, keyed, locked, withMark, withTransfer, reader, emptied}
-use Rattle.protocol.specs.Commands.{verifyPassword, handShake, free, barred, damaged, unknown, misfit, command}
+use Rattle.protocol.specs.Commands.{readSysPara, verifyPassword, handShake, free, barred, damaged, unknown, misfit, command}
 use Rattle.protocol.specs.Data.{acknowledge}
 use Rattle.protocol.specs.Search.{Chip}
 use Rattle.protocol.specs.Table.{rule, Public, freeRule, publicOf}
@@ -20,6 +20,10 @@ use Rattle.protocol.proofs.Laws.Answers.{call-legal, call-unfit, call-s
 use Rattle.protocol.proofs.Laws.Legal.{fit-closed}
 
 -- ---- by what is public
+
+-- of a locked reader of c pages: status bit 1 does not show
+abbrev pub veiled : Plain → ℕ → Public
+veiled p c = record { plain = p; capacity = c; shown = false }
 
 unfoldable pub tells : Public → Heard → List ℕ
 tells v nothing = []
@@ -62,13 +66,21 @@ pub rested-still : (r : Reader) → r .plain .transfer ≡ closed → rested r �
 unfolding rested ended
 rested-still r z = ap (ended r) z
 
-shut-answer : (χ : Chip) (r : Reader) → Shut (r .plain) → (h : Heard) → answer χ r h ≡ record { reply = tells (publicOf r) h; after = reader (turns (publicOf r) h) (r .guarded) }
+-- what is public of it
+pub veils : (r : Reader) → Shut (r .plain) → publicOf r ≡ veiled (r .plain) (capacity (r .guarded))
+unfolding publicOf locked
+veils r k = let a = k .locks in let b = k .unverified in cc
+
+shut-answer : (χ : Chip) (r : Reader) → Shut (r .plain) → (h : Heard)
+    → answer χ r h ≡ record { reply = tells (veiled (r .plain) (capacity (r .guarded))) h; after = reader (turns (veiled (r .plain) (capacity (r .guarded))) h) (r .guarded) }
 unfolding answer heed obey silence says carryFree takeIn tells turns publicOf
 shut-answer χ r k nothing = refl
 shut-answer χ r k (order damaged) = ap (λ (x : Reader). heed χ x damaged) (rested-still r (k .still))
 shut-answer χ r k (order unknown) = ap (λ (x : Reader). heed χ x unknown) (rested-still r (k .still))
 shut-answer χ r k (order misfit) = ap (λ (x : Reader). heed χ x misfit) (rested-still r (k .still))
-shut-answer χ r k (order (command (free c))) = ap (λ (x : Reader). heed χ x (command (free c))) (rested-still r (k .still))
+shut-answer χ r k (order (command (free c))) =
+    ap (λ (x : Reader). heed χ x (command (free c))) (rested-still r (k .still))
+    ∙ ap (λ (v : Public). carryFree r (freeRule v c)) (veils r k)
 shut-answer χ r k (order (command (barred c))) =
     ap (λ (x : Reader). heed χ x (command (barred c))) (rested-still r (k .still)) ∙ ap (λ (b : Bool). cond b (says r passwordFirst) (carry r (rule χ r c))) (k .locks)
 shut-answer χ r k (piece last right content) = ap (takeIn r last right content) (k .still)
@@ -93,17 +105,20 @@ shut-of σ r f l =
 pub locked-call : (σ : Shape) (r : Reader) → T (legal σ r) → T (locked (r .plain)) → (s : List ℕ) (lent : Lent)
     → callOf σ r s lent
     ≡ record {
-      told = toldBy (publicOf r) s (fitChip (capacity (r .guarded)) (lent .chip)) (lent .room);
-      after = reader (plainBy (publicOf r) s (fitChip (capacity (r .guarded)) (lent .chip)) (lent .room)) (r .guarded);
+      told = toldBy (veiled (r .plain) (capacity (r .guarded))) s (fitChip (capacity (r .guarded)) (lent .chip)) (lent .room);
+      after = reader (plainBy (veiled (r .plain) (capacity (r .guarded))) s (fitChip (capacity (r .guarded)) (lent .chip)) (lent .room)) (r .guarded);
     }
-unfolding toldBy plainBy carried refused stepOf publicOf
+unfolding toldBy plainBy carried refused stepOf
 locked-call σ r f l s lent = go (fitChip (capacity (r .guarded)) (lent .chip)) (fitRoom (lent .room)) refl refl
   where
+    v : Public
+    v = veiled (r .plain) (capacity (r .guarded))
+
     out : Said → Ended
     out a = carried record { used = usedOf (findOf s); reply = a .reply; after = a .after } (lent .room)
 
     go : (a b : Bool) → fitChip (capacity (r .guarded)) (lent .chip) ≡ a → fitRoom (lent .room) ≡ b
-        → callOf σ r s lent ≡ record { told = toldBy (publicOf r) s a (lent .room); after = reader (plainBy (publicOf r) s a (lent .room)) (r .guarded) }
+        → callOf σ r s lent ≡ record { told = toldBy v s a (lent .room); after = reader (plainBy v s a (lent .room)) (r .guarded) }
     go true true d e = rw e (call-legal σ r s lent f (rw (d, e) tt) ∙ ap out (shut-answer (lent .chip) r (shut-of σ r f l) (hear (r .plain .address) s)))
     go true false d e = rw e (call-short σ r s lent f (rw d tt) e)
     go false b d e = call-unfit σ r s lent f d
@@ -115,6 +130,7 @@ turns-or v e nothing z = refl
 turns-or v e (order damaged) z = refl
 turns-or v e (order unknown) z = refl
 turns-or v e (order misfit) z = refl
+turns-or v e (order (command (free readSysPara))) z = cc
 turns-or v e (order (command (free (verifyPassword w)))) z = ap (λ (b : Bool). withMark b (v .plain)) (z ∙ sym e)
 turns-or v e (order (command (free handShake))) z = refl
 turns-or v e (order (command (barred c))) z = refl

@@ -17,7 +17,7 @@ use Rattle.protocol.specs.Index.{bit, stored, setBits, bits, setBit, cle
 use Rattle.protocol.specs.BringOver.{bringOver}
 use Rattle.protocol.specs.Reader.{Transfer, closed, opened, unfit, Plain, Guarded, Reader, capacity, bufferOf, locked, withLibrary, withBuffer, withoutPages, withNotepad, contents, reader, withFound}
 use Rattle.protocol.specs.Search.{Chip, eligible, searchOf}
-use Rattle.protocol.specs.Commands.{readIndexTable, barred, command, Barred, searchFor, store, loadChar, upChar, downChar, deletChar, empty, setSysPara, readSysPara, setPassword, setAddress, writeNotepad, readNotepad, templeteNum, Command, free, Order, damaged, unknown, misfit}
+use Rattle.protocol.specs.Commands.{readIndexTable, barred, command, Barred, searchFor, store, loadChar, upChar, downChar, deletChar, empty, setSysPara, setPassword, setAddress, writeNotepad, readNotepad, templeteNum, Command, free, Order, damaged, unknown, misfit}
 use Rattle.protocol.specs.Table.{Effect, keep, fillPage, erase, eraseAll, fillBuffer, await, note, remember, settle, apply, Row, rule, publicOf}
 use Rattle.protocol.specs.Step.{order, hear, stepOf, wiped, switched, Heard, nothing, piece, Said, silence, says, carryAs, carry, carryFree, obey, heed, ended, rested, fits, takeAs, takeIn, answer}
 use Rattle.protocol.specs.Call.{Shape, core, fitBuffers, fitTransfer, legal, Typed, Ended, refused, carried, replyOf, callOf, switchRefusal, switchAs, switchOf, fitChip, fitRoom}
@@ -134,7 +134,6 @@ module _ (n : ℕ) (χ : Chip) where
   rule-longer r (deletChar p m) d = refl
   rule-longer r empty d = refl
   rule-longer r (setSysPara k v) d = refl
-  rule-longer r readSysPara d = refl
   rule-longer r (setPassword w) d = refl
   rule-longer r (setAddress a) d = refl
   rule-longer r (writeNotepad p b) d = refl
@@ -162,7 +161,6 @@ module _ (n : ℕ) (χ : Chip) where
         inside (deletChar p m) v = tt
         inside empty v = tt
         inside (setSysPara k u) v = tt
-        inside readSysPara v = tt
         inside (searchFor b p m) v = tt
         inside (setPassword w) v = tt
         inside (setAddress a) v = tt

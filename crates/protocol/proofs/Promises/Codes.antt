@@ -5,19 +5,17 @@ use mathlib.Core.Bool.{true}
 use mathlib.Core.Path.{_≡_, refl, sym, ap, _∙_}
 use mathlib.Core.Logic.{_≢_}
 use mathlib.Core.List.{List, [], _∷_, map}
-use Prim.Native.Nat.{ℕ, _+_, _-_}
-use native.Mathlib.Omega.{arith}
+use Prim.Native.Nat.{ℕ, _+_}
 use lib.Dec.{T}
 use borrow.Author.Tests.{ne-eqb}
-use lib.ListN.{getD, drop}
-use lib.Seq.{getD-take, getD-drop}
+use lib.ListN.{getD}
 use Rattle.protocol.specs.Packet.{contentAt, rightAt}
 use Rattle.protocol.specs.Reader.{Reader, capacity}
 use Rattle.protocol.specs.Commands.{Entry, commands, Known, none, some, rowOf}
 use Rattle.protocol.specs.Step.{rested}
 use Rattle.protocol.specs.Call.{Shape, Lent, fitLent, legal, callOf}
 use Rattle.protocol.proofs.Promises.Told.{Says}
-use Rattle.protocol.proofs.Promises.Finding.{WholeAt, whole-at, content-long}
+use Rattle.protocol.proofs.Promises.Finding.{WholeAt, whole-at, content-long, first-content}
 use Rattle.protocol.proofs.Promises.Order.{Ordered, unknown-next, misfit-next}
 
 -- the seventeen codes, each with its length field
@@ -73,9 +71,7 @@ module _ (σ : Shape) (r : Reader) (s : List ℕ) (lent : Lent) (f : T (legal σ
 
   -- the code is the first byte of the content
   code-at : getD (contentAt s p n) 0 0 ≡ getD s (p + 9) 0
-  code-at =
-      let e : p + 9 + 0 ≡ p + 9 = omega arith in
-      getD-take (n - 2) (drop (p + 9) s) 0 0 (omega (arith, whole .accepted .least)) ∙ getD-drop (p + 9) s 0 0 ∙ ap (λ (i : ℕ). getD s i 0) e
+  code-at = first-content s p n whole
 
   -- every other code is unknown: 19h
   pub unknown-code : Absent (getD s (p + 9) 0) table → Says (rested r) 0x19 s lent (callOf σ r s lent)

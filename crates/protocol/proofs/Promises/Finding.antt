@@ -10,6 +10,7 @@ use native.Mathlib.Omega.{arith}
 use lib.Dec.{T, eqb, ltb, eqb→eq}
 use borrow.Author.Tests.{ltb-true, ltb-false, eqb-true, eqb-false, lt-ltb, le-ltb, eq-eqb, ne-eqb}
 use lib.ListN.{length, getD, take, drop, length-take, length-drop}
+use lib.Seq.{getD-take, getD-drop}
 use Rattle.protocol.specs.declared.Start.{Start}
 use Rattle.protocol.specs.declared.Start.the-variants.{Nowhere, At}
 use Rattle.protocol.specs.declared.Found.{Found}
@@ -176,6 +177,11 @@ module _ (s : List ℕ) (p n : ℕ) (w : WholeAt s p n) where
   -- "Length counts content and sum."
   pub content-long : length (contentOf s p n) + 2 ≡ n
   content-long = simp (length-take, length-drop) (omega (arith, w .inside, w .accepted .least))
+
+  pub first-content : getD (contentOf s p n) 0 0 ≡ getD s (p + 9) 0
+  first-content =
+      let e : p + 9 + 0 ≡ p + 9 = omega arith in
+      getD-take (n - 2) (drop (p + 9) s) 0 0 (omega (arith, w .accepted .least)) ∙ getD-drop (p + 9) s 0 0 ∙ ap (λ (i : ℕ). getD s i 0) e
 
   -- "The sum is identifier, both length bytes and every content byte added, modulo 65536"; it stands behind the content
   pub right-means : ((i : ℕ) → getD s i 0 < 256)

@@ -9,16 +9,16 @@ use lib.Dec.{T}
 use Rattle.protocol.specs.Numbers.{done, wrongPassword}
 use Rattle.protocol.specs.Bytes.{same}
 use Rattle.protocol.specs.Reader.{Plain, Guarded, Reader, keyed, locked, withMark, reader, capacity}
-use Rattle.protocol.specs.Commands.{verifyPassword, handShake, free, barred, damaged, unknown, misfit, command}
+use Rattle.protocol.specs.Commands.{readSysPara, verifyPassword, handShake, free, barred, damaged, unknown, misfit, command}
 use Rattle.protocol.specs.Data.{acknowledge}
-use Rattle.protocol.specs.Table.{freeRule, publicOf}
+use Rattle.protocol.specs.Table.{Public, freeRule, publicOf}
 use Rattle.protocol.specs.Step.{Heard, nothing, order, piece, hear, carryFree, obey, heed, rested, answer, wiped}
 use Rattle.protocol.specs.Call.{Shape, Lent, fitLent, legal, Told, Ended, replyOf, callOf, switchOf, fitChip, fitRoom}
 use Rattle.protocol.specs.Dialogue.{Event, received, switch, on, Dialogue, over, first, dialogue, kept}
 use Rattle.protocol.proofs.Laws.Logic.{T→true, and-l, and-i}
 use Rattle.protocol.proofs.Laws.Lists.{take-lay, same-eq, same-refl, same-no}
 use Rattle.protocol.proofs.Promises.Told.{Gives, answered}
-use Rattle.protocol.proofs.Laws.Locked.{tells, turns, toldBy, plainBy, shut-of, locked-call, plain-or, locked-switch, wiped-legal}
+use Rattle.protocol.proofs.Laws.Locked.{veiled, tells, turns, toldBy, plainBy, shut-of, locked-call, plain-or, locked-switch, wiped-legal}
 
 -- ---- VfyPwd and HandShake, locked or not
 
@@ -48,7 +48,7 @@ module _ (σ : Shape) (r : Reader) (s : List ℕ) (lent : Lent) (f : T (legal σ
   pub right-password : (w : List ℕ) → hear (r .plain .address) s ≡ order (command (free (verifyPassword w))) → w ≡ p .password → Marks 0x00 true
   right-password w h e = verified w h true (ap (λ (x : List ℕ). same x (p .password)) e ∙ same-refl (p .password))
 
-  -- same-nos: 13h, the mark cleared
+  -- not equal: 13h, the mark cleared
   pub wrong-password : (w : List ℕ) → hear (r .plain .address) s ≡ order (command (free (verifyPassword w))) → w ≢ p .password → Marks 0x13 false
   wrong-password w h d = verified w h false (same-no w (p .password) d)
 
@@ -64,7 +64,7 @@ pub record Accepted (r : Reader) (s : List ℕ) (e : Ended) : Type 0 where
   pub asked : hear (r .plain .address) s ≡ order (command (free (verifyPassword (r .plain .password))))
   pub reply : replyOf (e .told) ≡ acknowledge (r .plain .address) 0x00 []
 
-keyed-locked : (p : Plain) → T (locked p) → T (keyed p)
+pub keyed-locked : (p : Plain) → T (locked p) → T (keyed p)
 unfolding locked
 keyed-locked p l = search (and-l)
 
@@ -74,7 +74,7 @@ unfolding locked keyed withMark
 opening p true k e = refl
 opening p false k e = absurd (true≢false (sym (T→true (keyed p && true) (and-i (keyed p) true k tt)) ∙ e))
 
-unlocked-marked : (p : Plain) → p .verified ≡ true → locked p ≡ false
+pub unlocked-marked : (p : Plain) → p .verified ≡ true → locked p ≡ false
 unfolding locked keyed
 unlocked-marked p e = rw e (go (keyed p))
   where
@@ -83,17 +83,21 @@ unlocked-marked p e = rw e (go (keyed p))
     go false = refl
 
 module _ (σ : Shape) (r : Reader) (f : T (legal σ r)) (l : T (locked (r .plain))) (s : List ℕ) (lent : Lent) where
+  abbrev v : Public
+  v = veiled (r .plain) (capacity (r .guarded))
+
   -- the settings as they were do not open
   shut : {A : Type 0} → locked (r .plain) ≡ false → A
   shut e = absurd (true≢false (sym (T→true (locked (r .plain)) l) ∙ e))
 
-  heard-right : (h : Heard) → locked (turns (publicOf r) h) ≡ false
-      → (h ≡ order (command (free (verifyPassword (r .plain .password))))) × (tells (publicOf r) h ≡ acknowledge (r .plain .address) done [])
-  unfolding turns tells freeRule publicOf withMark
+  heard-right : (h : Heard) → locked (turns v h) ≡ false
+      → (h ≡ order (command (free (verifyPassword (r .plain .password))))) × (tells v h ≡ acknowledge (r .plain .address) done [])
+  unfolding turns tells freeRule withMark
   heard-right nothing e = shut e
   heard-right (order damaged) e = shut e
   heard-right (order unknown) e = shut e
   heard-right (order misfit) e = shut e
+  heard-right (order (command (free readSysPara))) e = shut e
   heard-right (order (command (free (verifyPassword w)))) e =
       let b : same w (r .plain .password) ≡ true = opening (r .plain) (same w (r .plain .password)) (keyed-locked (r .plain) l) e in
       (ap (λ (x : List ℕ). order (command (free (verifyPassword x)))) (same-eq w (r .plain .password) b), ap (λ (x : Bool). acknowledge (r .plain .address) (cond x done wrongPassword) []) b)
@@ -102,16 +106,16 @@ module _ (σ : Shape) (r : Reader) (f : T (legal σ r)) (l : T (locked (r .plain
   heard-right (piece last right content) e = shut e
 
   pub opens-only : locked (callOf σ r s lent .after .plain) ≡ false → Accepted r s (callOf σ r s lent)
-  unfolding plainBy toldBy replyOf publicOf
+  unfolding plainBy toldBy replyOf
   opens-only = rw (locked-call σ r f l s lent) (go (fitChip (capacity (r .guarded)) (lent .chip)) (fitRoom (lent .room)) refl)
     where
-      go : (a b : Bool) → fitRoom (lent .room) ≡ b → locked (plainBy (publicOf r) s a (lent .room)) ≡ false
-          → Accepted r s record { told = toldBy (publicOf r) s a (lent .room); after = reader (plainBy (publicOf r) s a (lent .room)) (r .guarded) }
+      go : (a b : Bool) → fitRoom (lent .room) ≡ b → locked (plainBy v s a (lent .room)) ≡ false
+          → Accepted r s record { told = toldBy v s a (lent .room); after = reader (plainBy v s a (lent .room)) (r .guarded) }
       go true true q =
           rw q
           (λ e.
           let h = heard-right (hear (r .plain .address) s) e in
-          record { asked = h .0; reply = take-lay (tells (publicOf r) (hear (r .plain .address) s)) (lent .room) ∙ h .1 })
+          record { asked = h .0; reply = take-lay (tells v (hear (r .plain .address) s)) (lent .room) ∙ h .1 })
       go true false q = rw q (λ e. shut e)
       go false b q = λ e. shut e
 
@@ -129,21 +133,24 @@ pub data Course (σ : Shape) (p : Plain) (g : Guarded) (es : List Event) (d : Di
 
 module _ (σ : Shape) (p : Plain) (l : T (locked p)) where
   pub course : (es : List Event) (g : Guarded) → T (legal σ (reader p g)) → Course σ p g es (dialogue σ (reader p g) es)
-  unfolding dialogue on over first kept publicOf
+  unfolding dialogue on over first kept
   course [] g f = through refl refl
   course (received s lent ∷ es) g f = go (q .verified) refl (course es g f)
     where
       fit : Bool
       fit = fitChip (capacity g) (lent .chip)
 
-      q : Plain
-      q = plainBy (publicOf (reader p g)) s fit (lent .room)
+      w : Public
+      w = veiled p (capacity g)
 
-      e : callOf σ (reader p g) s lent ≡ record { told = toldBy (publicOf (reader p g)) s fit (lent .room); after = reader q g }
+      q : Plain
+      q = plainBy w s fit (lent .room)
+
+      e : callOf σ (reader p g) s lent ≡ record { told = toldBy w s fit (lent .room); after = reader q g }
       e = locked-call σ (reader p g) f l s lent
 
       d : Bool → Plain → Dialogue
-      d b x = first (received s lent) (toldBy (publicOf (reader p g)) s fit (lent .room)) (cond b (over (reader x g)) (dialogue σ (reader x g) es))
+      d b x = first (received s lent) (toldBy w s fit (lent .room)) (cond b (over (reader x g)) (dialogue σ (reader x g) es))
 
       on-with : Course σ p g es (dialogue σ (reader p g) es) → Course σ p g (received s lent ∷ es) (d false p)
       on-with (through a b) = through (ap (λ (x : List Event). received s lent ∷ x) a) b
@@ -154,7 +161,7 @@ module _ (σ : Shape) (p : Plain) (l : T (locked p)) where
       go true v i =
           stops [] s lent es refl (rw (e, v) refl) (opens-only σ (reader p g) f l s lent (ap (λ (x : Ended). locked (x .after .plain)) e ∙ unlocked-marked q v))
       go false v i =
-          let same-plain : q ≡ p = plain-or (publicOf (reader p g)) (shut-of σ (reader p g) f l .unverified) s fit (lent .room) v in
+          let same-plain : q ≡ p = plain-or w (shut-of σ (reader p g) f l .unverified) s fit (lent .room) v in
           let here : dialogue σ (reader p g) (received s lent ∷ es) ≡ d (q .verified) q = ap (λ (x : Ended). first (received s lent) (x .told) (cond (x .after .plain .verified) (over (x .after)) (dialogue σ (x .after) es))) e in
           subst (Course σ p g (received s lent ∷ es)) (sym (here ∙ ap (λ (b : Bool). d b q) v ∙ ap (d false) same-plain)) (on-with i)
   course (switch ∷ es) g f = subst (Course σ p g (switch ∷ es)) (sym (here ∙ ap d (shut-of σ (reader p g) f l .unverified))) (on-with (course es (wiped g) (wiped-legal σ (reader p g) f l)))

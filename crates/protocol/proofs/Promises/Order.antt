@@ -1,8 +1,9 @@
 -- Document 01: "Order: unknown code 19h; wrong length 01h; locked and not 13h or 40h gives 21h; then the row's tests, left to right. A code
--- other than 00h changes nothing more, save that a wrong password clears the mark." A wrong sum comes before all of them, whether the reader is
--- locked or not. The row's tests are in Rows, the wrong password in Opens, and Search's 09h, request [8]'s exception, in Searches. Stated over the bytes of a whole packet for this reader with identifier 1.
+-- other than 00h changes nothing more, save that a wrong password clears the mark." Request [13]: "Document 01's order changes in one place: 0Fh joins 13h and 40h
+-- before the lock." A wrong sum comes before all of them, whether the reader is locked or not. The row's tests are in Rows, the wrong password in Opens, what 0Fh
+-- answers in Fitter, and Search's 09h, request [8]'s exception, in Searches. Stated over the bytes of a whole packet for this reader with identifier 1.
 use mathlib.Core.Bool.{Bool, true, false, cond}
-use mathlib.Core.Path.{_≡_, refl, ap, _∙_}
+use mathlib.Core.Path.{_≡_, refl, sym, ap, _∙_, subst}
 use mathlib.Core.Logic.{_≢_}
 use mathlib.Core.List.{List}
 use Prim.Native.Nat.{ℕ, _+_}
@@ -18,6 +19,7 @@ use Rattle.protocol.specs.Commands.{Barred, barred, Entry, commands, non
 use Rattle.protocol.specs.Table.{rule}
 use Rattle.protocol.specs.Step.{order, hearAs, hearAt, hear, says, carry, obey, heed, rested, answer}
 use Rattle.protocol.specs.Call.{Shape, Lent, fitLent, legal, callOf}
+use Rattle.protocol.proofs.Laws.Commands.{At, row-law, own-code, BarredRow, barred-rows}
 use Rattle.protocol.proofs.Laws.Finder.{heard-at}
 use Rattle.protocol.proofs.Laws.Answers.{spared}
 use Rattle.protocol.proofs.Promises.Told.{Says, answered}
@@ -61,12 +63,17 @@ module _ (σ : Shape) (r : Reader) (s : List ℕ) (lent : Lent) (f : T (legal σ
       unfolding orderOf orderAs heed
       misfit-next d = said misfit 0x01 (rw (right, row, ne-eqb (e .len) (lengthOf content) d) refl) refl
 
-      module _ (fit : e .len ≡ length content + 2) (c : Barred) (is : e .read content ≡ barred c) where
-        ordered : orderOf (rightAt s p n) content ≡ command (barred c)
-        unfolding orderOf orderAs
-        ordered = rw (right, row, eq-eqb (e .len) (lengthOf content) fit, is) refl
+      module _ (fit : e .len ≡ length content + 2) where
+        bars : (c : Barred) → e .read content ≡ barred c → locked (r .plain) ≡ true → Tells 0x21
+        unfolding orderOf orderAs heed obey
+        bars c is l =
+            said (command (barred c)) 0x21 (rw (right, row, eq-eqb (e .len) (lengthOf content) fit, is) refl)
+            (ap (λ (b : Bool). cond b (says (rested r) 0x21) (carry (rested r) (rule (lent .chip) (rested r) c))) (spared r .lock ∙ l))
 
-        -- the reader is locked: 21h
-        pub locked-next : locked (r .plain) ≡ true → Tells 0x21
-        unfolding heed obey
-        locked-next l = said (command (barred c)) 0x21 ordered (ap (λ (b : Bool). cond b (says (rested r) 0x21) (carry (rested r) (rule (lent .chip) (rested r) c))) (spared r .lock ∙ l))
+        -- the reader is locked, and the code is not 0Fh, 13h or 40h: 21h
+        pub locked-next : byteAt content 0 ≢ 0x0f → byteAt content 0 ≢ 0x13 → byteAt content 0 ≢ 0x40 → locked (r .plain) ≡ true → Tells 0x21
+        locked-next a b d l =
+            let own : e .code ≡ byteAt content 0 = subst (At (λ x. x .code ≡ byteAt content 0)) row (own-code commands (byteAt content 0)) in
+            let shut : BarredRow e = subst (At BarredRow) row (row-law BarredRow commands barred-rows (byteAt content 0)) in
+            let c = shut (λ q. a (sym own ∙ q)) (λ q. b (sym own ∙ q)) (λ q. d (sym own ∙ q)) content in
+            bars (c .0) (c .1) l

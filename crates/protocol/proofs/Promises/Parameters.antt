@@ -1,16 +1,20 @@
 -- Which bytes a command is read from: its code, then its parameters, page, N, start and count two bytes each high byte first, other parameters one byte,
 -- passwords and addresses four. Any other length is a misfit.
-use mathlib.Core.Bool.{true}
-use mathlib.Core.Path.{_≡_, refl, ap, _∙_}
+use mathlib.Core.Bool.{Bool, true}
+use mathlib.Core.Path.{_≡_, refl, sym, ap, _∙_, subst}
 use mathlib.Core.List.{List, [], _∷_}
 use Prim.Native.Nat.{ℕ, _+_, _*_}
+use native.Mathlib.Omega.{arith}
 use lib.Dec.{T}
-use lib.ListN.{length}
+use lib.ListN.{length, getD, take, drop, length-take, length-drop}
 use Rattle.protocol.specs.Numbers.{fourBytes, commandPacket}
-use Rattle.protocol.specs.Bytes.{wordAt}
-use Rattle.protocol.specs.Packet.{packet, lengthOf, accepts}
-use Rattle.protocol.specs.Commands.{verifyPassword, handShake, searchFor, store, loadChar, upChar, downChar, deletChar, empty, setSysPara, readSysPara, setPassword, setAddress, writeNotepad, readNotepad, templeteNum, readIndexTable, Command, free, barred, commands, rowOf, command, orderAs, orderOf}
-use Rattle.protocol.specs.Step.{order, hearAs, hear}
+use Rattle.protocol.specs.Bytes.{byteAt, wordAt}
+use Rattle.protocol.specs.Packet.{packet, lengthOf, accepts, rightAt}
+use Rattle.protocol.specs.Commands.{readSysPara, verifyPassword, handShake, searchFor, store, loadChar, upChar, downChar, deletChar, empty, setSysPara, setPassword, setAddress, writeNotepad, readNotepad, templeteNum, readIndexTable, Command, free, barred, Entry, commands, rowOf, command, orderAs, orderOf}
+use Rattle.protocol.specs.Step.{Heard, order, hearAs, hear}
+use Rattle.protocol.proofs.Laws.Lists.{from}
+use Rattle.protocol.proofs.Laws.Commands.{Each, At, row-law, own-code, Fits, order-fits}
+use Rattle.protocol.proofs.Promises.Finding.{WholeAt, contentOf, content-long, first-content, Hears, no-packet, another, answered, ordered, more, last, heard, hears}
 use Rattle.protocol.proofs.Promises.Download.{heard-packet}
 
 -- the content is a right packet's, and reads as this command
@@ -26,7 +30,7 @@ pub record Parameters : Type 0 where
   pub delete-read : (h l m n : ℕ) → Reads (0x0c ∷ h ∷ l ∷ m ∷ n ∷ []) (barred (deletChar (h * 256 + l) (m * 256 + n)))
   pub empty-read : Reads (0x0d ∷ []) (barred empty)
   pub set-read : (k v : ℕ) → Reads (0x0e ∷ k ∷ v ∷ []) (barred (setSysPara k v))
-  pub parameters-read : Reads (0x0f ∷ []) (barred readSysPara)
+  pub parameters-read : Reads (0x0f ∷ []) (free readSysPara)
   pub password-read : (w x y z : ℕ) → Reads (0x12 ∷ w ∷ x ∷ y ∷ z ∷ []) (barred (setPassword (w ∷ x ∷ y ∷ z ∷ [])))
   pub verify-read : (w x y z : ℕ) → Reads (0x13 ∷ w ∷ x ∷ y ∷ z ∷ []) (free (verifyPassword (w ∷ x ∷ y ∷ z ∷ [])))
   pub address-read : (w x y z : ℕ) → Reads (0x15 ∷ w ∷ x ∷ y ∷ z ∷ []) (barred (setAddress (w ∷ x ∷ y ∷ z ∷ [])))
@@ -59,8 +63,72 @@ parameters =
       hand-read = refl;
     }
 
+-- and of ReadSysPara also the other way: nothing else is read as it
+abbrev Told : List ℕ → Entry → Type 0
+Told content e = e .read content ≡ free readSysPara → (e .code ≡ 0x0f) × (e .len ≡ 3)
+
+told-rows : (content : List ℕ) → Each (Told content) commands
+unfolding commands
+told-rows content =
+    (λ e. (cc, cc), (λ e. (cc, cc), (λ e. (cc, cc), (λ e. (cc, cc), (λ e. (cc, cc), (λ e. (cc, cc), (λ e. (cc, cc), (λ e. (cc, cc), (λ e. (refl, refl), (λ e. (cc, cc), (λ e. (cc, cc), (λ e. (cc, cc), (λ e. (cc, cc), (λ e. (cc, cc), (λ e. (cc, cc), (λ e. (cc, cc), (λ e. (cc, cc), tt)))))))))))))))))
+
+-- the sum is right, and the content is 0Fh alone
+pub only-parameters : (right : Bool) (content : List ℕ) → orderOf right content ≡ command (free readSysPara) → (right ≡ true) × (content ≡ 0x0f ∷ [])
+only-parameters right content q =
+    let f : Fits right content (free readSysPara) = order-fits right content (free readSysPara) q in
+    let own : f .entry .code ≡ byteAt content 0 = subst (At (λ e. e .code ≡ byteAt content 0)) (f .row) (own-code commands (byteAt content 0)) in
+    let told = subst (At (Told content)) (f .row) (row-law (Told content) commands (told-rows content) (byteAt content 0)) (f .read) in
+    (f .sum, single content (omega (arith, f .long, told .1)) (sym own ∙ told .0))
+  where
+    single : (c : List ℕ) → length c ≡ 1 → byteAt c 0 ≡ 0x0f → c ≡ 0x0f ∷ []
+    single [] l e = absurd (omega arith)
+    single (b ∷ []) l e = ap (λ (x : ℕ). x ∷ []) e
+    single (b ∷ a ∷ c) l e = absurd (omega arith)
+
 -- so a packet with identifier 1 and that content, for the reader of the address a, asks it for this command
 pub asked-by : (a content : List ℕ) (c : Command) → length a ≡ fourBytes → T (accepts commandPacket (lengthOf content)) → orderOf true content ≡ command c
     → hear a (packet a commandPacket content) ≡ order (command c)
 unfolding hearAs
 asked-by a content c h t e = heard-packet a commandPacket content h t ∙ ap order e
+
+-- ---- a run that asks for ReadSysPara
+
+-- the run asks the reader of the address a for ReadSysPara: its first packet is whole, with length field 3, that address, identifier 1, a right sum, and the code 0Fh
+pub record AsksParameters (a s : List ℕ) : Type 0 where
+  pub place : ℕ
+  pub whole : WholeAt s place 3
+  pub address : take 4 (drop (place + 2) s) ≡ a
+  pub identifier : getD s (place + 6) 0 ≡ 1
+  pub code : getD s (place + 9) 0 ≡ 0x0f
+  pub sum : rightAt s place 3 ≡ true
+
+pub asks-parameters : (a s : List ℕ) → hear a s ≡ order (command (free readSysPara)) → AsksParameters a s
+asks-parameters a s e = go (hear a s) (hears a s) e
+  where
+    go : (h : Heard) → Hears a s h → h ≡ order (command (free readSysPara)) → AsksParameters a s
+    go h (no-packet d) q = let z : _≡_ {A = ℕ} 0 1 = cc in absurd (omega arith)
+    go h (another w d) q = let z : _≡_ {A = ℕ} 0 1 = cc in absurd (omega arith)
+    go h (answered w i) q = let z : _≡_ {A = ℕ} 0 1 = cc in absurd (omega arith)
+    go h (more w b i) q = let z : _≡_ {A = ℕ} 0 1 = cc in absurd (omega arith)
+    go h (last w b i) q = let z : _≡_ {A = ℕ} 0 1 = cc in absurd (omega arith)
+    go h (ordered {p} {n} w b i) q =
+        let only = only-parameters (rightAt s p n) (contentOf s p n) cc in
+        let three : n ≡ 3 = sym (content-long s p n w) ∙ ap (λ (c : List ℕ). length c + 2) (only .1) in
+        record {
+          place = p;
+          whole = rw three at w;
+          address = b;
+          identifier = i;
+          code = sym (first-content s p n w) ∙ ap (λ (c : List ℕ). getD c 0 0) (only .1);
+          sum = rw three at (only .0);
+        }
+
+-- and such a run does
+pub parameters-asked : (a s : List ℕ) → AsksParameters a s → hear a s ≡ order (command (free readSysPara))
+parameters-asked a s k =
+    let content : contentOf s (k .place) 3 ≡ 0x0f ∷ [] = ap (take 1) (from s (k .place + 9) (omega (arith, k .whole .inside))) ∙ ap (λ (b : ℕ). b ∷ []) (k .code) in
+    heard (ordered (k .whole) (k .address) (k .identifier)) ∙ rw (k .sum, content) (ap order (parameters .parameters-read))
+
+-- its reader's address has four bytes
+pub four-bytes : {a s : List ℕ} → AsksParameters a s → length a ≡ 4
+four-bytes {a} {s} k = ap length (sym (k .address)) ∙ simp (length-take, length-drop) (omega (arith, k .whole .inside))

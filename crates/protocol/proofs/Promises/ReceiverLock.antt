@@ -11,26 +11,27 @@ use lib.ListN.{length, take, drop}
 use Rattle.protocol.specs.declared.Receiver.{Receiver}
 use Rattle.protocol.specs.Numbers.{holds, badLength, badRoom}
 use Rattle.protocol.specs.Reader.{closed, Plain, Guarded, Reader, capacity, keyed, locked, withMark, reader}
-use Rattle.protocol.specs.Table.{Public, publicOf}
+use Rattle.protocol.specs.Table.{Public}
 use Rattle.protocol.specs.Step.{wiped}
 use Rattle.protocol.specs.Call.{Shape, Lent, legal, Told, Ended, replyOf, refused, refusalOf, callOf, switchOf, fitChip, fitRoom}
 use Rattle.protocol.specs.Dialogue.{Event, received, switch, kept, Paired}
 use Rattle.protocol.specs.Receiver.{bytesIn, holding, Line, line, Handed, fitting, runOf, handed, declined, receiveOf, lineSwitchOf}
 use Rattle.protocol.specs.Caller.{onLine, Talk, endsAt, begins, talk}
-use Rattle.protocol.proofs.Laws.Locked.{toldBy, plainBy, shut-of, locked-call, plain-or, locked-switch, wiped-legal}
+use Rattle.protocol.proofs.Laws.Locked.{veiled, toldBy, plainBy, shut-of, locked-call, plain-or, locked-switch, wiped-legal}
 use Rattle.protocol.proofs.Laws.Holding.{handedBy, overfull, receive-call, receive-over, refusal-legal, switch-tells, switch-kinds}
-use Rattle.protocol.proofs.Promises.Lock.{mark, Bars, Alike, FirstHalf, marked-legal, first-half}
+use Rattle.protocol.proofs.Promises.Lock.{mark, Bars, ButStatus, Alike, FirstHalf, marked-legal, first-half}
+use Rattle.protocol.proofs.Promises.Parameters.{AsksParameters}
 use Rattle.protocol.proofs.Promises.Receiver.{bare}
 
 -- ---- the first half
 
--- the locked receiver's call l beside its verified copy's u: as of a call, and the held bytes end alike
-pub record ReceiverHalf (r : Reader) (lent : Lent) (l u : Handed) : Type 0 where
-  pub half : FirstHalf r lent (bare l) (bare u)
+-- the locked receiver's call l beside its verified copy's u, s being the run on which document 01's call is done: as of a call, and the held bytes end alike
+pub record ReceiverHalf (r : Reader) (s : List ℕ) (lent : Lent) (l u : Handed) : Type 0 where
+  pub half : FirstHalf r s lent (bare l) (bare u)
   pub receiver : l .after .receiver ≡ u .after .receiver
 
 module _ (r : Reader) (h : Receiver) (piece : List ℕ) (lent : Lent) where
-  half-by : (x y : Reader) (l u : Ended) → FirstHalf r lent l u → (k : ℕ) → ReceiverHalf r lent (handedBy (line x h) piece l k) (handedBy (line y h) piece u k)
+  half-by : (x y : Reader) (l u : Ended) → FirstHalf r (runOf h piece) lent l u → (k : ℕ) → ReceiverHalf r (runOf h piece) lent (handedBy (line x h) piece l k) (handedBy (line y h) piece u k)
   unfolding handed replyOf
   half-by x y l u f zero =
       record {
@@ -41,17 +42,19 @@ module _ (r : Reader) (h : Receiver) (piece : List ℕ) (lent : Lent) where
       went : Ended → Ended
       went e = record { told = record { refusal = 0; used = length (fitting h piece); length = e .told .length; room = e .told .room }; after = e .after }
 
-      go : Bars r lent l ⊎ Alike l u → Bars r lent (went l) ⊎ Alike (went l) (went u)
+      same : (l .told ≡ u .told) ⊎ (AsksParameters (r .plain .address) (runOf h piece) × ButStatus (l .told) (u .told))
+          → (went l .told ≡ went u .told) ⊎ (AsksParameters (r .plain .address) (runOf h piece) × ButStatus (went l .told) (went u .told))
+      same (inl e) = inl (ap (λ (t : Told). record { refusal = 0; used = length (fitting h piece); length = t .length; room = t .room }) e)
+      same (inr (asks, b)) =
+          inr (asks, record { long-one = b .long-one; long-other = b .long-other; wide = b .wide; bytes = b .bytes; bit-0 = b .bit-0; bits-3-to-7 = b .bits-3-to-7 })
+
+      go : Bars r lent l ⊎ Alike (r .plain .address) (runOf h piece) l u → Bars r lent (went l) ⊎ Alike (r .plain .address) (runOf h piece) (went l) (went u)
       go (inl b) = inl record { reply = b .reply; room = b .room; after = b .after }
-      go (inr a) =
-          inr record {
-            told = ap (λ (t : Told). record { refusal = 0; used = length (fitting h piece); length = t .length; room = t .room }) (a .told);
-            after = a .after;
-          }
+      go (inr a) = inr record { told = same (a .told); after = a .after }
   half-by x y l u f (suc k) = record { half = f; receiver = refl }
 
 module _ (σ : Shape) (r : Reader) (key : T (keyed (r .plain))) (z : r .plain .transfer ≡ closed) (f : T (legal σ r)) (h : Receiver) (piece : List ℕ) (lent : Lent) where
-  pub receiver-first-half : ReceiverHalf (mark false r) lent (receiveOf σ (line (mark false r) h) piece lent) (receiveOf σ (line (mark true r) h) piece lent)
+  pub receiver-first-half : ReceiverHalf (mark false r) (runOf h piece) lent (receiveOf σ (line (mark false r) h) piece lent) (receiveOf σ (line (mark true r) h) piece lent)
   unfolding refused withMark
   receiver-first-half = go (leb (h .count) holds) refl
     where
@@ -64,15 +67,15 @@ module _ (σ : Shape) (r : Reader) (key : T (keyed (r .plain))) (z : r .plain .t
       refusal : (b : Bool) → refusalOf σ (mark b r) lent ≡ cond (fitChip (capacity (r .guarded)) (lent .chip)) (cond (fitRoom (lent .room)) 0 badRoom) badLength
       refusal b = refusal-legal σ (mark b r) lent (marked-legal r key z σ b f)
 
-      go : (b : Bool) → leb (h .count) holds ≡ b → ReceiverHalf (mark false r) lent (receiveOf σ (x false) piece lent) (receiveOf σ (x true) piece lent)
+      go : (b : Bool) → leb (h .count) holds ≡ b → ReceiverHalf (mark false r) (runOf h piece) lent (receiveOf σ (x false) piece lent) (receiveOf σ (x true) piece lent)
       go true e =
-          let half : FirstHalf (mark false r) lent (call false) (call true) = first-half r key z σ f (runOf h piece) lent in
+          let half : FirstHalf (mark false r) (runOf h piece) lent (call false) (call true) = first-half r key z σ f (runOf h piece) lent in
           rw (receive-call σ (x false) piece lent e, receive-call σ (x true) piece lent e)
-          (subst (λ (k : ℕ). ReceiverHalf (mark false r) lent (handedBy (x false) piece (call false) (call false .told .refusal)) (handedBy (x true) piece (call true) k)) (half .refusal)
+          (subst (λ (k : ℕ). ReceiverHalf (mark false r) (runOf h piece) lent (handedBy (x false) piece (call false) (call false .told .refusal)) (handedBy (x true) piece (call true) k)) (half .refusal)
           (half-by (mark false r) h piece lent (mark false r) (mark true r) (call false) (call true) half (call false .told .refusal)))
       go false e =
           rw (receive-over σ (x false) piece lent e, receive-over σ (x true) piece lent e, refusal false, refusal true)
-          record { half = record { refusal = refl; used = refl; answers = inr record { told = refl; after = λ b. refl } }; receiver = refl }
+          record { half = record { refusal = refl; used = refl; answers = inr record { told = inl refl; after = λ b. refl } }; receiver = refl }
 
 -- ---- a locked receiver: what its caller gets back, its settings and its held bytes go by what is public alone; its guarded contents stay
 
@@ -104,12 +107,15 @@ showing : Shown → Guarded → Handed
 showing s g = record { told = s .told; after = line (reader (s .plain) g) (s .receiver) }
 
 locked-receive : (σ : Shape) (r : Reader) (h : Receiver) → T (legal σ r) → T (locked (r .plain)) → (piece : List ℕ) (lent : Lent)
-    → receiveOf σ (line r h) piece lent ≡ showing (shown (publicOf r) h piece (fitChip (capacity (r .guarded)) (lent .chip)) (lent .room)) (r .guarded)
-unfolding shown shownAs shownBy overShown showing handed refused publicOf
+    → receiveOf σ (line r h) piece lent ≡ showing (shown (veiled (r .plain) (capacity (r .guarded))) h piece (fitChip (capacity (r .guarded)) (lent .chip)) (lent .room)) (r .guarded)
+unfolding shown shownAs shownBy overShown showing handed refused
 locked-receive σ r h f l piece lent = go (leb (h .count) holds) refl
   where
     x : Line
     x = line r h
+
+    v : Public
+    v = veiled (r .plain) (capacity (r .guarded))
 
     fit : Bool
     fit = fitChip (capacity (r .guarded)) (lent .chip)
@@ -119,11 +125,11 @@ locked-receive σ r h f l piece lent = go (leb (h .count) holds) refl
     by t p zero = refl
     by t p (suc k) = refl
 
-    go : (b : Bool) → leb (h .count) holds ≡ b → receiveOf σ x piece lent ≡ showing (shown (publicOf r) h piece fit (lent .room)) (r .guarded)
+    go : (b : Bool) → leb (h .count) holds ≡ b → receiveOf σ x piece lent ≡ showing (shown v h piece fit (lent .room)) (r .guarded)
     go true e =
         let run : List ℕ = runOf h piece in
-        let t : Told = toldBy (publicOf r) run fit (lent .room) in
-        rw e (receive-call σ x piece lent e ∙ ap (λ (c : Ended). handedBy x piece c (c .told .refusal)) (locked-call σ r f l run lent) ∙ by t (plainBy (publicOf r) run fit (lent .room)) (t .refusal))
+        let t : Told = toldBy v run fit (lent .room) in
+        rw e (receive-call σ x piece lent e ∙ ap (λ (c : Ended). handedBy x piece c (c .told .refusal)) (locked-call σ r f l run lent) ∙ by t (plainBy v run fit (lent .room)) (t .refusal))
     go false e = rw e (receive-over σ x piece lent e ∙ ap (λ (k : ℕ). declined (overfull k) x (lent .room)) (refusal-legal σ r lent f))
 
 -- the settings stay, but for a right password
@@ -205,13 +211,13 @@ module _ (σ : Shape) (c : ℕ) (p : Plain) (l : T (locked p)) where
 
   -- what is public of both
   v : Public
-  v = record { plain = p; capacity = c }
+  v = veiled p c
 
   call-shows : (g : Guarded) → capacity g ≡ c → T (legal σ (reader p g)) → (h : Receiver) (piece : List ℕ) (lent : Lent)
       → receiveOf σ (line (reader p g) h) piece lent ≡ showing (shown v h piece (fitChip c (lent .chip)) (lent .room)) g
-  unfolding publicOf v
+  unfolding v
   call-shows g e f h piece lent =
-      locked-receive σ (reader p g) h f l piece lent ∙ ap (λ (n : ℕ). showing (shown record { plain = p; capacity = n } h piece (fitChip n (lent .chip)) (lent .room)) g) e
+      locked-receive σ (reader p g) h f l piece lent ∙ ap (λ (n : ℕ). showing (shown (veiled p n) h piece (fitChip n (lent .chip)) (lent .room)) g) e
 
   blind : (es fs : List Event) → Paired c es fs → (y z : Receiver) → SameHeld y z → (g h : Guarded) → capacity g ≡ c → capacity h ≡ c → T (legal σ (reader p g)) → T (legal σ (reader p h))
       → ReceiverBlind c g h (talk σ (line (reader p g) y) es) (talk σ (line (reader p h) z) fs)

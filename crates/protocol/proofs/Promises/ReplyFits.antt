@@ -10,9 +10,9 @@ use Rattle.protocol.specs.Numbers.{pageBytes, fourBytes, replyRoom, high
 use Rattle.protocol.specs.Bytes.{two, joined}
 use Rattle.protocol.specs.Reader.{Plain, Reader, capacity, sizeOf, locked, bufferOf, withMark}
 use Rattle.protocol.specs.Search.{Chip, matchBytes}
-use Rattle.protocol.specs.Commands.{Free, verifyPassword, handShake, Barred, searchFor, store, loadChar, upChar, downChar, deletChar, empty, setSysPara, readSysPara, setPassword, setAddress, writeNotepad, readNotepad, templeteNum, readIndexTable}
+use Rattle.protocol.specs.Commands.{Free, readSysPara, verifyPassword, handShake, Barred, searchFor, store, loadChar, upChar, downChar, deletChar, empty, setSysPara, setPassword, setAddress, writeNotepad, readNotepad, templeteNum, readIndexTable}
 use Rattle.protocol.specs.Data.{acknowledge, packets, dataPackets}
-use Rattle.protocol.specs.Table.{Row, rule, apply, second, Public, freeRule, publicOf}
+use Rattle.protocol.specs.Table.{Row, rule, apply, second, Public, parametersOf, freeRule, publicOf}
 use Rattle.protocol.specs.Step.{Heard, hear, Said, silence, says, carryAs, carryFree, rested, takeAs, answer, stepOf}
 use Rattle.protocol.specs.Call.{Shape, Lent, fitChip, fitRoom, fitPlain, Ended, refused, carried, callOf}
 use Rattle.protocol.proofs.Laws.Logic.{and-l, and-r, passed}
@@ -43,7 +43,6 @@ row-fits χ r a z b (downChar n) = omega arith
 row-fits χ r a z b (deletChar p n) = omega arith
 row-fits χ r a z b empty = omega arith
 row-fits χ r a z b (setSysPara k v) = omega arith
-row-fits χ r a z b readSysPara = simp length-append (omega arith)
 row-fits χ r a z b (setPassword w) = omega arith
 row-fits χ r a z b (setAddress w) = omega arith
 row-fits χ r a z b (writeNotepad p n) = omega arith
@@ -51,8 +50,13 @@ row-fits χ r a z b (readNotepad p) = simp length-take (omega arith)
 row-fits χ r a z b templeteNum = omega arith
 row-fits χ r a z b (readIndexTable p) = simp length-take (omega arith)
 
+sixteen : (v : Public) → length (v .plain .address) ≡ fourBytes → length (parametersOf v) ≡ 16
+unfolding parametersOf two joined
+sixteen v a = simp length-append (omega arith)
+
 free-fits : (v : Public) → length (v .plain .address) ≡ fourBytes → (c : Free) → length (acknowledge (freeRule v c .plain .address) (freeRule v c .code) (freeRule v c .bytes)) ≤ replyRoom
 unfolding freeRule withMark
+free-fits v a readSysPara = omega (arith, length-acknowledge (v .plain .address) done (parametersOf v) a, sixteen v a)
 free-fits v a (verifyPassword w) = omega (arith, length-acknowledge (v .plain .address) (freeRule v (verifyPassword w) .code) [] a)
 free-fits v a handShake = omega (arith, length-acknowledge (v .plain .address) done [] a)
 

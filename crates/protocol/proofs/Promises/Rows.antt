@@ -13,7 +13,7 @@ use Rattle.protocol.specs.Tests.{verdict, within}
 use Rattle.protocol.specs.Index.{bit, stored}
 use Rattle.protocol.specs.Reader.{Reader, capacity, locked, bufferOf}
 use Rattle.protocol.specs.Search.{searchOf, matchCode}
-use Rattle.protocol.specs.Commands.{Barred, searchFor, store, loadChar, upChar, downChar, deletChar, empty, setSysPara, readSysPara, setPassword, setAddress, writeNotepad, readNotepad, templeteNum, readIndexTable, barred, command}
+use Rattle.protocol.specs.Commands.{Barred, searchFor, store, loadChar, upChar, downChar, deletChar, empty, setSysPara, setPassword, setAddress, writeNotepad, readNotepad, templeteNum, readIndexTable, barred, command}
 use Rattle.protocol.specs.Data.{acknowledge}
 use Rattle.protocol.specs.Table.{Row, second, inRange, rule}
 use Rattle.protocol.specs.Step.{order, hear, says, carryAs, rested}
@@ -39,7 +39,6 @@ lines t (downChar b) = unless (Numbered b) 0x01 ∷ []
 lines t (deletChar p n) = unless ((p < pages t) × (p + n ≤ pages t)) 0x10 ∷ []
 lines t empty = []
 lines t (setSysPara k v) = unless ((k ≡ 4) ⊎ ((k ≡ 5) ⊎ (k ≡ 6))) 0x1a ∷ unless (InRange k v) 0x1b ∷ []
-lines t readSysPara = []
 lines t (setPassword w) = []
 lines t (setAddress a) = []
 lines t (writeNotepad p b) = unless (p ≤ 15) 0x1c ∷ []
@@ -127,7 +126,6 @@ module _ (r : Reader) (s : List ℕ) (lent : Lent) (f : T (legal core r)) (u : T
   matches (deletChar p n) = (inside p n (pages t), (refl, λ h. tt))
   matches empty = tt
   matches (setSysPara k v) = (parameter k, (refl, λ i. (range k v i, (refl, λ h. tt))))
-  matches readSysPara = tt
   matches (setPassword w) = tt
   matches (setAddress a) = tt
   matches (writeNotepad p b) = (noted p, (refl, λ h. tt))
@@ -166,7 +164,6 @@ module _ (r : Reader) (s : List ℕ) (lent : Lent) (f : T (legal core r)) (u : T
   carries (deletChar p n) = inl refl
   carries empty = inl refl
   carries (setSysPara k v) = inl refl
-  carries readSysPara = inl refl
   carries (setPassword w) = inl refl
   carries (setAddress a) = inl refl
   carries (writeNotepad p b) = inl refl

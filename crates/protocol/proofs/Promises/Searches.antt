@@ -15,7 +15,7 @@ use Rattle.protocol.specs.Packet.{packet}
 use Rattle.protocol.specs.Index.{bit, stored}
 use Rattle.protocol.specs.Reader.{Reader, capacity, locked, bufferOf, withFound, withLibrary, withNotepad, withBuffer, withoutPages}
 use Rattle.protocol.specs.Search.{eligible, pagesFrom, searchOf, matchCode, matchBytes}
-use Rattle.protocol.specs.Commands.{Barred, searchFor, store, loadChar, upChar, downChar, deletChar, empty, setSysPara, readSysPara, setPassword, setAddress, writeNotepad, readNotepad, templeteNum, readIndexTable, barred, command}
+use Rattle.protocol.specs.Commands.{Barred, searchFor, store, loadChar, upChar, downChar, deletChar, empty, setSysPara, setPassword, setAddress, writeNotepad, readNotepad, templeteNum, readIndexTable, barred, command}
 use Rattle.protocol.specs.Data.{acknowledge}
 use Rattle.protocol.specs.Table.{isBuffer, second, rule, apply}
 use Rattle.protocol.specs.Step.{Heard, order, hear, Said, silence, says, carryAs, carryFree, rested, takeAs, answer, stepOf}
@@ -163,7 +163,6 @@ module _ (lent : Lent) (r : Reader) (four : length (r .plain .address) ≡ 4) (h
   row-keeps (deletChar p m) e o = spared r .found
   row-keeps empty e o = spared r .found
   row-keeps (setSysPara k v) e o = spared r .found
-  row-keeps readSysPara e o = spared r .found
   row-keeps (setPassword w) e o = spared r .found
   row-keeps (setAddress a) e o = spared r .found
   row-keeps (writeNotepad p b) e o = spared r .found

@@ -1,5 +1,5 @@
 -- The rows of the table that change or tell settings, notepad, index and count, once their tests pass: the reply, and every field of the reader after it.
-use mathlib.Core.Bool.{true, false, _&&_, cond}
+use mathlib.Core.Bool.{true, false, _&&_}
 use mathlib.Core.Path.{_≡_, ap, _∙_}
 use mathlib.Core.List.{List, [], _++_}
 use Prim.Native.Nat.{ℕ, zero, _+_, _*_, _/_, _≤_, _<_}
@@ -8,19 +8,19 @@ use lib.Dec.{T, ltb, leb, lt→ltb, le→leb}
 use lib.ListN.{length, take, drop}
 use lib.Seq.{take-all}
 use Rattle.protocol.specs.Numbers.{highestSize}
-use Rattle.protocol.specs.Bytes.{two, part, lay, follow, joined}
+use Rattle.protocol.specs.Bytes.{two, part, lay, follow}
 use Rattle.protocol.specs.Tests.{within}
 use Rattle.protocol.specs.Index.{setBits}
 use Rattle.protocol.specs.Reader.{Plain, Guarded, Reader, capacity, locked, withPassword, withAddress, withTuning, withNotepad}
-use Rattle.protocol.specs.Commands.{Barred, setSysPara, readSysPara, setPassword, setAddress, writeNotepad, readNotepad, templeteNum, readIndexTable, barred, command}
+use Rattle.protocol.specs.Commands.{Barred, setSysPara, setPassword, setAddress, writeNotepad, readNotepad, templeteNum, readIndexTable, barred, command}
 use Rattle.protocol.specs.Data.{acknowledge}
-use Rattle.protocol.specs.Table.{inRange, withParameter, statusOf, rule, apply}
+use Rattle.protocol.specs.Table.{inRange, withParameter, rule, apply}
 use Rattle.protocol.specs.Step.{order, hear, carryAs, rested}
 use Rattle.protocol.specs.Call.{Shape, Lent, fitLent, legal, callOf}
 use Rattle.protocol.proofs.Laws.Logic.{and-i, passed}
 use Rattle.protocol.proofs.Laws.Lists.{inside-lay}
 use Rattle.protocol.proofs.Laws.Answers.{obeys}
-use Rattle.protocol.proofs.Promises.Told.{Gives, answered, word, pages}
+use Rattle.protocol.proofs.Promises.Told.{Gives, answered, word}
 
 -- p and g: settings and contents of the reader once an open transfer has ended
 module _ (σ : Shape) (r : Reader) (s : List ℕ) (lent : Lent) (f : T (legal σ r)) (u : T (fitLent (capacity (r .guarded)) lent)) (l : locked (r .plain) ≡ false) where
@@ -71,14 +71,6 @@ module _ (σ : Shape) (r : Reader) (s : List ℕ) (lent : Lent) (f : T (legal σ
       g
   unfolding carryAs follow rule apply inRange withParameter withTuning within highestSize
   sets-size v h m = given (setSysPara 6 v) h (and-i (leb v 3) true (le→leb v 3 m) tt)
-
-  -- ReadSysPara: 16 bytes: status, type, C, level, address, size code, baud factor; the status word is 4 if the verified mark is set, otherwise 0, and by request [8]
-  -- 2 more if status bit 1 is
-  pub reads-parameters : Asks readSysPara
-      → Ends (p .address)
-      (word (cond (p .verified) 4 0 + cond (g .found) 2 0) ++ (word (p .sensor) ++ (word (pages (rested r)) ++ (word (p .level) ++ (p .address ++ (word (p .size) ++ word (p .baud))))))) p g
-  unfolding carryAs follow rule apply joined two statusOf capacity
-  reads-parameters h = given readSysPara h tt
 
   -- SetPwd: store, clear the verified mark
   pub sets-password : (w : List ℕ) → Asks (setPassword w)

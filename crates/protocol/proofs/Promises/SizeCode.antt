@@ -7,7 +7,7 @@ use Prim.Native.Nat.{ℕ, zero, suc}
 use lib.Dec.{T}
 use Rattle.protocol.specs.Tests.{within}
 use Rattle.protocol.specs.Reader.{Reader, fresh, sizeOf, withMark, withTransfer, withTuning, withPassword, withAddress}
-use Rattle.protocol.specs.Commands.{Free, verifyPassword, handShake, Barred, searchFor, store, loadChar, upChar, downChar, deletChar, empty, setSysPara, readSysPara, setPassword, setAddress, writeNotepad, readNotepad, templeteNum, readIndexTable, barred, command}
+use Rattle.protocol.specs.Commands.{Free, readSysPara, verifyPassword, handShake, Barred, searchFor, store, loadChar, upChar, downChar, deletChar, empty, setSysPara, setPassword, setAddress, writeNotepad, readNotepad, templeteNum, readIndexTable, barred, command}
 use Rattle.protocol.specs.Bytes.{follow}
 use Rattle.protocol.specs.Search.{Chip}
 use Rattle.protocol.specs.Data.{acknowledge}
@@ -69,7 +69,6 @@ module _ (χ : Chip) (r : Reader) (h : Heard) where
   does-keeps (downChar b) e t u = refl
   does-keeps (deletChar p n) e t u = refl
   does-keeps empty e t u = refl
-  does-keeps readSysPara e t u = refl
   does-keeps (setPassword w) e t u = refl
   does-keeps (setAddress b) e t u = refl
   does-keeps (writeNotepad p b) e t u = refl
@@ -79,6 +78,7 @@ module _ (χ : Chip) (r : Reader) (h : Heard) where
 
   frees-keeps : (c : Free) → freeRule (publicOf (rested r)) c .plain .size ≡ r .plain .size
   unfolding freeRule publicOf withMark
+  frees-keeps readSysPara = spared r .size
   frees-keeps (verifyPassword w) = spared r .size
   frees-keeps handShake = spared r .size
 

@@ -13,7 +13,7 @@ use Rattle.protocol.specs.Tests.{within}
 use Rattle.protocol.specs.Index.{stored}
 use Rattle.protocol.specs.Reader.{Transfer, closed, opened, unfit, Plain, noOrigin, Buffer, Reader, capacity, sizeOf, keyed, locked, bufferOf, emptied, withMark, withTransfer, withPassword, withAddress, withTuning, withBuffer}
 use Rattle.protocol.specs.Search.{Chip}
-use Rattle.protocol.specs.Commands.{Free, verifyPassword, handShake, Barred, searchFor, store, loadChar, upChar, downChar, deletChar, empty, setSysPara, readSysPara, setPassword, setAddress, writeNotepad, readNotepad, templeteNum, readIndexTable, free}
+use Rattle.protocol.specs.Commands.{Free, readSysPara, verifyPassword, handShake, Barred, searchFor, store, loadChar, upChar, downChar, deletChar, empty, setSysPara, setPassword, setAddress, writeNotepad, readNotepad, templeteNum, readIndexTable, free}
 use Rattle.protocol.specs.Table.{second, inRange, withParameter, rule, apply, freeRule, publicOf}
 use Rattle.protocol.specs.Step.{Heard, hear, Said, silence, says, carryAs, carryFree, ended, rested, laidIn, takeAs, answer, stepOf, wiped, switched}
 use Rattle.protocol.specs.Call.{Shape, Lent, fitBuffers, fitPlain, fitTransfer, legal, Typed, Ended, refused, carried, callOf, switchRefusal, switchAs, switchOf}
@@ -74,7 +74,6 @@ module _ (σ : Shape) (ok : σ .most ≤ 8 * σ .indexed) where
     row-proper (setSysPara n v) l t =
         let e : Tuned (r .plain) (withParameter n v (r .plain)) = parameter-tunes n v (r .plain) in
         (parameter-fits n v (r .plain) (search (and-l, and-r)) (k .settings), (e .transfer ∙ z, (ap length (e .password) ∙ k .typed .password, ap length (e .address) ∙ k .typed .address)))
-    row-proper readSysPara l t = tt
     row-proper (setPassword w) l t = (k .settings, (z, (l, k .typed .address)))
     row-proper (setAddress a) l t = (k .settings, (z, (k .typed .password, l)))
     row-proper (writeNotepad p b) l t =
@@ -86,6 +85,7 @@ module _ (σ : Shape) (ok : σ .most ≤ 8 * σ .indexed) where
 
   free-good : (r : Reader) → r .plain .transfer ≡ closed → Good σ ok r → (c : Free) → Good σ ok (carryFree r (freeRule (publicOf r) c) .after)
   unfolding carryFree freeRule publicOf withMark fitPlain
+  free-good r z k readSysPara = good-plain σ ok r (freeRule (publicOf r) readSysPara .plain) k (k .settings) z (k .typed .password) (k .typed .address)
   free-good r z k (verifyPassword w) = good-plain σ ok r (freeRule (publicOf r) (verifyPassword w) .plain) k (k .settings) z (k .typed .password) (k .typed .address)
   free-good r z k handShake = k
 

@@ -14,7 +14,7 @@ use Rattle.protocol.specs.Bytes.{Bytes, part, zeros, lay}
 use Rattle.protocol.specs.Finder.{findOf}
 use Rattle.protocol.specs.Index.{bit, stored, setBit, clearBits}
 use Rattle.protocol.specs.Reader.{Plain, fromPage, Buffer, Reader, locked, capacity}
-use Rattle.protocol.specs.Commands.{Barred, searchFor, store, loadChar, upChar, downChar, deletChar, empty, setSysPara, readSysPara, setPassword, setAddress, writeNotepad, readNotepad, templeteNum, readIndexTable, free, barred, damaged, unknown, misfit, command}
+use Rattle.protocol.specs.Commands.{Barred, searchFor, store, loadChar, upChar, downChar, deletChar, empty, setSysPara, setPassword, setAddress, writeNotepad, readNotepad, templeteNum, readIndexTable, free, barred, damaged, unknown, misfit, command}
 use Rattle.protocol.specs.Data.{acknowledge}
 use Rattle.protocol.specs.Step.{Heard, nothing, order, piece, hear, rested}
 use Rattle.protocol.specs.Call.{Shape, core, Lent, fitLent, legal, Ended, callOf}
@@ -168,7 +168,6 @@ module _ (q : ℕ) (x : Exchange) (a : List ℕ) (e : x .reply ≡ acknowledge a
   seen-order (upChar b) h d = inr d
   seen-order (downChar b) h d = inr d
   seen-order (setSysPara k v) h d = inr d
-  seen-order readSysPara h d = inr d
   seen-order (setPassword w) h d = inr d
   seen-order (setAddress b) h d = inr d
   seen-order (writeNotepad p b) h d = inr d

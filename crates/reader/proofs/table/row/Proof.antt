@@ -21,7 +21,7 @@ use Rattle.protocol.specs.Records.{plainOf, readerOf}
 use Rattle.protocol.proofs.Laws.Logic.{not-true}
 use Rattle.reader.specs.declared.answers.Answer.{Answer}
 use Rattle.reader.specs.Answers.{sent, saidOf, codeAlone}
-use Rattle.reader.specs.Commands.{obeyed, Obeyed, ObeyedPages, ObeyedIndex, ObeyedSearch, ObeyedNotepad, ObeyedBuffers, ObeyedCopy, Freed}
+use Rattle.reader.specs.Commands.{obeyed, Obeyed, ObeyedIndex, ObeyedSearch, ObeyedNotepad, ObeyedBuffers, ObeyedCopy, Freed, FreedPages}
 use Rattle.rules.specs.Commands.{lenOf, readOf, isFree}
 use Rattle.rules.proofs.Gates.{last-row}
 use Rattle.reader.proofs.Ready.{ready-alone}
@@ -43,6 +43,11 @@ module _ (χ : Chip) (s : Settings) (t i n b c x : List ℕ) (k j : ℕ) (e : k 
   unfolding obey
   free-row a f h q = h .said t i n b c ∙ rw (e, ← q)
 
+  pages-row : (a : Answer) (f : Free) → FreedPages a s f (length t / pageBytes) → free f ≡ readOf (rowOf commands j) x
+      → saidOf a t i n b c ≡ obey χ (readerOf s t i n b c) (readOf (rowOf commands k) x)
+  unfolding obey
+  pages-row a f h q = h .said t i n b c refl ∙ rw (e, ← q)
+
   module _ (o : (isFree k || not (locked (plainOf s))) ≡ true) (z : isFree j ≡ false) (d : Barred) (q : barred d ≡ readOf (rowOf commands j) x) where
     row : obeyed χ s t i n b c d ≡ obey χ (readerOf s t i n b c) (readOf (rowOf commands k) x)
     unfolding obey
@@ -51,9 +56,6 @@ module _ (χ : Chip) (s : Settings) (t i n b c x : List ℕ) (k j : ℕ) (e : k 
     module _ (a : Answer) where
       settings-row : Obeyed a s d → saidOf a t i n b c ≡ obey χ (readerOf s t i n b c) (readOf (rowOf commands k) x)
       settings-row h = h .said χ t i n b c ∙ row
-
-      pages-row : ObeyedPages a s d (length t / pageBytes) → saidOf a t i n b c ≡ obey χ (readerOf s t i n b c) (readOf (rowOf commands k) x)
-      pages-row h = h .said χ t i n b c refl ∙ row
 
       index-row : ObeyedIndex a s d i → saidOf a t i n b c ≡ obey χ (readerOf s t i n b c) (readOf (rowOf commands k) x)
       index-row h = h .said χ t n b c ∙ row

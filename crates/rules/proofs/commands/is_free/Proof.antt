@@ -1,4 +1,4 @@
--- 13h and 40h are free; the catch-all is what is neither.
+-- 0Fh, 13h and 40h are free; the catch-all is what is none of them.
 use mathlib.Core.Path.{_≡_}
 use mathlib.Core.Bool.{true, false}
 use Prim.Native.Nat.{ℕ}
@@ -8,6 +8,10 @@ use Rattle.rules.proofs.commands.is_free.Statement.{statement}
 use Rattle.rules.proofs.commands.is_free.Tie as tie
 
 module _ (k : ℕ) where
+  parameters : k ≡ 0x0f → true ≡ isFree k
+  unfolding isFree
+  parameters e = rw e
+
   password : k ≡ 0x13 → true ≡ isFree k
   unfolding isFree
   password e = rw e
@@ -16,18 +20,21 @@ module _ (k : ℕ) where
   unfolding isFree
   shake e = rw e
 
-  other : (k ≡ 0x13 → ⊥) → (k ≡ 0x40 → ⊥) → false ≡ isFree k
+  other : (k ≡ 0x0f → ⊥) → (k ≡ 0x13 → ⊥) → (k ≡ 0x40 → ⊥) → false ≡ isFree k
   unfolding isFree
-  other n m = rw (ne-eqb k 0x13 n, ne-eqb k 0x40 m)
+  other o n m = rw (ne-eqb k 0x0f o, ne-eqb k 0x13 n, ne-eqb k 0x40 m)
 
 returns : tie.Need-returns
-returns c = search password
+returns c = search parameters
 
 returns-2 : tie.Need-returns-2
-returns-2 c = search shake
+returns-2 c = search password
 
 returns-3 : tie.Need-returns-3
-returns-3 c = search other
+returns-3 c = search shake
+
+returns-4 : tie.Need-returns-4
+returns-4 c = search other
 
 pub is-free-spec : {M : Type 1} → statement M
-is-free-spec = tie.close (tie.spec returns returns-2 returns-3)
+is-free-spec = tie.close (tie.spec returns returns-2 returns-3 returns-4)
