@@ -80,8 +80,9 @@
  *     wrote to it, and the line switch at power-on makes it 0 in any case. So settings that were stored are loaded as they are; but a
  *     board that used the byte needs another place for what it kept there. An older version takes the found mark for its spare byte.
  *     In versions 0.1 to 0.8 a locked reader answered ReadSysPara 21h; today it carries it out. Functions, structs and all that is stored
- *     are as they were, and the board has nothing to bring over. But a host or a board that took this 21h for the sign of a lock must ask
- *     another command, such as TempleteNum.
+ *     are as they were, and the board has nothing to bring over: link with the new archives. But a host that took this 21h for the sign
+ *     of a lock must send another command, such as TempleteNum, which is 21h in every version. A board looks at password and verified
+ *     mark in the settings.
  */
 #ifndef BYSTRODOL_H
 #define BYSTRODOL_H
@@ -167,8 +168,9 @@
  *   0Fh ReadSysPara   sensor type, capacity, level, address, size code and baud factor are told to any host; the status word is 0
  *   13h VfyPwd        the right password unlocks the reader, a wrong one leaves it locked
  *   40h HandShake     as ever
- * Any other is answered 21h and changes nothing. Sum, code and length are tested before, as in every reader. A status word of 0 is no
- * sign of a lock, since a reader without a password may have it, too: a 21h is, as the answer to TempleteNum.
+ * Sum, code and length are tested first, as in every reader; any other command that passes is answered 21h and changes nothing. A
+ * status word other than 0 is that of a reader that is not locked. 0 is no sign of a lock, since a reader without a password may have it
+ * too; 21h in answer to TempleteNum is.
  *
  * Over power-off nothing of a buffer, a mark, an origin or a transfer is worth keeping: the line switch clears them. So save templates
  * and index after Store, DeletChar and Empty, settings after SetSysPara, SetPwd and SetAdder, and the notepad after

@@ -73,7 +73,7 @@ SIZE, SPEED, FILE = ("SIZE", size_code_of), ("BAUD", baud_factor_of), ("FILE", s
 Form = collections.namedtuple("Form", "word kinds command means before after", defaults=((), ()))
 FORMS = (
     Form("handshake", (), "HandShake", "is a reader there?"),
-    Form("parameters", (), "ReadSysPara", "its settings, without a password too"),
+    Form("parameters", (), "ReadSysPara", "its settings; a locked reader tells them too"),
     Form("count", (), "TempleteNum", "how many templates are stored"),
     Form("index", (), "ReadIndexTable", "which pages are stored, of all that the reader has"),
     Form("index", (PART,), "ReadIndexTable", "of 256 pages: part 0 is pages 0 to 255, part 1 256 to 511, up to part 3"),

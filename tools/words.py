@@ -62,10 +62,9 @@ def stored_in_words(index, asked):
 
 def status_in_words(n):
     """A locked reader shows 0, whatever it found; so does one without a password whose two marks are clear."""
-    if not n & (VERIFIED | FOUND):
-        return "no password verified; no page found, or not told while locked"
-    return "%s, %s" % ("password verified" if n & VERIFIED else "no password verified",
-                       "last Search found a page" if n & FOUND else "no page found")
+    return "%s, %s%s" % ("password verified" if n & VERIFIED else "no password verified",
+                         "last Search found a page" if n & FOUND else "no page found",
+                         "" if n else "; or the reader is locked")
 
 
 # What the numbers of some fields mean.

@@ -53,7 +53,7 @@ DIALOGUE = (
     ("handshake", "01 00 03 40 00 44", DONE, 0, "command 40h HandShake", "acknowledge 00h, done"),
     ("parameters", "01 00 03 0f 00 13", "07 00 13 00 00 00 00 00 00 40 00 03 ff ff ff ff 00 02 00 06 04 61", 0,
      "capacity 64 (pages)", "security level 3", "128 bytes in a data packet", "57600 baud",
-     "status 0 (no password verified; no page found, or not told while locked)"),
+     "status 0 (no password verified, no page found; or the reader is locked)"),
     ("count", "01 00 03 1d 00 21", "07 00 05 00 00 00 00 0c", 0, "templates stored 0"),
     ("index", "01 00 04 1f 00 00 24", "07 00 23 00 00", 0, "stored none of pages 0 to 255", "stored: none of 64 pages"),
     ("note|3|Station 12", "01 00 24 18 03 53 74 61 74 69 6f 6e 20 31 32 00", DONE, 0, 'page 3, text "Station 12"'),
@@ -82,7 +82,7 @@ DIALOGUE = (
     ("search|1|12|52", "01 00 08 04 01 00 0c 00 34 00 4e", "07 00 07 09 00 00 00 00 00 17", 1,
      "acknowledge 09h, no page found: page 0, score 0"),
     ("parameters", "01 00 03 0f 00 13", "07 00 13 00 00 00 00 00 00 40 00 03 ff ff ff ff 00 02 00 06 04 61", 0,
-     "status 0 (no password verified; no page found, or not told while locked)"),
+     "status 0 (no password verified, no page found; or the reader is locked)"),
     ("index", "01 00 04 1f 00 00 24", "07 00 23 00 80 09 00", 0, "stored pages 7 to 8, 11, of pages 0 to 255",
      "stored: 3 of 64 pages: 7 to 8, 11"),
     ("index|0", "01 00 04 1f 00 00 24", "07 00 23 00 80 09 00", 0, "index page 0", "stored pages 7 to 8, 11, of pages 0 to 255"),
@@ -117,7 +117,7 @@ DIALOGUE = (
     ("count", "01 00 03 1d 00 21", "07 00 03 21 00 2b", 1, "locked: the password first"),
     ("search|1|0|64", "01 00 08 04 01 00 00 00 40 00 4e", "07 00 03 21 00 2b", 1, "locked: the password first"),
     ("parameters", "01 00 03 0f 00 13", LOCKED_PARAMETERS, 0, "capacity 64 (pages)", "115200 baud",
-     "status 0 (no password verified; no page found, or not told while locked)"),
+     "status 0 (no password verified, no page found; or the reader is locked)"),
     ("index", "01 00 04 1f 00 00 24", "07 00 03 21 00 2b", 1, LOCKED_PARAMETERS, "locked: the password first"),
     ("upload|1|FOLDER/none", "01 00 04 08 01 00 0e", "07 00 03 21 00 2b", 1, LOCKED_PARAMETERS, "locked: the password first"),
     ("download|1|FOLDER/template", "01 00 04 09 01 00 0f", "07 00 03 21 00 2b", 1, LOCKED_PARAMETERS, "locked: the password first"),
@@ -202,7 +202,7 @@ def give_bad_words():
                      BAD_WORDS)
         expect(["ask"], 2, "usage: ./bystrodol ask")
         expect(["ask", "--help"], 0, "usage: ./bystrodol ask", "download BUFFER FILE", "search BUFFER START COUNT",
-               "its settings, without a password too")
+               "its settings; a locked reader tells them too")
         short, long, there = (os.path.join(folder, name) for name in ("short", "long", "there"))
         for name, length in ((short, 511), (long, 513), (there, 1)):
             with open(name, "wb") as file:

@@ -1,6 +1,5 @@
 -- The seventeen commands: document 01's table, right half. Each row's tests, left to right, and its effect. Search is request [8]'s; Store's last test is request [5]'s; how many pages
--- ReadIndexTable has goes by the index's length, which is request [6]'s; the buffers' origins are request [7]'s; that the lock
--- lets ReadSysPara pass is request [13]'s.
+-- ReadIndexTable has goes by the index's length, which is request [6]'s; the buffers' origins are request [7]'s; that the lock lets ReadSysPara pass is request [13]'s.
 use mathlib.Core.Bool.{Bool, _&&_, _||_, not, cond}
 use mathlib.Core.List.{List, [], _∷_}
 use Prim.Native.Nat.{ℕ, _+_, _*_, _/_}
@@ -140,9 +139,9 @@ pub record FreeRow : Type 0 where
   pub bytes : List ℕ
   pub plain : Plain
 
--- 4 if the verified mark is set, otherwise 0; and by request [8] 2 more if status bit 1 is
+-- 4 if the verified mark is set, otherwise 0; and by request [8] 2 more if status bit 1 shows
 unfoldable pub statusOf : Bool → Bool → ℕ
-statusOf verified found = cond verified verifiedStatus 0 + cond found foundStatus 0
+statusOf verified shown = cond verified verifiedStatus 0 + cond shown foundStatus 0
 
 -- status, type, C, level, address, size code, baud factor
 unfoldable pub parametersOf : Public → List ℕ
