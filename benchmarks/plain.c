@@ -141,7 +141,7 @@ static int fits(const uint8_t *index, size_t pages) {
 
 static int is_locked(const struct bystrodol_settings *settings) {
     static const uint8_t none[4];
-    return !settings->verified && memcmp(settings->password, none, sizeof none) != 0;
+    return memcmp(settings->password, none, sizeof none) != 0 && !settings->verified;
 }
 
 static size_t data_size(const struct bystrodol_settings *settings) { return (size_t)32 << settings->size; }

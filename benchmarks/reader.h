@@ -68,8 +68,8 @@ struct command {
     uint8_t length, content[36];
 };
 
-/* How many there are, and which is ReadSysPara. */
-enum { COMMANDS = 17, READ_SYS_PARA = 8 };
+/* How many there are, and which of them is ReadSysPara. */
+enum { COMMANDS = 17, READ_SYS_PARA_NUMBER = 8 };
 struct command command_of(size_t number, size_t capacity);
 
 /* ---- calls of the reader, ours or plain C's, that are stepped through */

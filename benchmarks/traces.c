@@ -121,8 +121,8 @@ static const struct {
 };
 
 enum call {
-    READ_PARAMETERS = READ_SYS_PARA * SHAPES + VALID,
-    READ_PARAMETERS_TOO_LONG = READ_SYS_PARA * SHAPES + TOO_LONG,
+    READ_PARAMETERS = READ_SYS_PARA_NUMBER * SHAPES + VALID,
+    READ_PARAMETERS_TOO_LONG = READ_SYS_PARA_NUMBER * SHAPES + TOO_LONG,
     OTHER_RUN = COMMANDS * SHAPES,
     DATA_PACKET = OTHER_RUN + sizeof other_runs / sizeof *other_runs,
     LAST_DATA_PACKET,
@@ -376,7 +376,7 @@ static int compare_pairs(const char *name, size_t pairs, size_t round) {
 }
 
 int compare_traces(int of_plain) {
-    if (command_of(READ_SYS_PARA, 1).content[0] != 0x0F) fail("ReadSysPara is not where it is looked for");
+    if (command_of(READ_SYS_PARA_NUMBER, 1).content[0] != 0x0F) fail("ReadSysPara is not where it is looked for");
     step = of_plain ? plain_step : bystrodol_step;
     line_switch = of_plain ? plain_line_switch : bystrodol_line_switch;
     receive = of_plain ? plain_receive : bystrodol_receive;

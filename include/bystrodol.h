@@ -80,9 +80,10 @@
  *     wrote to it, and the line switch at power-on makes it 0 in any case. So settings that were stored are loaded as they are; but a
  *     board that used the byte needs another place for what it kept there. An older version takes the found mark for its spare byte.
  *     In versions 0.1 to 0.8 a locked reader answered ReadSysPara 21h; today it carries it out. Functions, structs and all that is stored
- *     are as they were, and the board has nothing to bring over: link with the new archives. But a host that took this 21h for the sign
- *     of a lock must send another command, such as TempleteNum, which is 21h in every version. A board looks at password and verified
- *     mark in the settings.
+ *     are those of 0.8: a board that has that version links with the new archives, and brings nothing over. From then on sensor type,
+ *     level and address, as they were stored, are read without the password, so they are no place for a secret. A host that took this
+ *     21h for the sign of a lock must send another command, such as TempleteNum, which is 21h in every version. A board looks at
+ *     password and verified mark in the settings.
  */
 #ifndef BYSTRODOL_H
 #define BYSTRODOL_H
@@ -165,7 +166,8 @@
  * named only the filled mark is looked at: the board sees to it that the scores are that buffer's.
  *
  * A locked reader carries out three commands:
- *   0Fh ReadSysPara   sensor type, capacity, level, address, size code and baud factor are told to any host; the status word is 0
+ *   0Fh ReadSysPara   any host is told the status word, which is 0 then, sensor type, capacity, level, address, size code and baud
+ *                     factor, in this order: two bytes each, high byte first, and the address four
  *   13h VfyPwd        the right password unlocks the reader, a wrong one leaves it locked
  *   40h HandShake     as ever
  * Sum, code and length are tested first, as in every reader; any other command that passes is answered 21h and changes nothing. A

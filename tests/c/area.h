@@ -317,6 +317,18 @@ static inline void is_status(const char *name, uint8_t status) {
     is_told(name, status);
 }
 
+/* ---- the lock */
+
+/* The last byte of the password; a reader that has it is locked, or its password was given. */
+enum { PASSWORD = 5 };
+enum { NO_PASSWORD, LOCKED, GIVEN, STATES };
+
+static inline void set_up_state(size_t pages, int state) {
+    set_up_stored(pages);
+    area.line.settings.password[3] = state == NO_PASSWORD ? 0 : PASSWORD;
+    area.line.settings.verified = state == GIVEN;
+}
+
 /* ---- runs and commands that change no buffer, no mark but the verified one, and no origin */
 
 /* What makes a packet no command to this reader: its address, bytes left out at its end, its identifier, or what is added to its sum; and its code. */

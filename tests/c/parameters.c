@@ -1,7 +1,7 @@
 /*
- * What a locked reader carries out, from C: ReadSysPara, whose status word is 0 then, VfyPwd and HandShake, and no other command. Every mix of password,
- * verified mark and found mark; the found mark hidden, and shown again; every command code, at its length and at others; wrong sums and other runs. Readers of
- * 1 to 1000 pages, through the three doors of area.h, which compares every byte.
+ * ReadSysPara from C, of a locked reader and of others: the status word at every mix of password, verified mark and found mark; the found mark hidden, and shown
+ * again; every parameter; other lengths, wrong sums, other addresses and other runs; refusals, transfers, and pieces. Readers of 1 to 1000 pages, through the three
+ * doors of area.h, which compares every byte.
  * tests/c/run builds and runs it. It writes one line, 'parameters: N checks passed', and ends with 0; or names each failed check
  * and ends with 1.
  */
@@ -10,16 +10,6 @@
 
 static const size_t sizes[] = {1, 8, 9, 64, 255, 256, 257, 605, 999, 1000};
 enum { SIZES = sizeof sizes / sizeof *sizes };
-
-/* The last byte of the password; a reader that has it is locked, or its password was given. */
-enum { PASSWORD = 5 };
-enum { NO_PASSWORD, LOCKED, GIVEN, STATES };
-
-static void set_up_state(size_t pages, int state) {
-    set_up_stored(pages);
-    area.line.settings.password[3] = state == NO_PASSWORD ? 0 : PASSWORD;
-    area.line.settings.verified = state == GIVEN;
-}
 
 static uint8_t status_of(int state) { return (uint8_t)(state == LOCKED ? 0 : state == GIVEN ? 4 + 2 * found : 2 * found); }
 
@@ -47,20 +37,25 @@ static void examples(void) {
     is_answered("the parameters once the password is given", 0, given, sizeof given);
 }
 
-/* Every mix of password, verified mark and found mark, with and without stored pages and filled buffers. Any byte of the password locks; without one the
+/* Every mix of password, verified mark and found mark, whatever is stored, filled, loaded from a page and scored. Any byte of the password locks; without one the
  * reader is never locked, and shows the found mark though it is not verified. */
 static void mixes(size_t pages) {
-    static const uint8_t passwords[][4] = {{0, 0, 0, 0}, {1, 0, 0, 0}, {0, 0x80, 0, 0}, {0, 0, 2, 0}, {0, 0, 0, 0xFF}, {0xFF, 0xFF, 0xFF, 0xFF}};
+    static const uint8_t passwords[][4] = {{0, 0, 0, 0}, {1, 0, 0, 0}, {0, 0x80, 0, 0}, {0, 0, 2, 0}, {0, 0, 0, 0xFF}, {0x80, 0, 0x80, 0}, {0xFF, 0xFF, 0xFF, 0xFF}};
     static const uint8_t status[2][2][2] = {/* by password, verified mark and found mark */
                                             {{0, 2}, {4, 6}},
                                             {{0, 0}, {4, 6}}};
     for (size_t i = 0; i < sizeof passwords / sizeof *passwords; i++)
         for (uint8_t verified = 0; verified < 2; verified++)
-            for (int stored = 0; stored < 2; stored++) {
-                if (stored) set_up_stored(pages);
+            for (unsigned filled = 0; filled < 4; filled++) {
+                struct bystrodol_settings *s = &area.line.settings;
+                if (filled) set_up_stored(pages);
                 else set_up_pages(pages);
-                memcpy(area.line.settings.password, passwords[i], 4);
-                area.line.settings.verified = verified;
+                s->filled1 = filled & 1, s->filled2 = filled >> 1;
+                if (s->filled1) s->origin1 = 0;
+                if (s->filled2) s->origin2 = (uint16_t)(pages - 1);
+                memset(area.scores, s->filled1 ? 0xFF : 0, sizeof area.scores);
+                memcpy(s->password, passwords[i], 4);
+                s->verified = verified;
                 is_status("a password and two marks", status[i > 0][verified][found]);
             }
 }
@@ -116,12 +111,19 @@ static void hidden(size_t pages) {
     is_status("after a wrong password once it was open", 0);
     gives_password(PASSWORD, 1);
     is_status("after the right password again", shown);
+    gives_password(PASSWORD, 1);
+    is_status("after the right password once it was open", shown);
+    sets_password(PASSWORD);
+    is_status("after the same password was set", 0);
+    gives_password(PASSWORD, 1);
     sets_password(PASSWORD + 2);
     is_status("after a new password", 0);
     gives_password(PASSWORD + 2, 1);
     is_status("after the new password was given", shown);
     sets_password(0);
     is_status("without a password", (uint8_t)(BYSTRODOL_STATUS_FOUND * found));
+    gives_password(PASSWORD, 0);
+    is_status("after a wrong password where there is none", (uint8_t)(BYSTRODOL_STATUS_FOUND * found));
     sets_password(PASSWORD);
     check("a line switch", line_switch(), BYSTRODOL_ACCEPTED);
     switch_what_was();
@@ -131,41 +133,7 @@ static void hidden(size_t pages) {
     is_status("after a line switch and the password", BYSTRODOL_STATUS_VERIFIED);
 }
 
-/* ---- what else a locked reader answers */
-
-/* The commands and the lengths of their contents. */
-static const struct {
-    uint8_t command, length;
-} commands[] = {
-    {0x04, 6}, {0x06, 4}, {0x07, 4}, {0x08, 2}, {0x09, 2}, {0x0C, 5}, {0x0D, 1}, {0x0E, 3}, {0x0F, 1},
-    {0x12, 5}, {0x13, 5}, {0x15, 5}, {0x18, 34}, {0x19, 2}, {0x1D, 1}, {0x1F, 2}, {0x40, 1},
-};
-
-/* The length of a command's content; 0 if there is no such command. */
-static size_t length_of(unsigned command) {
-    for (size_t i = 0; i < sizeof commands / sizeof *commands; i++)
-        if (commands[i].command == command) return commands[i].length;
-    return 0;
-}
-
-/* Each code, and each length of its content to one past the longest: 19h, then 01h, then 21h, save for the three commands that are open. */
-static void any_command(void) {
-    for (unsigned command = 0; command < 256; command++)
-        for (size_t length = 1; length <= 35; length++) {
-            const uint8_t content[35] = {(uint8_t)command, 1};
-            set_up_state(10, LOCKED);
-            if (length == length_of(command) && command == BYSTRODOL_COMMAND_READ_SYS_PARA) {
-                is_status("ReadSysPara of a locked reader", 0);
-                continue;
-            }
-            send(BYSTRODOL_PACKET_COMMAND, content, length);
-            if (length_of(command) == 0) is_said("no such command", command, BYSTRODOL_CODE_UNKNOWN_COMMAND);
-            else if (length != length_of(command)) is_said("a command of another length", command, BYSTRODOL_CODE_BAD_PACKET);
-            else if (command == BYSTRODOL_COMMAND_VFY_PWD) is_said("VfyPwd of a locked reader", command, BYSTRODOL_CODE_WRONG_PASSWORD);
-            else if (command == BYSTRODOL_COMMAND_HAND_SHAKE) is_done("HandShake of a locked reader", command);
-            else is_said("a command of a locked reader", command, BYSTRODOL_CODE_PASSWORD_FIRST);
-        }
-}
+/* ---- packets that are not right, refusals and transfers */
 
 /* ReadSysPara has no parameters: every longer one is 01h, locked or not. */
 static void packet_lengths(void) {
@@ -204,22 +172,100 @@ static void other_runs(void) {
     }
 }
 
-/* It ends an open transfer, which only a reader that is not locked can have, and then tells the same. */
-static void transfers(void) {
-    for (int buffer = BUFFER1; buffer <= BUFFER2; buffer++)
+/* To an address that is not the reader's it is silent: a byte differs, or it is a fresh reader's, or 0. */
+static void addresses(void) {
+    static const uint8_t own[] = {1, 2, 3, 4};
+    static const uint32_t others[] = {0x81020304, 0x01820304, 0x01028304, 0x01020384, 0xFFFFFFFF, 0};
+    for (size_t i = 0; i < sizeof others / sizeof *others; i++)
         for (int state = 0; state < STATES; state++) {
-            if (state == LOCKED) continue;
             set_up_state(10, state);
-            *mark_of(&area.line.settings, buffer) = 0;
-            area.line.settings.transfer = number_of(buffer), area.line.settings.got = 128;
-            send(BYSTRODOL_PACKET_COMMAND, &read_parameters, 1);
-            wipe_what_was(buffer);
-            was.line.settings.transfer = 0, was.line.settings.got = 0;
-            is_told("ReadSysPara in a transfer", status_of(state));
+            memcpy(area.line.settings.address, own, sizeof own);
+            put_read(others[i]);
+            call();
+            is_answered("ReadSysPara to another address", i, parts[REPLY], 0);
         }
 }
 
-/* ---- the receiver */
+static struct bystrodol_settings *set_up_read(void) {
+    set_up_state(10, LOCKED);
+    put_read(0xFFFFFFFF);
+    return &area.line.settings;
+}
+
+/* What refuses every call refuses ReadSysPara of a locked reader, too. */
+static void refusals(void) {
+    set_up_read(), lengths[BUFFER1] = 511;
+    refuses("ReadSysPara, a buffer", 511, BYSTRODOL_BAD_LENGTH);
+    set_up_read(), scores_length = 9;
+    refuses("ReadSysPara, scores", 9, BYSTRODOL_BAD_LENGTH);
+    set_up_read(), lengths[REPLY] = 699;
+    refuses("ReadSysPara, the reply room", 699, BYSTRODOL_BAD_ROOM);
+    set_up_read()->found = 2;
+    refuses("ReadSysPara, the found mark", 2, BYSTRODOL_BAD_SETTING);
+    set_up_read()->baud = 13;
+    refuses("ReadSysPara, the baud factor", 13, BYSTRODOL_BAD_SETTING);
+    set_up_read()->origin1 = 10;
+    refuses("ReadSysPara, an origin", 10, BYSTRODOL_BAD_SETTING);
+    set_up_read(), parts[INDEX][1] |= 0x80;
+    refuses("ReadSysPara, an index bit", 15, BYSTRODOL_BAD_SETTING);
+    set_up_read()->transfer = 1, area.line.settings.filled1 = 0;
+    refuses("ReadSysPara, a transfer of a locked reader", 1, BYSTRODOL_BAD_SETTING);
+}
+
+/* A transfer into a buffer is open, and a call ends it. */
+static void open_transfer(int buffer, uint16_t got) {
+    *mark_of(&area.line.settings, buffer) = 0;
+    area.line.settings.transfer = number_of(buffer), area.line.settings.got = got;
+}
+
+static void end_what_was(int buffer) {
+    wipe_what_was(buffer);
+    was.line.settings.transfer = 0, was.line.settings.got = 0;
+}
+
+/* It ends an open transfer, which only a reader that is not locked can have, and then tells the same. */
+static void transfers(void) {
+    for (int buffer = BUFFER1; buffer <= BUFFER2; buffer++)
+        for (int state = 0; state < STATES; state++)
+            for (uint16_t got = 0; got < BYSTRODOL_PAGE_BYTES; got += 128) {
+                if (state == LOCKED) continue;
+                set_up_state(10, state);
+                open_transfer(buffer, got);
+                send(BYSTRODOL_PACKET_COMMAND, &read_parameters, 1);
+                end_what_was(buffer);
+                is_told("ReadSysPara in a transfer", status_of(state));
+            }
+}
+
+/* With a wrong sum or a wrong length it ends one, too, at every size code. */
+static void wrong_in_transfers(void) {
+    for (uint8_t size = 0; size < 4; size++)
+        for (uint16_t got = 0; got < BYSTRODOL_PAGE_BYTES; got += 256)
+            for (size_t length = 1; length <= 2; length++) {
+                const uint8_t content[] = {read_parameters, 0};
+                set_up_state(10, GIVEN);
+                area.line.settings.size = size;
+                open_transfer(BUFFER1, got);
+                lengths[RUN] = bystrodol_build(0xFFFFFFFF, BYSTRODOL_PACKET_COMMAND, content, length, parts[RUN], rooms[RUN]);
+                if (length == 1) parts[RUN][lengths[RUN] - 1]++;
+                call();
+                end_what_was(BUFFER1);
+                is_said("a wrong ReadSysPara in a transfer", size, BYSTRODOL_CODE_BAD_PACKET);
+            }
+}
+
+/* ---- in longer runs, and in pieces */
+
+/* Noise before it is passed over. */
+static void behind_noise(void) {
+    for (size_t noise = 1; noise <= 12; noise++) {
+        set_up_state(10, LOCKED);
+        memset(parts[RUN], 0x41, noise);
+        lengths[RUN] = noise + bystrodol_build(0xFFFFFFFF, BYSTRODOL_PACKET_COMMAND, &read_parameters, 1, parts[RUN] + noise, rooms[RUN] - noise);
+        call();
+        is_told("ReadSysPara behind noise", 0);
+    }
+}
 
 /* The code, the status word and the length of the last reply. */
 static void is_reply(const char *name, size_t which, size_t length, uint8_t code, uint8_t status) {
@@ -227,6 +273,16 @@ static void is_reply(const char *name, size_t which, size_t length, uint8_t code
     check_of(name, which, "reply length", answer.length, length);
     check_of(name, which, "code", parts[REPLY][9], code);
     if (length == 28) check_of(name, which, "status word", parts[REPLY][10] << 8 | parts[REPLY][11], status);
+}
+
+/* Two in a run: a call answers the first, and leaves the other. */
+static void two_in_a_run(void) {
+    set_up_read();
+    memcpy(parts[RUN] + lengths[RUN], parts[RUN], lengths[RUN]);
+    lengths[RUN] *= 2;
+    call();
+    is_reply("two in a run", 0, 28, BYSTRODOL_CODE_DONE, 0);
+    check("two in a run, the bytes used", answer.used, 12);
 }
 
 /* A wrong password and the right one, with a ReadSysPara before, between and behind them, and a HandShake last, all in one piece: each call deals with one of
@@ -276,11 +332,15 @@ static void two_pieces(void) {
 static void checks(void) {
     examples();
     for (size_t i = 0; i < SIZES; i++) mixes(sizes[i]), any_parameters(sizes[i]), hidden(sizes[i]);
-    any_command();
     packet_lengths();
     wrong_sums();
     other_runs();
+    addresses();
+    refusals();
     transfers();
+    wrong_in_transfers();
+    behind_noise();
+    two_in_a_run();
     if (door != STEP) one_piece(), two_pieces();
 }
 
