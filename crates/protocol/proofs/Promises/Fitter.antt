@@ -7,18 +7,21 @@ use Prim.Native.Nat.{ℕ, _+_, _/_, _%_}
 use native.Mathlib.Omega.{arith}
 use lib.Dec.{T}
 use lib.ListN.{length, length-append}
+use Rattle.protocol.specs.declared.Found.the-variants.{Whole}
 use Rattle.protocol.specs.Bytes.{two, total, joined}
 use Rattle.protocol.specs.Packet.{sumOf, packet, isIdentifier, limit, accepts}
+use Rattle.protocol.specs.Finder.{findOf}
 use Rattle.protocol.specs.Reader.{Reader, capacity, locked, withMark}
 use Rattle.protocol.specs.Commands.{readSysPara, verifyPassword, free, command}
 use Rattle.protocol.specs.Data.{acknowledge}
 use Rattle.protocol.specs.Table.{statusOf, parametersOf, freeRule, publicOf}
 use Rattle.protocol.specs.Step.{order, hear, carryFree, obey, heed, rested, answer}
-use Rattle.protocol.specs.Call.{Shape, Lent, fitLent, legal, callOf}
+use Rattle.protocol.specs.Call.{Shape, Lent, fitLent, legal, Ended, callOf}
 use Rattle.protocol.proofs.Laws.Lists.{by-four}
 use Rattle.protocol.proofs.Laws.Answers.{spared}
 use Rattle.protocol.proofs.Laws.Locked.{Shut, shut-of, veils, rested-still}
 use Rattle.protocol.proofs.Promises.Told.{Gives, answered, word, pages}
+use Rattle.protocol.proofs.Promises.ReadBack.{packet-reads}
 use Rattle.protocol.proofs.Promises.Parameters.{parameters, asked-by}
 use Rattle.protocol.proofs.Promises.Packets.{packet-is, acknowledge-is}
 use Rattle.protocol.proofs.Promises.Opens.{keyed-locked, unlocked-marked, right-password}
@@ -67,12 +70,24 @@ in-bytes a bytes four long =
     by-four a four (λ (b : List ℕ). acknowledge b 0x00 bytes ≡ telling b bytes)
     (λ i j k l. acknowledge-is (i ∷ j ∷ k ∷ l ∷ []) 0x00 bytes ∙ (rw long at (packet-is i j k l 7 (0x00 ∷ bytes) (omega (arith, long)))))
 
+found : (r : Reader) → length (r .plain .address) ≡ 4 → findOf (asking r) ≡ Whole 0 3
+unfolding packet two sumOf total accepts isIdentifier limit
+found r four = packet-reads (r .plain .address) 0x01 (0x0f ∷ []) four tt .found
+
+pub record Sees (r : Reader) (lent : Lent) (e : Ended) : Type 0 where
+  pub used : e .told .used ≡ 12
+  pub long : e .told .length ≡ 28
+  pub gives : Gives (telling (r .plain .address) (listed 0 r)) r (asking r) lent e
+
 -- an address has four bytes by its type
 pub fitter-sees : (σ : Shape) (r : Reader) (lent : Lent) → T (legal σ r) → T (fitLent (capacity (r .guarded)) lent) → T (locked (r .plain)) → length (r .plain .address) ≡ 4
-    → Gives (telling (r .plain .address) (listed 0 r)) r (asking r) lent (callOf σ r (asking r) lent)
-fitter-sees σ r lent f u l four =
-    subst (λ (reply : List ℕ). Gives reply r (asking r) lent (callOf σ r (asking r) lent)) (in-bytes (r .plain .address) (listed 0 r) four (simp length-append (omega arith)))
-    (locked-parameters σ r (asking r) lent f u (asked r four) l)
+    → Sees r lent (callOf σ r (asking r) lent)
+fitter-sees σ r lent f u l four = record { used = gives .told .used 0 3 (found r four); long = gives .told .long ∙ simp length-append (omega arith); gives = gives }
+  where
+    gives : Gives (telling (r .plain .address) (listed 0 r)) r (asking r) lent (callOf σ r (asking r) lent)
+    gives =
+        subst (λ (reply : List ℕ). Gives reply r (asking r) lent (callOf σ r (asking r) lent)) (in-bytes (r .plain .address) (listed 0 r) four (simp length-append (omega arith)))
+        (locked-parameters σ r (asking r) lent f u (asked r four) l)
 
 -- ---- once the password is given, status bit 1 shows again, and bit 2 with it
 

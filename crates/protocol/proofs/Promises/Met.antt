@@ -42,10 +42,12 @@ pub record Met (r t : Reader) : Type 0 where
   pub still : r .plain .transfer ≡ closed
   pub settings : r .plain ≡ t .plain
   pub pages : capacity (r .guarded) ≡ capacity (t .guarded)
+  pub bit-clear : r .guarded .found ≡ false
+  pub bit-set : t .guarded .found ≡ true
 
 pub premises-met : Met keyed10 full10
 unfolding keyed10 fresh10 full10 fresh zeroed withPassword emptied loadedFrom four same within every bit stored clearFrom capacity keyed locked bufferOf core fitLibrary fitBuffers fitLengths fitPlain fitTransfer fitOrigin fitOrigins sound legal highestSize
-premises-met = record { one = tt; other = tt; locks = tt; keys = tt; still = refl; settings = refl; pages = refl }
+premises-met = record { one = tt; other = tt; locks = tt; keys = tt; still = refl; settings = refl; pages = refl; bit-clear = refl; bit-set = refl }
 
 -- of request [5]'s by the full reader without a password: it is not locked, and each of its pages is stored
 pub open10 : Reader

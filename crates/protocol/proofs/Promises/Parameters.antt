@@ -1,15 +1,17 @@
 -- Which bytes a command is read from: its code, then its parameters, page, N, start and count two bytes each high byte first, other parameters one byte,
 -- passwords and addresses four. Any other length is a misfit.
 use mathlib.Core.Bool.{Bool, true}
+use mathlib.Core.Logic.{_↔_}
 use mathlib.Core.Path.{_≡_, refl, sym, ap, _∙_, subst}
 use mathlib.Core.List.{List, [], _∷_}
 use Prim.Native.Nat.{ℕ, _+_, _*_}
 use native.Mathlib.Omega.{arith}
 use lib.Dec.{T}
 use lib.ListN.{length, getD, take, drop, length-take, length-drop}
+use borrow.Author.Tests.{eqb-true, eq-eqb}
 use Rattle.protocol.specs.Numbers.{fourBytes, commandPacket}
-use Rattle.protocol.specs.Bytes.{byteAt, wordAt}
-use Rattle.protocol.specs.Packet.{packet, lengthOf, accepts, rightAt}
+use Rattle.protocol.specs.Bytes.{byteAt, wordAt, two, total}
+use Rattle.protocol.specs.Packet.{packet, lengthOf, sumOf, accepts, rightAt}
 use Rattle.protocol.specs.Commands.{readSysPara, verifyPassword, handShake, searchFor, store, loadChar, upChar, downChar, deletChar, empty, setSysPara, setPassword, setAddress, writeNotepad, readNotepad, templeteNum, readIndexTable, Command, free, barred, Entry, commands, rowOf, command, orderAs, orderOf}
 use Rattle.protocol.specs.Step.{Heard, order, hearAs, hear}
 use Rattle.protocol.proofs.Laws.Lists.{from}
@@ -93,14 +95,25 @@ asked-by a content c h t e = heard-packet a commandPacket content h t ∙ ap ord
 
 -- ---- a run that asks for ReadSysPara
 
--- the run asks the reader of the address a for ReadSysPara: its first packet is whole, with length field 3, that address, identifier 1, a right sum, and the code 0Fh
+-- the run asks the reader of the address a for ReadSysPara: its first packet is whole, with length field 3, that address, identifier 1, the code 0Fh, and the sum of
+-- 01h, 00h, 03h and 0Fh
 pub record AsksParameters (a s : List ℕ) : Type 0 where
   pub place : ℕ
   pub whole : WholeAt s place 3
   pub address : take 4 (drop (place + 2) s) ≡ a
   pub identifier : getD s (place + 6) 0 ≡ 1
   pub code : getD s (place + 9) 0 ≡ 0x0f
-  pub sum : rightAt s place 3 ≡ true
+  pub sum : getD s (place + 10) 0 * 256 + getD s (place + 11) 0 ≡ 0x13
+
+-- that is the right sum
+sum-right : (s : List ℕ) (p : ℕ) → getD s (p + 6) 0 ≡ 1 → contentOf s p 3 ≡ 0x0f ∷ [] → (rightAt s p 3 ≡ true) ↔ (getD s (p + 10) 0 * 256 + getD s (p + 11) 0 ≡ 0x13)
+unfolding wordAt sumOf two total
+sum-right s p i c =
+    let at : p + 7 + 3 ≡ p + 10 = omega arith in
+    let next : p + 10 + 1 ≡ p + 11 = omega arith in
+    let word : wordAt s (p + 7 + 3) ≡ getD s (p + 10) 0 * 256 + getD s (p + 11) 0 = rw (at, next) refl in
+    let sum : sumOf (getD s (p + 6) 0) (contentOf s p 3) ≡ 0x13 = rw (i, c) refl in
+    (λ e. sym word ∙ eqb-true (wordAt s (p + 7 + 3)) (sumOf (getD s (p + 6) 0) (contentOf s p 3)) e ∙ sum, λ e. eq-eqb (wordAt s (p + 7 + 3)) (sumOf (getD s (p + 6) 0) (contentOf s p 3)) (word ∙ e ∙ sym sum))
 
 pub asks-parameters : (a s : List ℕ) → hear a s ≡ order (command (free readSysPara)) → AsksParameters a s
 asks-parameters a s e = go (hear a s) (hears a s) e
@@ -120,14 +133,14 @@ asks-parameters a s e = go (hear a s) (hears a s) e
           address = b;
           identifier = i;
           code = sym (first-content s p n w) ∙ ap (λ (c : List ℕ). getD c 0 0) (only .1);
-          sum = rw three at (only .0);
+          sum = sum-right s p i (ap (contentOf s p) (sym three) ∙ only .1) .0 (rw three at (only .0));
         }
 
 -- and such a run does
 pub parameters-asked : (a s : List ℕ) → AsksParameters a s → hear a s ≡ order (command (free readSysPara))
 parameters-asked a s k =
     let content : contentOf s (k .place) 3 ≡ 0x0f ∷ [] = ap (take 1) (from s (k .place + 9) (omega (arith, k .whole .inside))) ∙ ap (λ (b : ℕ). b ∷ []) (k .code) in
-    heard (ordered (k .whole) (k .address) (k .identifier)) ∙ rw (k .sum, content) (ap order (parameters .parameters-read))
+    heard (ordered (k .whole) (k .address) (k .identifier)) ∙ rw (sum-right s (k .place) (k .identifier) content .1 (k .sum), content) (ap order (parameters .parameters-read))
 
 -- its reader's address has four bytes
 pub four-bytes : {a s : List ℕ} → AsksParameters a s → length a ≡ 4
