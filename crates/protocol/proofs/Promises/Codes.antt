@@ -61,6 +61,7 @@ unfolding rowOf
 no-row [] k h = refl
 no-row (e ∷ es) k h = rw (ne-eqb k (e .code) (h .0)) (no-row es k (h .1))
 
+-- a row, whose length field is n
 abbrev Has : ℕ → Known → Type 0
 Has n none = ⊥
 Has n (some e) = e .len ≡ n
@@ -98,7 +99,7 @@ module _ (σ : Shape) (r : Reader) (s : List ℕ) (lent : Lent) (f : T (legal σ
   length-fixed =
       (fixed 0x04 8 refl, (fixed 0x06 6 refl, (fixed 0x07 6 refl, (fixed 0x08 4 refl, (fixed 0x09 4 refl, (fixed 0x0c 7 refl, (fixed 0x0d 3 refl, (fixed 0x0e 5 refl, (fixed 0x0f 3 refl, (fixed 0x12 7 refl, (fixed 0x13 7 refl, (fixed 0x15 7 refl, (fixed 0x18 36 refl, (fixed 0x19 4 refl, (fixed 0x1d 3 refl, (fixed 0x1f 4 refl, (fixed 0x40 3 refl, tt)))))))))))))))))
 
-  -- the code's own length, and the reader is locked: 21h, but for 0Fh, 13h and 40h
+  -- the code's own length, but the reader is locked: 21h, save for 0Fh, 13h and 40h
   abbrev LockedOut : ℕ → ℕ → Type 0
   LockedOut k m = getD s (p + 9) 0 ≡ k → n ≡ m → k ≢ 0x0f → k ≢ 0x13 → k ≢ 0x40 → locked (r .plain) ≡ true → Says (rested r) 0x21 s lent (callOf σ r s lent)
 

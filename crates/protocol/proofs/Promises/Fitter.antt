@@ -74,6 +74,7 @@ found : (r : Reader) → length (r .plain .address) ≡ 4 → findOf (asking r) 
 unfolding packet two sumOf total accepts isIdentifier limit
 found r four = packet-reads (r .plain .address) 0x01 (0x0f ∷ []) four tt .found
 
+-- all twelve are used, and the reply is 28 bytes
 pub record Sees (r : Reader) (lent : Lent) (e : Ended) : Type 0 where
   pub used : e .told .used ≡ 12
   pub long : e .told .length ≡ 28

@@ -113,7 +113,7 @@ sum-right s p i c =
     let next : p + 10 + 1 ≡ p + 11 = omega arith in
     let word : wordAt s (p + 7 + 3) ≡ getD s (p + 10) 0 * 256 + getD s (p + 11) 0 = rw (at, next) refl in
     let sum : sumOf (getD s (p + 6) 0) (contentOf s p 3) ≡ 0x13 = rw (i, c) refl in
-    (λ e. sym word ∙ eqb-true (wordAt s (p + 7 + 3)) (sumOf (getD s (p + 6) 0) (contentOf s p 3)) e ∙ sum, λ e. eq-eqb (wordAt s (p + 7 + 3)) (sumOf (getD s (p + 6) 0) (contentOf s p 3)) (word ∙ e ∙ sym sum))
+    (λ e. sym word ∙ eqb-true _ _ e ∙ sum, λ e. eq-eqb _ _ (word ∙ e ∙ sym sum))
 
 pub asks-parameters : (a s : List ℕ) → hear a s ≡ order (command (free readSysPara)) → AsksParameters a s
 asks-parameters a s e = go (hear a s) (hears a s) e
