@@ -82,8 +82,8 @@
  *     In versions 0.1 to 0.8 a locked reader answered ReadSysPara 21h; today it carries it out. Functions, structs and all that is stored
  *     are those of 0.8: a board that has that version links with the new archives, and brings nothing over. From then on sensor type,
  *     level and address, as they were stored, are read without the password, so they are no place for a secret. A host that took this
- *     21h for the sign of a lock must send another command, such as TempleteNum, which is 21h in every version. A board looks at
- *     password and verified mark in the settings.
+ *     21h for the sign of a lock must send another command, such as TempleteNum, which a locked reader of every version answers 21h. A
+ *     board looks at password and verified mark in the settings.
  */
 #ifndef BYSTRODOL_H
 #define BYSTRODOL_H
