@@ -206,6 +206,10 @@ static inline uint8_t bit_of(size_t page) { return (uint8_t)(1u << page % 8); }
 
 #define TWO(number) (uint8_t)((number) >> 8), (uint8_t)(number)
 
+/* Numbers of pages, about those where bytes, index pages and the library end. */
+static const size_t capacities[] = {1, 8, 9, 64, 255, 256, 257, 300, 605, 999, 1000};
+enum { CAPACITIES = sizeof capacities / sizeof *capacities };
+
 /* A reader with both buffers filled and every page stored. */
 static inline void set_up_stored(size_t pages) {
     set_up_pages(pages);
@@ -242,6 +246,17 @@ static inline void wipe_what_was(int buffer) {
     memset(part_was(buffer), 0, BYSTRODOL_PAGE_BYTES);
     *mark_of(&was.line.settings, buffer) = 0;
     *origin_of(&was.line.settings, buffer) = BYSTRODOL_NO_PAGE;
+}
+
+/* A transfer into a buffer is open, so many bytes of it got; and is ended in the area as it was. */
+static inline void open_transfer(int buffer, uint16_t got) {
+    *mark_of(&area.line.settings, buffer) = 0;
+    area.line.settings.transfer = number_of(buffer), area.line.settings.got = got;
+}
+
+static inline void end_what_was(int buffer) {
+    wipe_what_was(buffer);
+    was.line.settings.transfer = 0, was.line.settings.got = 0;
 }
 
 /* Store to a vacant page puts the buffer there, and sets the bit; the page is the buffer's origin. */

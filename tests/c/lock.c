@@ -56,23 +56,27 @@ static void lock_by(size_t place) {
     else memset(area.line.settings.password, PASSWORD, 4);
 }
 
-/* Whatever a barred command asks for, the password in force and the reader's own address among it, of filled buffers and of others: 21h, before the row's own tests. */
+/* A barred command whose parameters are all this byte, to readers with filled buffers and without. */
+static void is_barred(uint8_t command, size_t length, uint8_t asked) {
+    const size_t pages = asked == 1 ? 258 : 10; /* so that page 0101h is there */
+    uint8_t content[34];
+    memset(content, asked, sizeof content);
+    content[0] = command;
+    for (size_t place = 0; place <= 4; place++)
+        for (int filled = 0; filled < 2; filled++) {
+            if (filled) set_up_stored(pages);
+            else set_up_pages(pages);
+            lock_by(place);
+            send(BYSTRODOL_PACKET_COMMAND, content, length);
+            is_said("a barred command", command, BYSTRODOL_CODE_PASSWORD_FIRST);
+        }
+}
+
+/* Whatever it asks for, the password in force and the reader's own address among it: 21h, before the row's own tests. */
 static void barred(void) {
     static const uint8_t asked[] = {0, 1, 3, 4, PASSWORD, 6, 16, 0xFF};
     for (size_t i = 0; i < COMMANDS; i++)
-        for (size_t j = 0; j < sizeof asked && !commands[i].is_open; j++)
-            for (size_t place = 0; place <= 4; place++)
-                for (int filled = 0; filled < 2; filled++) {
-                    const size_t pages = asked[j] == 1 ? 258 : 10; /* so that page 0101h is there */
-                    uint8_t content[34];
-                    memset(content, asked[j], sizeof content);
-                    content[0] = commands[i].command;
-                    if (filled) set_up_stored(pages);
-                    else set_up_pages(pages);
-                    lock_by(place);
-                    send(BYSTRODOL_PACKET_COMMAND, content, commands[i].length);
-                    is_said("a barred command", content[0], BYSTRODOL_CODE_PASSWORD_FIRST);
-                }
+        for (size_t j = 0; j < sizeof asked && !commands[i].is_open; j++) is_barred(commands[i].command, commands[i].length, asked[j]);
 }
 
 /* Each byte of a password counts, at its place: any other password leaves the reader locked. SetPwd locks it, though the verified mark was set without a password. */

@@ -8,9 +8,6 @@
 #include "bystrodol.h"
 #include "area.h"
 
-static const size_t sizes[] = {1, 8, 9, 64, 255, 256, 257, 605, 999, 1000};
-enum { SIZES = sizeof sizes / sizeof *sizes };
-
 static uint8_t status_of(int state) { return (uint8_t)(state == LOCKED ? 0 : state == GIVEN ? 4 + 2 * found : 2 * found); }
 
 /* A ReadSysPara to this address is the run. */
@@ -212,17 +209,6 @@ static void refusals(void) {
     refuses("ReadSysPara, a transfer of a locked reader", 1, BYSTRODOL_BAD_SETTING);
 }
 
-/* A transfer into a buffer is open, and a call ends it. */
-static void open_transfer(int buffer, uint16_t got) {
-    *mark_of(&area.line.settings, buffer) = 0;
-    area.line.settings.transfer = number_of(buffer), area.line.settings.got = got;
-}
-
-static void end_what_was(int buffer) {
-    wipe_what_was(buffer);
-    was.line.settings.transfer = 0, was.line.settings.got = 0;
-}
-
 /* It ends an open transfer, which only a reader that is not locked can have, and then tells the same. */
 static void transfers(void) {
     for (int buffer = BUFFER1; buffer <= BUFFER2; buffer++)
@@ -331,7 +317,7 @@ static void two_pieces(void) {
 
 static void checks(void) {
     examples();
-    for (size_t i = 0; i < SIZES; i++) mixes(sizes[i]), any_parameters(sizes[i]), hidden(sizes[i]);
+    for (size_t i = 0; i < CAPACITIES; i++) mixes(capacities[i]), any_parameters(capacities[i]), hidden(capacities[i]);
     packet_lengths();
     wrong_sums();
     other_runs();

@@ -102,8 +102,7 @@ static void bad_settings(void) {
 
 /* Every bit of the index. */
 static void bad_bits(void) {
-    static const size_t capacities[] = {1, 8, 9, 64, 255, 256, 257, 300, 605, 999, 1000};
-    for (size_t i = 0; i < sizeof capacities / sizeof *capacities; i++)
+    for (size_t i = 0; i < CAPACITIES; i++)
         for (size_t p = 0; p < 8 * BYSTRODOL_INDEX_BYTES; p++) {
             set_up_pages(capacities[i]);
             parts[INDEX][p / 8] = (uint8_t)(1u << p % 8);
@@ -193,10 +192,9 @@ static void is_given(size_t pages, size_t page) {
 /* The command ends a transfer into the other buffer first; and a buffer that is not filled is told before a page that is stored. */
 static void ends_transfer(void) {
     set_up_stored(10);
-    area.line.settings.filled2 = 0, area.line.settings.transfer = 2, area.line.settings.got = 128;
+    open_transfer(BUFFER2, 128);
     send_store(BUFFER1, 4);
-    was.line.settings.transfer = 0, was.line.settings.got = 0;
-    memset(part_was(BUFFER2), 0, BYSTRODOL_PAGE_BYTES);
+    end_what_was(BUFFER2);
     is_said("Store to a stored page, in a transfer", 4, BYSTRODOL_CODE_PAGE_TAKEN);
     send_store(BUFFER2, 4);
     is_said("Store to a stored page, not filled", 4, BYSTRODOL_CODE_NOTHING_THERE);

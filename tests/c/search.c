@@ -8,9 +8,6 @@
 #include "bystrodol.h"
 #include "area.h"
 
-static const size_t sizes[] = {1, 8, 9, 64, 255, 256, 257, 605, 999, 1000};
-enum { SIZES = sizeof sizes / sizeof *sizes };
-
 static void fill(uint16_t *numbers, size_t n, uint16_t number) {
     for (size_t i = 0; i < n; i++) numbers[i] = number;
 }
@@ -283,13 +280,11 @@ static void transfers(void) {
         for (int way = 0; way < 3; way++) {
             const uint8_t own = number_of(buffer), search[] = {BYSTRODOL_COMMAND_SEARCH, way ? (uint8_t)(3 - own) : own, 0, 2, 0, 3};
             set_up_search(10);
-            *mark_of(&area.line.settings, buffer) = 0;
-            area.line.settings.transfer = own, area.line.settings.got = 128;
+            open_transfer(buffer, 128);
             lengths[RUN] = bystrodol_build(0xFFFFFFFF, BYSTRODOL_PACKET_COMMAND, search, sizeof search, parts[RUN], rooms[RUN]);
             if (way == 2) parts[RUN][lengths[RUN] - 1]++;
             call();
-            wipe_what_was(buffer);
-            was.line.settings.transfer = 0, was.line.settings.got = 0;
+            end_what_was(buffer);
             if (way == 0) is_said("Search by the transfer's buffer", own, BYSTRODOL_CODE_NOTHING_THERE);
             if (way == 1) is_found("Search in a transfer", own, 2);
             if (way == 2) is_said("Search with a wrong sum in a transfer", own, BYSTRODOL_CODE_BAD_PACKET);
@@ -451,13 +446,13 @@ static void checks(void) {
     four_pages();
     numbers();
     levels();
-    for (size_t i = 0; i < SIZES; i++) {
-        const size_t pages[] = {0, sizes[i] / 2, sizes[i] - 1};
-        ranges(sizes[i]);
-        any_scores(sizes[i]);
-        other_codes(sizes[i]);
-        bad_lengths(sizes[i]);
-        for (size_t j = 0; j < 3; j++) one_page(sizes[i], pages[j]), vacant_page(sizes[i], pages[j]);
+    for (size_t i = 0; i < CAPACITIES; i++) {
+        const size_t pages[] = {0, capacities[i] / 2, capacities[i] - 1};
+        ranges(capacities[i]);
+        any_scores(capacities[i]);
+        other_codes(capacities[i]);
+        bad_lengths(capacities[i]);
+        for (size_t j = 0; j < 3; j++) one_page(capacities[i], pages[j]), vacant_page(capacities[i], pages[j]);
     }
     for (size_t page = 0; page < 300; page++) one_page(300, page);
     buffers();

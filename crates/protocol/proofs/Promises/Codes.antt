@@ -11,7 +11,7 @@ use borrow.Author.Tests.{ne-eqb}
 use lib.ListN.{getD}
 use Rattle.protocol.specs.Packet.{contentAt, rightAt}
 use Rattle.protocol.specs.Reader.{Reader, capacity, locked}
-use Rattle.protocol.specs.Commands.{Entry, commands, Known, none, some, rowOf}
+use Rattle.protocol.specs.Commands.{Entry, commands, none, some, rowOf}
 use Rattle.protocol.specs.Step.{rested}
 use Rattle.protocol.specs.Call.{Shape, Lent, fitLent, legal, callOf}
 use Rattle.protocol.proofs.Promises.Told.{Says}
@@ -50,6 +50,10 @@ abbrev pub Each : (ℕ → ℕ → Type 0) → List (ℕ × ℕ) → Type 0
 Each P [] = Unit {0}
 Each P (c ∷ cs) = P (c .0) (c .1) × Each P cs
 
+each : {P Q : ℕ → ℕ → Type 0} → ((k m : ℕ) → P k m → Q k m) → (cs : List (ℕ × ℕ)) → Each P cs → Each Q cs
+each f [] h = tt
+each f (c ∷ cs) h = (f (c .0) (c .1) (h .0), each f cs (h .1))
+
 -- ---- the definition's rows
 
 rows : map (λ (e : Entry). (e .code, e .len)) commands ≡ table
@@ -61,17 +65,14 @@ unfolding rowOf
 no-row [] k h = refl
 no-row (e ∷ es) k h = rw (ne-eqb k (e .code) (h .0)) (no-row es k (h .1))
 
--- a row, whose length field is n
-abbrev Has : ℕ → Known → Type 0
-Has n none = ⊥
-Has n (some e) = e .len ≡ n
+-- the code k has a row, with the length field m
+abbrev HasRow : ℕ → ℕ → Type 0
+HasRow k m = (e : Entry) × ((rowOf commands k ≡ some e) × (e .len ≡ m))
 
-the-row : (k m : ℕ) → Has m (rowOf commands k) → (e : Entry) × ((rowOf commands k ≡ some e) × (e .len ≡ m))
-the-row k m h = go (rowOf commands k) refl h
-  where
-    go : (x : Known) → rowOf commands k ≡ x → Has m x → (e : Entry) × ((rowOf commands k ≡ some e) × (e .len ≡ m))
-    go none q z = absurd z
-    go (some e) q z = (e, (q, z))
+has-rows : Each HasRow table
+unfolding commands rowOf
+has-rows =
+    ((_, (refl, refl)), ((_, (refl, refl)), ((_, (refl, refl)), ((_, (refl, refl)), ((_, (refl, refl)), ((_, (refl, refl)), ((_, (refl, refl)), ((_, (refl, refl)), ((_, (refl, refl)), ((_, (refl, refl)), ((_, (refl, refl)), ((_, (refl, refl)), ((_, (refl, refl)), ((_, (refl, refl)), ((_, (refl, refl)), ((_, (refl, refl)), ((_, (refl, refl)), tt)))))))))))))))))
 
 module _ (σ : Shape) (r : Reader) (s : List ℕ) (lent : Lent) (f : T (legal σ r)) (u : T (fitLent (capacity (r .guarded)) lent)) (p n : ℕ) (o : Ordered r s p n) (right : rightAt s p n ≡ true) where
   whole : WholeAt s p n
@@ -89,28 +90,21 @@ module _ (σ : Shape) (r : Reader) (s : List ℕ) (lent : Lent) (f : T (legal σ
   abbrev Fixed : ℕ → ℕ → Type 0
   Fixed k m = getD s (p + 9) 0 ≡ k → n ≢ m → Says (rested r) 0x01 s lent (callOf σ r s lent)
 
-  fixed : (k m : ℕ) → Has m (rowOf commands k) → Fixed k m
-  fixed k m h e d =
-      let y = the-row k m h in
-      misfit-next σ r s lent f u p n o right (y .0) (ap (rowOf commands) (code-at ∙ e) ∙ y .1 .0) (λ c. d (sym (content-long s p n whole) ∙ sym c ∙ y .1 .1))
+  fixed : (k m : ℕ) → HasRow k m → Fixed k m
+  fixed k m (y, (row, len)) e d = misfit-next σ r s lent f u p n o right y (ap (rowOf commands) (code-at ∙ e) ∙ row) (λ c. d (sym (content-long s p n whole) ∙ sym c ∙ len))
 
   pub length-fixed : Each Fixed table
-  unfolding commands rowOf
-  length-fixed =
-      (fixed 0x04 8 refl, (fixed 0x06 6 refl, (fixed 0x07 6 refl, (fixed 0x08 4 refl, (fixed 0x09 4 refl, (fixed 0x0c 7 refl, (fixed 0x0d 3 refl, (fixed 0x0e 5 refl, (fixed 0x0f 3 refl, (fixed 0x12 7 refl, (fixed 0x13 7 refl, (fixed 0x15 7 refl, (fixed 0x18 36 refl, (fixed 0x19 4 refl, (fixed 0x1d 3 refl, (fixed 0x1f 4 refl, (fixed 0x40 3 refl, tt)))))))))))))))))
+  length-fixed = each fixed table has-rows
 
   -- the code's own length, but the reader is locked: 21h, save for 0Fh, 13h and 40h
   abbrev LockedOut : ℕ → ℕ → Type 0
   LockedOut k m = getD s (p + 9) 0 ≡ k → n ≡ m → k ≢ 0x0f → k ≢ 0x13 → k ≢ 0x40 → locked (r .plain) ≡ true → Says (rested r) 0x21 s lent (callOf σ r s lent)
 
-  bars : (k m : ℕ) → Has m (rowOf commands k) → LockedOut k m
-  bars k m h e q a b d l =
-      let y = the-row k m h in
+  bars : (k m : ℕ) → HasRow k m → LockedOut k m
+  bars k m (y, (row, len)) e q a b d l =
       let is : getD (contentAt s p n) 0 0 ≡ k = code-at ∙ e in
-      locked-next σ r s lent f u p n o right (y .0) (ap (rowOf commands) is ∙ y .1 .0) (y .1 .1 ∙ sym q ∙ sym (content-long s p n whole))
+      locked-next σ r s lent f u p n o right y (ap (rowOf commands) is ∙ row) (len ∙ sym q ∙ sym (content-long s p n whole))
       (λ c. a (sym is ∙ c)) (λ c. b (sym is ∙ c)) (λ c. d (sym is ∙ c)) l
 
   pub locked-codes : Each LockedOut table
-  unfolding commands rowOf
-  locked-codes =
-      (bars 0x04 8 refl, (bars 0x06 6 refl, (bars 0x07 6 refl, (bars 0x08 4 refl, (bars 0x09 4 refl, (bars 0x0c 7 refl, (bars 0x0d 3 refl, (bars 0x0e 5 refl, (bars 0x0f 3 refl, (bars 0x12 7 refl, (bars 0x13 7 refl, (bars 0x15 7 refl, (bars 0x18 36 refl, (bars 0x19 4 refl, (bars 0x1d 3 refl, (bars 0x1f 4 refl, (bars 0x40 3 refl, tt)))))))))))))))))
+  locked-codes = each bars table has-rows
