@@ -56,7 +56,7 @@ sixteen v a = simp length-append (omega arith)
 
 free-fits : (v : Public) → length (v .plain .address) ≡ fourBytes → (c : Free) → length (acknowledge (freeRule v c .plain .address) (freeRule v c .code) (freeRule v c .bytes)) ≤ replyRoom
 unfolding freeRule withMark
-free-fits v a readSysPara = omega (arith, length-acknowledge (v .plain .address) done (parametersOf v) a, sixteen v a)
+free-fits v a readSysPara = omega (arith, length-acknowledge (v .plain .address) (freeRule v readSysPara .code) (parametersOf v) a, sixteen v a)
 free-fits v a (verifyPassword w) = omega (arith, length-acknowledge (v .plain .address) (freeRule v (verifyPassword w) .code) [] a)
 free-fits v a handShake = omega (arith, length-acknowledge (v .plain .address) done [] a)
 
