@@ -267,8 +267,7 @@ struct bystrodol_settings {
 };
 
 /*
- * A receiver, 270 bytes: the bytes that came and are not dealt with yet, at the front of held. Between held and count lies one
- * byte of padding, at offset 267; it means nothing, and a call may change it.
+ * A receiver, 270 bytes: the bytes that came and are not dealt with yet, at the front of held. There is no padding in it.
  *
  * All zeros is a receiver that holds nothing. Any bytes may lie in held; a count above 267 is refused with 3, until the line
  * switch or an empty receiver. After each call and line switch that is not refused, every byte of held from the count on is 0,
@@ -277,6 +276,7 @@ struct bystrodol_settings {
  */
 struct bystrodol_receiver {
     uint8_t held[BYSTRODOL_HELD_MOST];
+    uint8_t spare;  /* means nothing; 0 after each call and line switch that is not refused */
     uint16_t count; /* how many are held, 0 to 267; at most 266 after a call that is not refused */
 };
 

@@ -115,10 +115,7 @@ static inline void send(uint8_t identifier, const uint8_t *content, size_t lengt
     call();
 }
 
-/* The receiver's padding means nothing. */
 static inline size_t unchanged(void) {
-    size_t padding = offsetof(struct bystrodol_receiver, held) + BYSTRODOL_HELD_MOST;
-    ((uint8_t *)&was.line.receiver)[padding] = ((uint8_t *)&area.line.receiver)[padding];
     return differ((const uint8_t *)&area, (const uint8_t *)&was, extent());
 }
 

@@ -30,6 +30,7 @@ IS(BYSTRODOL_OLD_SETTINGS_BYTES, 20);
 
 STRUCT(bystrodol_receiver, 270, 2);
 AT(bystrodol_receiver, held, 0);
+AT(bystrodol_receiver, spare, 267);
 AT(bystrodol_receiver, count, 268);
 
 STRUCT(bystrodol_line, 294, 2);

@@ -63,6 +63,7 @@ static void holds(const char *name, size_t which, const struct reader *r, const 
     check_of(name, which, "the held count", h->count, count);
     check_of(name, which, "the held bytes", differ(h->held, bytes, count), count);
     check_of(name, which, "the cells behind", differ(h->held + count, zeros, MOST - count), MOST - count);
+    check_of(name, which, "the spare byte", h->spare, 0);
 }
 
 /* Two readers are the same, but for their receivers. */
@@ -72,11 +73,12 @@ static void is_same(const char *name, size_t which, const struct reader *a, cons
     check_of(name, which, "memory and reply room", differ((const uint8_t *)a + from, (const uint8_t *)b + from, length), length);
 }
 
-/* Nothing has changed, the cells of the receiver neither; its padding means nothing. */
+/* Nothing has changed, the receiver's bytes neither. */
 static void is_unchanged(const char *name, size_t which) {
     is_same(name, which, &reader, &was);
     check_of(name, which, "the held count", reader.line.receiver.count, was.line.receiver.count);
     check_of(name, which, "the receiver's cells", differ(reader.line.receiver.held, was.line.receiver.held, MOST), MOST);
+    check_of(name, which, "the receiver's spare byte", reader.line.receiver.spare, was.line.receiver.spare);
 }
 
 /* ---- runs */

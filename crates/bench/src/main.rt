@@ -60,8 +60,9 @@ fn answer(
             &piece[from..],
             reply,
         );
-        held = r.receiver;
-        current = r.settings;
+        let after = r.line;
+        held = after.receiver;
+        current = after.settings;
         let n = r.length;
         let is_written = io::write_all(STDOUT_FILENO, &reply[..n]);
         if !is_written {

@@ -3,6 +3,7 @@ ghost use mathlib.Core.Path.{_≡_};
 ghost use Rattle.protocol.specs.Receiver.{line};
 ghost use Rattle.protocol.specs.Records.{readerOf, lentOf, receivedOf};
 ghost use Rattle.bench.specs.Offer.{noScores, noThresholds, Offered, isLast};
+use protocol::Line;
 use protocol::Received;
 use protocol::Receiver;
 use protocol::Settings;
@@ -28,9 +29,9 @@ pub(crate) fn offer(
 {
     let scores = [0u16; PAGES];
     let thresholds = [0u16; numbers::LEVELS];
+    let line = Line { settings, receiver };
     receiver::receive(
-        receiver,
-        settings,
+        line,
         templates,
         index,
         notepad,

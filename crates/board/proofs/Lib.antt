@@ -1,4 +1,2 @@
-pub mod Storing
-pub mod Receiving
-pub mod FromC
-pub mod LinesFromC
+pub mod Lent
+pub mod Told

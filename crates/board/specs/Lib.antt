@@ -1,3 +1,1 @@
-pub mod Stored
-pub mod Storing
-pub mod Lines
+pub mod Lent

@@ -1,21 +1,20 @@
 // What the board's C firmware calls: four plain services, bringing over an index, fresh settings, and the whole reader with its settings and its receiver
 // lent.
 // include/bystrodol.h is the C face; the reader on whole runs is in the crate `step`.
-pub mod lines;
-pub mod stored;
-
 ghost use mathlib.Core.Path.{_≡_};
 ghost use mathlib.Core.List.{List};
 ghost use Prim.Native.Nat.{ℕ};
 ghost use Rattle.protocol.specs.BringOver.{bringOver};
 ghost use Rattle.protocol.specs.Services.{sumService, usedService, buildService, countService};
-ghost use Rattle.protocol.specs.Records.{lentOf, broughtOf};
-ghost use Rattle.board.specs.Stored.{storedReaderOf, storedFreshOf};
-ghost use Rattle.board.specs.Lines.{storedLineOf, storedReceiveOf, storedLineSwitchOf, storedReceivedOf, storedEmptiedOf, storedReceivedAt, storedEmptiedAt};
-use crate::lines::StoredLine;
-use crate::stored::StoredSettings;
+ghost use Rattle.protocol.specs.Call.{core};
+ghost use Rattle.protocol.specs.Receiver.{receiveOf, lineSwitchOf};
+ghost use Rattle.protocol.specs.Records.{readerOf, lineOf, freshOf, lentOf, receivedOf, emptiedOf, broughtOf};
+ghost use Rattle.board.specs.Lent.{receivedAt, emptiedAt};
 use library::index;
+use protocol::Line;
+use protocol::Settings;
 use protocol::numbers;
+use rules::settings;
 use wire::builder;
 use wire::bytes;
 use wire::finder;
@@ -83,7 +82,7 @@ pub extern "C" fn bystrodol_bring_over(old: &[u8], index: &mut [u8]) -> u8
 // A call of the receiver on a lent line.
 #[no_mangle]
 pub extern "C" fn bystrodol_receive(
-    line: &mut StoredLine,
+    line: &mut Line,
     templates: &mut [u8],
     index: &mut [u8],
     notepad: &mut [u8],
@@ -94,9 +93,9 @@ pub extern "C" fn bystrodol_receive(
     piece: &[u8],
     reply: &mut [u8],
 ) -> Taken
-    ensures { λ r. ⌜ storedReceivedOf (storedReceivedAt (now (line .exit)) r) (now (templates .exit)) (now (index .exit)) (now (notepad .exit)) (now (buffer1 .exit)) (now (buffer2 .exit)) (now (reply .exit)) ≡ storedReceiveOf (storedLineOf (now (line .entry)) (now (templates .entry)) (now (index .entry)) (now (notepad .entry)) (now (buffer1 .entry)) (now (buffer2 .entry))) (now (piece .entry)) (lentOf (now (scores .entry)) (now (thresholds .entry)) (now (reply .entry))) ⌝ }
+    ensures { λ r. ⌜ receivedOf (receivedAt (now (line .exit)) r) (now (templates .exit)) (now (index .exit)) (now (notepad .exit)) (now (buffer1 .exit)) (now (buffer2 .exit)) (now (reply .exit)) ≡ receiveOf core (lineOf (now (line .entry)) (now (templates .entry)) (now (index .entry)) (now (notepad .entry)) (now (buffer1 .entry)) (now (buffer2 .entry))) (now (piece .entry)) (lentOf (now (scores .entry)) (now (thresholds .entry)) (now (reply .entry))) ⌝ }
 {
-    let received = lines::receive(
+    let received = receiver::receive(
         *line,
         templates,
         index,
@@ -119,21 +118,21 @@ pub extern "C" fn bystrodol_receive(
 // A line switch on a lent line, which empties its receiver.
 #[no_mangle]
 pub extern "C" fn bystrodol_receiver_switch(
-    line: &mut StoredLine,
+    line: &mut Line,
     buffer1: &mut [u8],
     buffer2: &mut [u8],
 ) -> u8
-    ensures { λ r. ⌜ ((t i n : List ℕ) → storedEmptiedOf (storedEmptiedAt (now (line .exit)) r) t i n (now (buffer1 .exit)) (now (buffer2 .exit)) ≡ storedLineSwitchOf (storedLineOf (now (line .entry)) t i n (now (buffer1 .entry)) (now (buffer2 .entry)))) ⌝ }
+    ensures { λ r. ⌜ ((t i n : List ℕ) → emptiedOf (emptiedAt (now (line .exit)) r) t i n (now (buffer1 .exit)) (now (buffer2 .exit)) ≡ lineSwitchOf (lineOf (now (line .entry)) t i n (now (buffer1 .entry)) (now (buffer2 .entry)))) ⌝ }
 {
-    let emptied = lines::receiver_switch(*line, buffer1, buffer2);
+    let emptied = receiver::line_switch(*line, buffer1, buffer2);
     *line = emptied.line;
     emptied.refusal
 }
 
 // Fresh settings.
 #[no_mangle]
-pub extern "C" fn bystrodol_fresh() -> StoredSettings
-    ensures { λ r. ⌜ ((t i n b c : List ℕ) → storedReaderOf r t i n b c ≡ storedFreshOf t i n b c) ⌝ }
+pub extern "C" fn bystrodol_fresh() -> Settings
+    ensures { λ r. ⌜ ((t i n b c : List ℕ) → readerOf r t i n b c ≡ freshOf t i n b c) ⌝ }
 {
-    stored::fresh()
+    settings::fresh()
 }

@@ -2,14 +2,14 @@
 use mathlib.Core.List.{List, [], _∷_}
 use Prim.Native.Nat.{ℕ, _+_, _*_, _/_, _%_}
 use Rattle.protocol.specs.Bytes.{byteAt, wordAt}
-use Rattle.board.specs.declared.stored.StoredSettings.{StoredSettings}
-use Rattle.board.specs.declared.lines.StoredReceived.{StoredReceived}
+use Rattle.protocol.specs.declared.Settings.{Settings}
+use Rattle.protocol.specs.declared.Received.{Received}
 
 abbrev pub lengthAt : List ℕ → ℕ → ℕ
 lengthAt f i = wordAt f i * 65536 + wordAt f (i + 2)
 
 -- password, address, level, size code, baud factor, transfer, sensor type, bytes got, verified mark, both filled marks, found mark, both origins; a mark is any byte
-abbrev pub settingsOf : List ℕ → StoredSettings
+abbrev pub settingsOf : List ℕ → Settings
 settingsOf f =
     record {
       password = byteAt f 1 ∷ byteAt f 2 ∷ byteAt f 3 ∷ byteAt f 4 ∷ [];
@@ -33,7 +33,7 @@ abbrev pub wordOf : ℕ → List ℕ
 wordOf n = n / 256 ∷ n % 256 ∷ []
 
 -- the refusal, the bytes used or taken, the reply's length, and the settings
-abbrev pub headOf : StoredReceived → List ℕ
+abbrev pub headOf : Received → List ℕ
 headOf c =
     let s = c .line .settings in
     c .refusal ∷ c .taken / 16777216 % 256 ∷ c .taken / 65536 % 256 ∷ c .taken / 256 % 256 ∷ c .taken % 256

@@ -8,44 +8,40 @@ use lib.Dec.{eqb}
 use Rattle.protocol.specs.declared.Receiver.{Receiver}
 use Rattle.protocol.specs.BringOver.{Brought, bringOver}
 use Rattle.protocol.specs.Reader.{Reader, withLibrary, reader}
-use Rattle.protocol.specs.Call.{Lent}
-use Rattle.board.specs.Stored.{StoredReader, StoredEnd, storedFreshOf, storedCallOf, storedSwitchOf}
-use Rattle.board.specs.Lines.{MarkedLine, MarkedEnd, storedReceiveOf, storedLineSwitchOf}
+use Rattle.protocol.specs.Call.{core, Lent, Ended, callOf, switchOf}
+use Rattle.protocol.specs.Receiver.{Line, line, Handed, receiveOf, lineSwitchOf}
+use Rattle.protocol.specs.Records.{freshOf}
 
-abbrev pub withReceiver : Receiver → StoredEnd → MarkedEnd
-withReceiver x e = record { told = e .told; after = record { reader = e .after; receiver = x } }
+abbrev pub withReceiver : Receiver → Ended → Handed
+withReceiver x e = record { told = e .told; after = line (e .after) x }
 
-abbrev pub withRoom : List ℕ → MarkedEnd → MarkedEnd
+abbrev pub withRoom : List ℕ → Handed → Handed
 withRoom room e = record { told = record { refusal = e .told .refusal; used = e .told .used; length = e .told .length; room = room }; after = e .after }
 
 -- nothing used, nothing replied, and this reader
-abbrev pub unmoved : StoredReader → StoredEnd
-unmoved k = record { told = record { refusal = 0; used = 0; length = 0; room = [] }; after = k }
+abbrev pub unmoved : Reader → Ended
+unmoved r = record { told = record { refusal = 0; used = 0; length = 0; room = [] }; after = r }
 
 -- fresh settings in the place of the reader's own; its memory stays
-abbrev pub freshened : Reader → StoredReader
+abbrev pub freshened : Reader → Reader
 freshened r =
     let g = r .guarded in
-    storedFreshOf (g .templates) (g .index) (g .notepad) (g .buffer1 .bytes) (g .buffer2 .bytes)
+    freshOf (g .templates) (g .index) (g .notepad) (g .buffer1 .bytes) (g .buffer2 .bytes)
 
 -- the index as it was brought over; all else stays
-abbrev pub broughtIn : MarkedLine → Brought → MarkedEnd
+abbrev pub broughtIn : Line → Brought → Handed
 broughtIn k b =
-    let r = k .reader .reader in
+    let r = k .reader in
     record {
       told = record { refusal = b .refusal; used = 0; length = 0; room = [] };
-      after =
-          record {
-            reader = record { reader = reader (r .plain) (withLibrary (r .guarded .templates) (b .index) (r .guarded)); marks = k .reader .marks };
-            receiver = k .receiver;
-          };
+      after = line (reader (r .plain) (withLibrary (r .guarded .templates) (b .index) (r .guarded))) (k .receiver);
     }
 
-unfoldable pub onceOf : ℕ → MarkedLine → List ℕ → Lent → MarkedEnd
+unfoldable pub onceOf : ℕ → Line → List ℕ → Lent → Handed
 onceOf op k run lent =
-    cond (eqb op 0) (withReceiver (k .receiver) (storedCallOf (k .reader) run lent))
-    (cond (eqb op 1) (withRoom (lent .room) (withReceiver (k .receiver) (storedSwitchOf (k .reader))))
-    (cond (eqb op 2) (storedReceiveOf k run lent)
-    (cond (eqb op 3) (withRoom (lent .room) (storedLineSwitchOf k))
-    (cond (eqb op 4) (withRoom (lent .room) (withReceiver (k .receiver) (unmoved (freshened (k .reader .reader)))))
-    (withRoom (lent .room) (broughtIn k (bringOver run (k .reader .reader .guarded .index))))))))
+    cond (eqb op 0) (withReceiver (k .receiver) (callOf core (k .reader) run lent))
+    (cond (eqb op 1) (withRoom (lent .room) (withReceiver (k .receiver) (switchOf (k .reader))))
+    (cond (eqb op 2) (receiveOf core k run lent)
+    (cond (eqb op 3) (withRoom (lent .room) (lineSwitchOf k))
+    (cond (eqb op 4) (withRoom (lent .room) (withReceiver (k .receiver) (unmoved (freshened (k .reader)))))
+    (withRoom (lent .room) (broughtIn k (bringOver run (k .reader .guarded .index))))))))

@@ -4,8 +4,8 @@ ghost use Prim.Native.Nat.{_+_, _≤_};
 ghost use lib.ListN.{length};
 ghost use Rattle.protocol.specs.Bytes.{wordAt};
 ghost use Rattle.probe.specs.Frame.{lengthAt, settingsOf, wordOf, headOf};
-use board::lines::StoredReceived;
-use board::stored::StoredSettings;
+use protocol::Received;
+use protocol::Settings;
 use wire::bytes;
 
 // A number of two bytes.
@@ -25,11 +25,11 @@ pub(crate) fn length_at(head: &[u8], at: usize) -> usize
 }
 
 // The settings of a frame in, a mark as the byte that it is.
-pub(crate) fn settings_of(head: &[u8]) -> StoredSettings
+pub(crate) fn settings_of(head: &[u8]) -> Settings
     requires { ⌜ 25 ≤ length (now head) ⌝ }
     ensures { λ r. ⌜ r ≡ settingsOf (now (head .entry)) ⌝ }
 {
-    StoredSettings {
+    Settings {
         password: [head[1], head[2], head[3], head[4]],
         address: [head[5], head[6], head[7], head[8]],
         level: head[9],
@@ -55,7 +55,7 @@ pub(crate) fn word_of(n: u16) -> [u8; 2]
 }
 
 // The head of a frame out: the refusal, the bytes used or taken, the reply's length, and the settings.
-pub(crate) fn head_of(c: StoredReceived) -> [u8; 33]
+pub(crate) fn head_of(c: Received) -> [u8; 33]
     ensures { λ r. ⌜ r ≡ headOf c ⌝ }
 {
     let line = c.line;

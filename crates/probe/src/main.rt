@@ -4,13 +4,13 @@ mod frame;
 mod once;
 
 ghost use Prim.Native.Nat.{_≤_};
-use board::lines::StoredLine;
-use board::lines::StoredReceived;
-use board::stored::StoredSettings;
 use libc::STDERR_FILENO;
 use libc::STDIN_FILENO;
 use libc::STDOUT_FILENO;
+use protocol::Line;
+use protocol::Received;
 use protocol::Receiver;
+use protocol::Settings;
 use protocol::numbers;
 
 // The bytes of a frame in before its receiver and its memory.
@@ -124,7 +124,7 @@ fn send_receiver(op: u8, receiver: Receiver) -> bool {
 // Writes a frame out: its head, the receiver, and the memory.
 fn send_all(
     op: u8,
-    called: StoredReceived,
+    called: Received,
     templates: &[u8],
     index: &[u8],
     notepad: &[u8],
@@ -147,7 +147,7 @@ fn send_all(
 // The rest of a frame in, its call, and the frame out. It says whether all of it could be read and written.
 fn exchange(
     op: u8,
-    settings: StoredSettings,
+    settings: Settings,
     templates: &mut [u8],
     index: &mut [u8],
     notepad: &mut [u8],
@@ -179,11 +179,12 @@ fn exchange(
     }
     let receiver = Receiver {
         held: cells,
+        spare: 0,
         count: frame::word_at(&count, 0) as u16,
     };
     let called = once::once(
         op,
-        StoredLine { settings, receiver },
+        Line { settings, receiver },
         templates,
         index,
         notepad,
@@ -209,7 +210,7 @@ fn exchange(
 // The same, with room for k scores and l thresholds.
 fn exchange_with(
     op: u8,
-    settings: StoredSettings,
+    settings: Settings,
     templates: &mut [u8],
     index: &mut [u8],
     notepad: &mut [u8],

@@ -1,19 +1,18 @@
 // One call or one line switch, of the reader or of its receiver, fresh settings, or an index brought over, with the results that C gets.
 ghost use mathlib.Core.Path.{_≡_};
-ghost use Rattle.protocol.specs.Records.{lentOf};
-ghost use Rattle.board.specs.Lines.{storedLineOf, storedReceivedOf};
+ghost use Rattle.protocol.specs.Records.{lineOf, lentOf, receivedOf};
 ghost use Rattle.probe.specs.Once.{onceOf};
-use board::lines;
-use board::lines::StoredLine;
-use board::lines::StoredReceived;
-use board::stored;
 use library::index;
+use protocol::Line;
+use protocol::Received;
+use reader::call;
+use rules::settings;
 
 // 0 is a call and 1 a line switch, 2 a call of the receiver and 3 its line switch, 4 fresh settings; anything else brings the run over to the index. Only 2 and 3
 // touch the receiver.
 pub(crate) fn once(
     op: u8,
-    line: StoredLine,
+    line: Line,
     templates: &mut [u8],
     index: &mut [u8],
     notepad: &mut [u8],
@@ -23,13 +22,13 @@ pub(crate) fn once(
     thresholds: &[u16],
     run: &[u8],
     reply: &mut [u8],
-) -> StoredReceived
-    ensures { λ r. ⌜ storedReceivedOf r (now (templates .exit)) (now (index .exit)) (now (notepad .exit)) (now (buffer1 .exit)) (now (buffer2 .exit)) (now (reply .exit)) ≡ onceOf op (storedLineOf line (now (templates .entry)) (now (index .entry)) (now (notepad .entry)) (now (buffer1 .entry)) (now (buffer2 .entry))) (now (run .entry)) (lentOf (now (scores .entry)) (now (thresholds .entry)) (now (reply .entry))) ⌝ }
+) -> Received
+    ensures { λ r. ⌜ receivedOf r (now (templates .exit)) (now (index .exit)) (now (notepad .exit)) (now (buffer1 .exit)) (now (buffer2 .exit)) (now (reply .exit)) ≡ onceOf op (lineOf line (now (templates .entry)) (now (index .entry)) (now (notepad .entry)) (now (buffer1 .entry)) (now (buffer2 .entry))) (now (run .entry)) (lentOf (now (scores .entry)) (now (thresholds .entry)) (now (reply .entry))) ⌝ }
 {
     let settings = line.settings;
     let receiver = line.receiver;
     if op == 0 {
-        let called = stored::step(
+        let called = call::step(
             settings,
             templates,
             index,
@@ -42,8 +41,8 @@ pub(crate) fn once(
             reply,
         );
         let after = called.settings;
-        return StoredReceived {
-            line: StoredLine {
+        return Received {
+            line: Line {
                 settings: after,
                 receiver,
             },
@@ -53,10 +52,10 @@ pub(crate) fn once(
         };
     }
     if op == 1 {
-        let switched = stored::line_switch(settings, buffer1, buffer2);
+        let switched = call::line_switch(settings, buffer1, buffer2);
         let after = switched.settings;
-        return StoredReceived {
-            line: StoredLine {
+        return Received {
+            line: Line {
                 settings: after,
                 receiver,
             },
@@ -66,7 +65,7 @@ pub(crate) fn once(
         };
     }
     if op == 2 {
-        return lines::receive(
+        return receiver::receive(
             line,
             templates,
             index,
@@ -80,9 +79,9 @@ pub(crate) fn once(
         );
     }
     if op == 3 {
-        let emptied = lines::receiver_switch(line, buffer1, buffer2);
+        let emptied = receiver::line_switch(line, buffer1, buffer2);
         let after = emptied.line;
-        return StoredReceived {
+        return Received {
             line: after,
             refusal: emptied.refusal,
             taken: 0,
@@ -90,9 +89,9 @@ pub(crate) fn once(
         };
     }
     if op == 4 {
-        let fresh = stored::fresh();
-        return StoredReceived {
-            line: StoredLine {
+        let fresh = settings::fresh();
+        return Received {
+            line: Line {
                 settings: fresh,
                 receiver,
             },
@@ -101,7 +100,7 @@ pub(crate) fn once(
             length: 0,
         };
     }
-    StoredReceived {
+    Received {
         line,
         refusal: index::bring_over(run, index),
         taken: 0,

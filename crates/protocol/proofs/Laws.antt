@@ -1,4 +1,5 @@
 pub mod Logic
+pub mod Marks
 pub mod Lines
 pub mod Lists
 pub mod Bits

@@ -21,6 +21,7 @@ pub mod Settings
 pub mod Opens
 pub mod Switch
 pub mod StaysLegal
+pub mod Marks
 pub mod ReplyFits
 pub mod ValidCount
 pub mod Untouched

@@ -6,12 +6,21 @@ use lib.ListN.{length}
 use Rattle.protocol.specs.Numbers.{pageBytes, freshPassword, freshAddress, freshLevel, freshSize, freshBaud, freshSensor}
 use Rattle.protocol.specs.Bytes.{four, zeros, same}
 
+-- the four marks of a settings record as they lie: 0 is clear, 1 is set, and any other byte is not legal
+pub record Marks : Type 0 where
+  pub verified : ℕ
+  pub filled1 : ℕ
+  pub filled2 : ℕ
+  pub found : ℕ
+
 -- a transfer: none, or into a buffer (the second?) with the bytes got so far
 pub data Transfer : Type 0 where
   closed : Transfer
   opened : Bool → ℕ → Transfer
   -- two numbers of a settings record that name no buffer
   unfit : ℕ → ℕ → Transfer
+  -- any two numbers beside marks of which one is neither 0 nor 1; no legal reader has them, and no byte of the record is lost
+  odd : ℕ → ℕ → Marks → Transfer
 
 -- the settings, but for the filled marks, the origins and status bit 1
 pub record Plain : Type 0 where

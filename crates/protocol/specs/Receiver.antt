@@ -16,9 +16,9 @@ use Rattle.protocol.specs.Call.{Shape, fitLengths, fitChip, fitRoom, Len
 unfoldable pub bytesIn : Receiver → List ℕ
 bytesIn h = take (h .count) (h .held)
 
--- these bytes held, and zero in every cell behind them
+-- these bytes held, and zero in every cell behind them and in the spare byte
 unfoldable pub holding : List ℕ → Receiver
-holding s = record { held = lay 0 s (zeros holds); count = length s }
+holding s = record { held = lay 0 s (zeros holds); spare = 0; count = length s }
 
 -- a reader and its receiver
 pub record Line : Type 0 where

@@ -1,21 +1,23 @@
 -- From the code's records and lent memory to the reader and the outcomes of the definitions. Different records give different readers.
-use mathlib.Core.Bool.{Bool, true, false, cond}
+use mathlib.Core.Bool.{Bool, true, false, _&&_, cond}
 use mathlib.Core.List.{List, []}
 use Prim.Native.Nat.{ℕ, zero, suc}
-use lib.Dec.{eqb}
+use lib.Dec.{eqb, ltb}
 use Rattle.protocol.specs.declared.Settings.{Settings}
 use Rattle.protocol.specs.declared.Called.{Called}
 use Rattle.protocol.specs.declared.Switched.{Switched}
 use Rattle.protocol.specs.declared.Built.{Built}
+use Rattle.protocol.specs.declared.Line.{Line}
 use Rattle.protocol.specs.declared.Received.{Received}
 use Rattle.protocol.specs.declared.Emptied.{Emptied}
 use Rattle.protocol.specs.Numbers.{noPage}
 use Rattle.protocol.specs.Packet.{Made}
 use Rattle.protocol.specs.BringOver.{Brought}
-use Rattle.protocol.specs.Reader.{Transfer, closed, opened, unfit, Plain, Origin, noOrigin, fromPage, Buffer, Reader, settings, fresh, contents, reader}
+use Rattle.protocol.specs.Reader.{Marks, Transfer, closed, opened, unfit, odd, Plain, Origin, noOrigin, fromPage, Buffer, Reader, settings, fresh, contents, reader}
 use Rattle.protocol.specs.Search.{Chip}
 use Rattle.protocol.specs.Call.{Lent, Ended}
 use Rattle.protocol.specs.Receiver.{line, Handed}
+use Rattle.protocol.specs.Receiver as receivers
 
 -- the transfer of the settings' two numbers: the buffer's, and the bytes got so far; none is 0 and 0
 unfoldable pub transferOf : ℕ → ℕ → Transfer
@@ -25,9 +27,32 @@ transferOf (suc zero) k = opened false k
 transferOf (suc (suc zero)) k = opened true k
 transferOf (suc (suc (suc b))) k = unfit (suc (suc (suc b))) k
 
+-- ---- marks: 0 is clear and 1 is set; any other byte is a setting that is not legal
+
+unfoldable pub fitMark : ℕ → Bool
+fitMark m = ltb m 2
+
+unfoldable pub fitMarks : Marks → Bool
+fitMarks m = fitMark (m .verified) && fitMark (m .filled1) && fitMark (m .filled2) && fitMark (m .found)
+
+abbrev pub isSet : ℕ → Bool
+isSet m = eqb m 1
+
+abbrev pub markOf : Bool → ℕ
+markOf on = cond on 1 0
+
+abbrev pub marksOf : Settings → Marks
+marksOf s = record { verified = s .verified; filled1 = s .filled1; filled2 = s .filled2; found = s .found }
+
+-- the transfer of a record with these marks: where one is not fit, it is odd, which refusal 3 finds
+unfoldable pub transferBeside : Marks → ℕ → ℕ → Transfer
+transferBeside m b k = cond (fitMarks m) (transferOf b k) (odd b k m)
+
+-- ---- a reader
+
 abbrev pub plainOf : Settings → Plain
 plainOf s =
-    settings (s .password) (s .address) (s .level) (s .size) (s .baud) (s .sensor) (s .verified) (transferOf (s .transfer) (s .got))
+    settings (s .password) (s .address) (s .level) (s .size) (s .baud) (s .sensor) (isSet (s .verified)) (transferBeside (marksOf s) (s .transfer) (s .got))
 
 -- the origin of a settings' number: FFFFh is none
 unfoldable pub originOf : ℕ → Origin
@@ -40,7 +65,11 @@ buffer b f o = record { bytes = b; filled = f; origin = originOf o }
 -- settings, templates, index, notepad, both buffers
 abbrev pub readerOf : Settings → List ℕ → List ℕ → List ℕ → List ℕ → List ℕ → Reader
 readerOf s t i n b c =
-    reader (plainOf s) (contents t i n (buffer b (s .filled1) (s .origin1)) (buffer c (s .filled2) (s .origin2)) (s .found))
+    reader (plainOf s) (contents t i n (buffer b (isSet (s .filled1)) (s .origin1)) (buffer c (isSet (s .filled2)) (s .origin2)) (isSet (s .found)))
+
+-- a line: its settings and its receiver, and the lent memory
+abbrev pub lineOf : Line → List ℕ → List ℕ → List ℕ → List ℕ → List ℕ → receivers.Line
+lineOf x t i n b c = line (readerOf (x .settings) t i n b c) (x .receiver)
 
 -- what is lent anew at a call: scores and thresholds; and the reply room
 abbrev pub chipOf : List ℕ → List ℕ → Chip
@@ -67,7 +96,7 @@ abbrev pub receivedOf : Received → List ℕ → List ℕ → List ℕ → List
 receivedOf c t i n b d room =
     record {
       told = record { refusal = c .refusal; used = c .taken; length = c .length; room = room };
-      after = line (readerOf (c .settings) t i n b d) (c .receiver);
+      after = lineOf (c .line) t i n b d;
     }
 
 -- what a receiver's line switch returned, and the lent memory after it
@@ -75,7 +104,7 @@ abbrev pub emptiedOf : Emptied → List ℕ → List ℕ → List ℕ → List �
 emptiedOf s t i n b d =
     record {
       told = record { refusal = s .refusal; used = 0; length = 0; room = [] };
-      after = line (readerOf (s .settings) t i n b d) (s .receiver);
+      after = lineOf (s .line) t i n b d;
     }
 
 -- fresh settings have their filled marks and status bit 1 clear too, and no origins

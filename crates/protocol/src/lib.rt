@@ -19,7 +19,7 @@ pub enum Found {
 }
 
 // A reader's settings. The transfer is two numbers: its buffer, 1 or 2, and the bytes got so far; no transfer is 0 and 0. The origin of a buffer
-// is the number of a page, or FFFFh for none. Found is status bit 1: a Search found a page.
+// is the number of a page, or FFFFh for none. A mark is 0 or 1, and found is status bit 1: a Search found a page; any byte may lie there.
 #[repr(C)]
 pub struct Settings {
     pub password: [u8; 4],
@@ -30,10 +30,10 @@ pub struct Settings {
     pub transfer: u8,
     pub sensor: u16,
     pub got: u16,
-    pub verified: bool,
-    pub filled1: bool,
-    pub filled2: bool,
-    pub found: bool,
+    pub verified: u8,
+    pub filled1: u8,
+    pub filled2: u8,
+    pub found: u8,
     pub origin1: u16,
     pub origin2: u16,
 }
@@ -65,26 +65,31 @@ pub struct Built {
     pub length: usize,
 }
 
-// The bytes that are held between calls: the first `count` cells.
+// The bytes that are held between calls: the first `count` cells. The spare byte means nothing; every call that is not refused leaves it 0.
 #[repr(C)]
 pub struct Receiver {
     pub held: [u8; numbers::HOLDS],
+    pub spare: u8,
     pub count: u16,
 }
 
-// What a receiver's call returns: the receiver and the settings after it, the refusal or 0, the bytes taken of the piece, and the reply's
-// length.
-pub struct Received {
-    pub receiver: Receiver,
+// A line: the settings and the receiver.
+#[repr(C)]
+pub struct Line {
     pub settings: Settings,
+    pub receiver: Receiver,
+}
+
+// What a receiver's call returns: the line after it, the refusal or 0, the bytes taken of the piece, and the reply's length.
+pub struct Received {
+    pub line: Line,
     pub refusal: u8,
     pub taken: usize,
     pub length: usize,
 }
 
-// What a receiver's line switch returns: the receiver and the settings after it, and the refusal or 0.
+// What a receiver's line switch returns: the line after it, and the refusal or 0.
 pub struct Emptied {
-    pub receiver: Receiver,
-    pub settings: Settings,
+    pub line: Line,
     pub refusal: u8,
 }

@@ -1,5 +1,5 @@
 -- The buffers by number: what one that is changed, wiped or marked makes of the reader, and the tests before it.
-use mathlib.Core.Path.{_≡_, refl, ap}
+use mathlib.Core.Path.{_≡_, refl, sym, ap, _∙_}
 use mathlib.Core.Bool.{Bool, true, false, not, _||_, cond}
 use mathlib.Core.Logic.{_⊎_, inl, inr, ⊎-elim}
 use mathlib.Core.List.{List, _∷_}
@@ -16,10 +16,12 @@ use Rattle.protocol.specs.Reader as readers
 use Rattle.protocol.specs.Table.{isBuffer, Effect}
 use Rattle.protocol.specs.Step.{says, carry, carryAs}
 use Rattle.protocol.proofs.Laws.Logic.{not-true, not-false}
-use Rattle.protocol.specs.Records.{transferOf, originOf, plainOf, buffer, readerOf}
+use Rattle.protocol.proofs.Laws.Marks.{fit-mark, fit-filled1, fit-filled2, beside-fit}
+use Rattle.protocol.specs.Records.{fitMark, isSet, marksOf, transferOf, transferBeside, originOf, plainOf, buffer, readerOf}
 use Rattle.reader.specs.declared.answers.Answer.{Answer}
 use Rattle.reader.specs.Answers.{codeAlone, sent, saidOf}
-use Rattle.rules.specs.Settings.{withTransfer}
+use Rattle.rules.specs.Settings.{withTransfer, Marked}
+use Rattle.rules.proofs.Marks.{filled-fit}
 use Rattle.reader.specs.Buffers.{chosenOf, Buffers, buffers, changed, withFill, withHeld}
 use Rattle.reader.proofs.Laws.{chosen-long}
 
@@ -51,38 +53,39 @@ module _ (n : ℕ) (f : List ℕ → List ℕ) (b c x : List ℕ) where
   unfolding changed
   first-changed e g = rw (ne-eqb _ _ e, g) refl
 
-module _ (f : List ℕ → List ℕ) (t i n b c : List ℕ) (u v : Bool) (o q : ℕ) (z : Bool) where
-  held-at : (on : Bool) (a : ℕ) (w : Bool)
-      → contents t i n (buffer (cond w b (f b)) (cond w u on) (cond w o a)) (buffer (cond w (f c) c) (cond w on v) (cond w a q)) z
-      ≡ withBuffer w (buffer (f (cond w c b)) on a) (contents t i n (buffer b u o) (buffer c v q) z)
+module _ (f : List ℕ → List ℕ) (t i n b c : List ℕ) (u v o q : ℕ) (z : Bool) where
+  held-at : (on a : ℕ) (w : Bool)
+      → contents t i n (buffer (cond w b (f b)) (isSet (cond w u on)) (cond w o a)) (buffer (cond w (f c) c) (isSet (cond w on v)) (cond w a q)) z
+      ≡ withBuffer w (buffer (f (cond w c b)) (isSet on) a) (contents t i n (buffer b (isSet u) o) (buffer c (isSet v) q) z)
   unfolding withBuffer
   held-at on a true = refl
   held-at on a false = refl
 
-  same-at : (on : Bool) (a : ℕ) (w : Bool)
-      → contents t i n (buffer b (cond w u on) (cond w o a)) (buffer c (cond w on v) (cond w a q)) z ≡ withBuffer w (buffer (cond w c b) on a) (contents t i n (buffer b u o) (buffer c v q) z)
+  same-at : (on a : ℕ) (w : Bool)
+      → contents t i n (buffer b (isSet (cond w u on)) (cond w o a)) (buffer c (isSet (cond w on v)) (cond w a q)) z
+      ≡ withBuffer w (buffer (cond w c b) (isSet on) a) (contents t i n (buffer b (isSet u) o) (buffer c (isSet v) q) z)
   unfolding withBuffer
   same-at on a true = refl
   same-at on a false = refl
 
-  marked-at : (on w : Bool)
-      → contents t i n (buffer (cond w b (f b)) (cond w u on) o) (buffer (cond w (f c) c) (cond w on v) q) z
-      ≡ withBuffer w (buffer (f (cond w c b)) on (cond w q o)) (contents t i n (buffer b u o) (buffer c v q) z)
+  marked-at : (on : ℕ) (w : Bool)
+      → contents t i n (buffer (cond w b (f b)) (isSet (cond w u on)) o) (buffer (cond w (f c) c) (isSet (cond w on v)) q) z
+      ≡ withBuffer w (buffer (f (cond w c b)) (isSet on) (cond w q o)) (contents t i n (buffer b (isSet u) o) (buffer c (isSet v) q) z)
   unfolding withBuffer
   marked-at on true = refl
   marked-at on false = refl
 
   kept-at : (w : Bool)
-      → contents t i n (buffer (cond w b (f b)) u o) (buffer (cond w (f c) c) v q) z
-      ≡ withBuffer w (buffer (f (cond w c b)) (cond w v u) (cond w q o)) (contents t i n (buffer b u o) (buffer c v q) z)
+      → contents t i n (buffer (cond w b (f b)) (isSet u) o) (buffer (cond w (f c) c) (isSet v) q) z
+      ≡ withBuffer w (buffer (f (cond w c b)) (cond w (isSet v) (isSet u)) (cond w q o)) (contents t i n (buffer b (isSet u) o) (buffer c (isSet v) q) z)
   unfolding withBuffer
   kept-at true = refl
   kept-at false = refl
 
 -- neither changed, and the mark and the origin of one
-pub held : (k : ℕ) (on : Bool) (a : ℕ) (s : Settings) (t i n b c : List ℕ)
-    → readerOf (withHeld k on a s) t i n b c .guarded ≡ withBuffer (eqb k 2) (buffer (chosenOf k b c) on a) (readerOf s t i n b c .guarded)
-held k on a s t i n b c = same-at (λ x. x) t i n b c (s .filled1) (s .filled2) (s .origin1) (s .origin2) (s .found) on a (eqb k 2)
+pub held : (k on a : ℕ) (s : Settings) (t i n b c : List ℕ)
+    → readerOf (withHeld k on a s) t i n b c .guarded ≡ withBuffer (eqb k 2) (buffer (chosenOf k b c) (isSet on) a) (readerOf s t i n b c .guarded)
+held k on a s t i n b c = same-at (λ x. x) t i n b c (s .filled1) (s .filled2) (s .origin1) (s .origin2) (isSet (s .found)) on a (eqb k 2)
 
 module _ (k : ℕ) (f : List ℕ → List ℕ) (s : Settings) (t i n b c x y : List ℕ) (e : buffers x y ≡ changed k f b c) where
   first-is : x ≡ cond (eqb k 2) b (f b)
@@ -94,36 +97,49 @@ module _ (k : ℕ) (f : List ℕ → List ℕ) (s : Settings) (t i n b c x y : L
   second-is = ap (λ (p : Buffers). p .second) e
 
   -- and its mark set or cleared, and another origin
-  pub changed-held : (on : Bool) (a : ℕ)
-      → readerOf (withHeld k on a s) t i n x y .guarded ≡ withBuffer (eqb k 2) (buffer (f (chosenOf k b c)) on a) (readerOf s t i n b c .guarded)
-  changed-held on a = rw (first-is, second-is) (held-at f t i n b c (s .filled1) (s .filled2) (s .origin1) (s .origin2) (s .found) on a (eqb k 2))
+  pub changed-held : (on a : ℕ)
+      → readerOf (withHeld k on a s) t i n x y .guarded ≡ withBuffer (eqb k 2) (buffer (f (chosenOf k b c)) (isSet on) a) (readerOf s t i n b c .guarded)
+  changed-held on a = rw (first-is, second-is) (held-at f t i n b c (s .filled1) (s .filled2) (s .origin1) (s .origin2) (isSet (s .found)) on a (eqb k 2))
 
   -- and its mark set or cleared
-  pub changed-marked : (on : Bool)
+  pub changed-marked : (on : ℕ)
       → readerOf (withFill k on s) t i n x y .guarded
-      ≡ withBuffer (eqb k 2) (buffer (f (chosenOf k b c)) on (cond (eqb k 2) (s .origin2) (s .origin1))) (readerOf s t i n b c .guarded)
-  changed-marked on = rw (first-is, second-is) (marked-at f t i n b c (s .filled1) (s .filled2) (s .origin1) (s .origin2) (s .found) on (eqb k 2))
+      ≡ withBuffer (eqb k 2) (buffer (f (chosenOf k b c)) (isSet on) (cond (eqb k 2) (s .origin2) (s .origin1))) (readerOf s t i n b c .guarded)
+  changed-marked on = rw (first-is, second-is) (marked-at f t i n b c (s .filled1) (s .filled2) (s .origin1) (s .origin2) (isSet (s .found)) on (eqb k 2))
 
   -- and its mark as it was
   pub changed-kept : readerOf s t i n x y .guarded
-      ≡ withBuffer (eqb k 2) (buffer (f (chosenOf k b c)) (cond (eqb k 2) (s .filled2) (s .filled1)) (cond (eqb k 2) (s .origin2) (s .origin1))) (readerOf s t i n b c .guarded)
-  changed-kept = rw (first-is, second-is) (kept-at f t i n b c (s .filled1) (s .filled2) (s .origin1) (s .origin2) (s .found) (eqb k 2))
+      ≡ withBuffer (eqb k 2) (buffer (f (chosenOf k b c)) (cond (eqb k 2) (isSet (s .filled2)) (isSet (s .filled1))) (cond (eqb k 2) (s .origin2) (s .origin1))) (readerOf s t i n b c .guarded)
+  changed-kept = rw (first-is, second-is) (kept-at f t i n b c (s .filled1) (s .filled2) (s .origin1) (s .origin2) (isSet (s .found)) (eqb k 2))
+
+-- the marks of a record whose buffer is marked anew, and the transfer beside them
+pick : (w : Bool) (a b : ℕ) → fitMark a ≡ true → fitMark b ≡ true → fitMark (cond w a b) ≡ true
+pick true a b e f = e
+pick false a b e f = f
+
+pub held-fit : (k on a : ℕ) (s : Settings) → Marked s → fitMark on ≡ true → Marked (withHeld k on a s)
+held-fit k on a s e f =
+    filled-fit s e (cond (eqb k 2) (s .filled1) on) (cond (eqb k 2) on (s .filled2)) (pick (eqb k 2) (s .filled1) on (fit-filled1 (marksOf s) e) f)
+    (pick (eqb k 2) on (s .filled2) f (fit-filled2 (marksOf s) e))
+
+pub beside-held : (k on a : ℕ) (s : Settings) (w j : ℕ) → Marked s → fitMark on ≡ true → transferBeside (marksOf (withHeld k on a s)) w j ≡ transferBeside (marksOf s) w j
+beside-held k on a s w j e f = beside-fit (marksOf (withHeld k on a s)) w j (held-fit k on a s e f) ∙ sym (beside-fit (marksOf s) w j e)
 
 -- one of them wiped
 pub emptied-one : (k : ℕ) (s : Settings) (t i n b c x y : List ℕ) → buffers x y ≡ changed k (λ (z : List ℕ). zeros (length z)) b c → length b ≡ pageBytes
-    → length c ≡ pageBytes → readerOf (withHeld k false noPage s) t i n x y .guarded ≡ withBuffer (eqb k 2) emptied (readerOf s t i n b c .guarded)
+    → length c ≡ pageBytes → readerOf (withHeld k 0 noPage s) t i n x y .guarded ≡ withBuffer (eqb k 2) emptied (readerOf s t i n b c .guarded)
 unfolding emptied originOf
 emptied-one k s t i n b c x y e l m =
     let all : length (chosenOf k b c) ≡ pageBytes = chosen-long (eqb k 2) c b pageBytes m l in
-    rw all at (changed-held k (λ (z : List ℕ). zeros (length z)) s t i n b c x y e false noPage)
+    rw all at (changed-held k (λ (z : List ℕ). zeros (length z)) s t i n b c x y e 0 noPage)
 
 -- and the transfer moved
-pub wiped : (k w j : ℕ) (s o q : Settings) (t i n b c x y : List ℕ) → q ≡ withTransfer w j o → o ≡ withHeld k false noPage s
+pub wiped : (k w j : ℕ) (s o q : Settings) (t i n b c x y : List ℕ) → q ≡ withTransfer w j o → o ≡ withHeld k 0 noPage s → Marked s
     → buffers x y ≡ changed k (λ (z : List ℕ). zeros (length z)) b c → length b ≡ pageBytes → length c ≡ pageBytes
     → readerOf q t i n x y ≡ reader (readers.withTransfer (transferOf w j) (plainOf s)) (withBuffer (eqb k 2) emptied (readerOf s t i n b c .guarded))
 unfolding readers.withTransfer
-wiped k w j s o q t i n b c x y f g e l m =
-    rw (f, g) (ap (λ (z : Guarded). reader (readers.withTransfer (transferOf w j) (plainOf s)) z) (emptied-one k s t i n b c x y e l m))
+wiped k w j s o q t i n b c x y f g d e l m =
+    rw (f, g, beside-fit (marksOf (withHeld k 0 noPage s)) w j (held-fit k 0 noPage s d (fit-mark false))) (ap (λ (z : Guarded). reader (readers.withTransfer (transferOf w j) (plainOf s)) z) (emptied-one k s t i n b c x y e l m))
 
 -- ---- the tests that a command with a buffer starts with
 

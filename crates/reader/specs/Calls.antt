@@ -11,7 +11,7 @@ use Rattle.protocol.specs.Call.{core, libraryFits, buffersFit, chipFits, Ended,
 use Rattle.protocol.specs.declared.Settings.{Settings}
 use Rattle.protocol.specs.declared.Called.{Called}
 use Rattle.protocol.specs.declared.Switched.{Switched}
-use Rattle.rules.specs.Settings.{Legal}
+use Rattle.rules.specs.Settings.{Marked, Legal}
 use Rattle.reader.specs.Commands.{Fit, CommandNeeds}
 
 -- a whole packet at p, with length field n, lies within its run
@@ -42,6 +42,7 @@ pub record Placing (s : Settings) (b c x : List ℕ) : Type 0 where
   pub which : s .transfer ≤ 2
   pub room : s .got + length x ≤ pageBytes
   pub long : length x ≡ sizeOf (s .size)
+  pub marks : Marked s
 
 abbrev pub called : ℕ → ℕ → ℕ → Settings → Called
 called refusal used length s = record { settings = s; refusal = refusal; used = used; length = length }

@@ -13,6 +13,7 @@ use Rattle.protocol.specs.Table.{rule, freeRule, publicOf}
 use Rattle.protocol.specs.Step.{Said, carry, carryFree}
 use Rattle.protocol.specs.Records.{plainOf, readerOf, chipOf}
 use Rattle.rules.specs.Commands.{Admitted}
+use Rattle.rules.specs.Settings.{Marked}
 use Rattle.reader.specs.declared.answers.Answer.{Answer}
 use Rattle.reader.specs.Answers.{saidOf, Ready}
 
@@ -25,6 +26,7 @@ pub record Fit (s : Settings) (t i n b c : List ℕ) : Type 0 where
   pub buffer1 : length b ≡ pageBytes
   pub buffer2 : length c ≡ pageBytes
   pub size : s .size ≤ highestSize
+  pub marks : Marked s
 
 -- what `command` needs: fit memory, a score for each page, and a content of a code at least, no longer than a length field says
 pub record CommandNeeds (s : Settings) (t i n b c scores x : List ℕ) : Type 0 where

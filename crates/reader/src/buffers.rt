@@ -10,6 +10,7 @@ ghost use Rattle.protocol.specs.Commands.{upChar, downChar};
 ghost use Rattle.library.specs.Lent.{readPage};
 ghost use Rattle.reader.specs.Buffers.{chosenOf, buffers, changed, withFill, withHeld};
 ghost use Rattle.reader.specs.Commands.{Obeyed, ObeyedBuffers};
+ghost use Rattle.rules.specs.Settings.{Marked};
 use crate::answers;
 use crate::answers::Answer;
 use library::pages;
@@ -79,8 +80,8 @@ pub(crate) fn fill(n: u8, b: &mut [u8], c: &mut [u8], at: usize, src: &[u8])
     put_at(b, at, src);
 }
 
-// The settings with a buffer's filled mark set or clear.
-pub(crate) fn mark(settings: Settings, n: u8, on: bool) -> Settings
+// The settings with this as a buffer's filled mark.
+pub(crate) fn mark(settings: Settings, n: u8, on: u8) -> Settings
     ensures { λ r. ⌜ r ≡ withFill n on settings ⌝ }
 {
     if n == 2 {
@@ -90,7 +91,7 @@ pub(crate) fn mark(settings: Settings, n: u8, on: bool) -> Settings
 }
 
 // The settings with a buffer's filled mark and its origin.
-pub(crate) fn hold(settings: Settings, n: u8, on: bool, origin: u16) -> Settings
+pub(crate) fn hold(settings: Settings, n: u8, on: u8, origin: u16) -> Settings
     ensures { λ r. ⌜ r ≡ withHeld n on origin settings ⌝ }
 {
     let s = mark(settings, n, on);
@@ -118,7 +119,7 @@ pub(crate) fn up_char(settings: Settings, n: u8) -> Answer
 
 // DownChar (buffer).
 pub(crate) fn down_char(settings: Settings, buffer1: &mut [u8], buffer2: &mut [u8], n: u8) -> Answer
-    requires { ⌜ (length (now buffer1) ≡ pageBytes) × ((length (now buffer2) ≡ pageBytes) × (settings .size ≤ highestSize)) ⌝ }
+    requires { ⌜ (length (now buffer1) ≡ pageBytes) × ((length (now buffer2) ≡ pageBytes) × ((settings .size ≤ highestSize) × Marked settings)) ⌝ }
     ensures { λ r. ⌜ ObeyedBuffers r settings (downChar n) (now (buffer1 .entry)) (now (buffer2 .entry)) (now (buffer1 .exit)) (now (buffer2 .exit)) ⌝ }
 {
     let known = is_buffer(n);
@@ -126,6 +127,6 @@ pub(crate) fn down_char(settings: Settings, buffer1: &mut [u8], buffer2: &mut [u
         return answers::plain(codes::BAD_PACKET, settings);
     }
     wipe(n, buffer1, buffer2);
-    let s = hold(settings, n, false, numbers::NO_PAGE);
+    let s = hold(settings, n, 0, numbers::NO_PAGE);
     answers::plain(codes::DONE, settings::moved(s, n, 0))
 }

@@ -5,6 +5,7 @@ ghost use lib.ListN.{length, drop};
 ghost use Rattle.protocol.specs.Numbers.{fourBytes, highestSize};
 ghost use Rattle.protocol.specs.Commands.{verifyPassword, setPassword, setAddress};
 ghost use Rattle.reader.specs.Commands.{Obeyed, Freed};
+ghost use Rattle.rules.specs.Settings.{Marked};
 use crate::answers;
 use crate::answers::Answer;
 use crate::bytes;
@@ -14,7 +15,7 @@ use rules::settings;
 
 // SetPwd.
 pub(crate) fn set_password(settings: Settings, content: &[u8]) -> Answer
-    requires { ⌜ (length (now content) ≡ 1 + fourBytes) × (settings .size ≤ highestSize) ⌝ }
+    requires { ⌜ (length (now content) ≡ 1 + fourBytes) × ((settings .size ≤ highestSize) × Marked settings) ⌝ }
     ensures { λ r. ⌜ Obeyed r settings (setPassword (drop 1 (now (content .entry)))) ⌝ }
 {
     let p = bytes::four_at(content, 1);
@@ -23,16 +24,16 @@ pub(crate) fn set_password(settings: Settings, content: &[u8]) -> Answer
 
 // VfyPwd. All four bytes are compared.
 pub(crate) fn verify_password(settings: Settings, content: &[u8]) -> Answer
-    requires { ⌜ (length (now content) ≡ 1 + fourBytes) × (settings .size ≤ highestSize) ⌝ }
+    requires { ⌜ (length (now content) ≡ 1 + fourBytes) × ((settings .size ≤ highestSize) × Marked settings) ⌝ }
     ensures { λ r. ⌜ Freed r settings (verifyPassword (drop 1 (now (content .entry)))) ⌝ }
 {
     let p = bytes::four_at(content, 1);
     let q = settings.password;
     let right = wire::bytes::is_same(p, q);
     if right {
-        return answers::plain(codes::DONE, settings::marked(settings, true));
+        return answers::plain(codes::DONE, settings::marked(settings, 1));
     }
-    answers::plain(codes::WRONG_PASSWORD, settings::marked(settings, false))
+    answers::plain(codes::WRONG_PASSWORD, settings::marked(settings, 0))
 }
 
 // SetAdder. The reply carries the new address, since it is written with the settings after the command.

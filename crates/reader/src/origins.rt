@@ -7,7 +7,7 @@ ghost use Rattle.protocol.specs.Tests.{among};
 ghost use Rattle.protocol.specs.Reader.{isOneOf};
 ghost use Rattle.protocol.specs.Call.{fitOrigin};
 ghost use Rattle.protocol.specs.Records.{originOf};
-ghost use Rattle.rules.specs.Settings.{originsFit};
+ghost use Rattle.rules.specs.Settings.{Marked, originsFit};
 ghost use Rattle.reader.specs.Buffers.{ForgotOne, Forgot};
 use crate::buffers;
 use library::index;
@@ -33,8 +33,8 @@ pub(crate) fn are_fit(settings: Settings, index: &[u8], pages: usize) -> bool
     requires { ⌜ pages ≤ mostPages ⌝ }
     ensures { λ r. ⌜ r ≡ originsFit pages (now (index .entry)) settings ⌝ }
 {
-    let one = is_fit(index, pages, settings.origin1, settings.filled1);
-    let two = is_fit(index, pages, settings.origin2, settings.filled2);
+    let one = is_fit(index, pages, settings.origin1, settings.filled1 == 1);
+    let two = is_fit(index, pages, settings.origin2, settings.filled2 == 1);
     one & two
 }
 
@@ -62,7 +62,7 @@ fn forget_one(
     page: usize,
     n: usize,
 ) -> Settings
-    requires { ⌜ (length (now b) ≡ pageBytes) × ((length (now c) ≡ pageBytes) × ((page < 65536) × (n < 65536))) ⌝ }
+    requires { ⌜ (length (now b) ≡ pageBytes) × ((length (now c) ≡ pageBytes) × ((page < 65536) × ((n < 65536) × Marked settings))) ⌝ }
     ensures { λ r. ⌜ ForgotOne k page n r settings (now (b .exit)) (now (c .exit)) (now (b .entry)) (now (c .entry)) ⌝ }
 {
     let origin = settings::origin_of(k, settings.origin1, settings.origin2);
@@ -71,7 +71,7 @@ fn forget_one(
         return settings;
     }
     buffers::wipe(k, b, c);
-    buffers::hold(settings, k, false, numbers::NO_PAGE)
+    buffers::hold(settings, k, 0, numbers::NO_PAGE)
 }
 
 // Empties both buffers of which that holds.
@@ -82,7 +82,7 @@ pub(crate) fn forget(
     page: usize,
     n: usize,
 ) -> Settings
-    requires { ⌜ (length (now buffer1) ≡ pageBytes) × ((length (now buffer2) ≡ pageBytes) × ((page < 65536) × (n < 65536))) ⌝ }
+    requires { ⌜ (length (now buffer1) ≡ pageBytes) × ((length (now buffer2) ≡ pageBytes) × ((page < 65536) × ((n < 65536) × Marked settings))) ⌝ }
     ensures { λ r. ⌜ Forgot page n r settings (now (buffer1 .exit)) (now (buffer2 .exit)) (now (buffer1 .entry)) (now (buffer2 .entry)) ⌝ }
 {
     let s = forget_one(settings, buffer1, buffer2, 1, page, n);

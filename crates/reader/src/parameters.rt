@@ -120,7 +120,7 @@ pub(crate) fn read_parameters(settings: Settings, pages: usize) -> Answer
     requires { ⌜ settings .size ≤ highestSize ⌝ }
     ensures { λ r. ⌜ FreedPages r settings readSysPara pages ⌝ }
 {
-    let s = status(settings.verified, settings::shows_found(settings));
+    let s = status(settings.verified == 1, settings::shows_found(settings));
     let k = settings.sensor as usize;
     let l = bytes::wide(settings.level);
     let z = bytes::wide(settings.size);

@@ -5,6 +5,7 @@ ghost use lib.ListN.{length};
 ghost use Rattle.protocol.specs.Numbers.{indexBytes, mostPages, highestSize};
 ghost use Rattle.protocol.specs.Commands.{searchFor};
 ghost use Rattle.reader.specs.Commands.{ObeyedSearch};
+ghost use Rattle.rules.specs.Settings.{Marked};
 use crate::answers;
 use crate::answers::Answer;
 use crate::buffers;
@@ -12,6 +13,7 @@ use library::search;
 use protocol::Settings;
 use protocol::codes;
 use rules::settings;
+use wire::bytes;
 
 // Search (buffer, start, count). There are as many scores as pages.
 pub(crate) fn search_pages(
@@ -23,7 +25,7 @@ pub(crate) fn search_pages(
     start: usize,
     count: usize,
 ) -> Answer
-    requires { ⌜ (length (now index) ≡ indexBytes) × ((length (now scores) ≤ mostPages) × ((settings .size ≤ highestSize) × ((start < 65536) × (count < 65536)))) ⌝ }
+    requires { ⌜ (length (now index) ≡ indexBytes) × ((length (now scores) ≤ mostPages) × ((settings .size ≤ highestSize) × ((start < 65536) × ((count < 65536) × Marked settings)))) ⌝ }
     ensures { λ r. ⌜ ObeyedSearch r settings (searchFor n start count) (now (index .entry)) (now (scores .entry)) (now (thresholds .entry)) ⌝ }
 {
     let known = buffers::is_buffer(n);
@@ -39,5 +41,6 @@ pub(crate) fn search_pages(
     }
     let threshold = search::threshold_of(thresholds, settings.level);
     let m = search::best(index, scores, threshold, start as u16, count as u16);
-    answers::matched(m, settings::remembered(settings, m.found))
+    let found = bytes::flag(m.found);
+    answers::matched(m, settings::remembered(settings, found))
 }

@@ -10,6 +10,7 @@ ghost use Rattle.protocol.specs.Step.{ended, takeAs, takeIn};
 ghost use Rattle.protocol.specs.Records.{transferOf, readerOf};
 ghost use Rattle.reader.specs.Answers.{saidOf, Ready};
 ghost use Rattle.reader.specs.Calls.{Placing};
+ghost use Rattle.rules.specs.Settings.{Marked};
 use crate::answers;
 use crate::answers::Answer;
 use crate::buffers;
@@ -20,15 +21,15 @@ use rules::settings;
 
 // Ends an open transfer: its buffer is zeroed.
 pub(crate) fn end_transfer(settings: Settings, buffer1: &mut [u8], buffer2: &mut [u8]) -> Settings
-    requires { ⌜ (length (now buffer1) ≡ pageBytes) × ((length (now buffer2) ≡ pageBytes) × (settings .transfer ≤ 2)) ⌝ }
-    ensures { λ r. ⌜ ((t i m : List ℕ) → readerOf r t i m (now (buffer1 .exit)) (now (buffer2 .exit)) ≡ ended (readerOf settings t i m (now (buffer1 .entry)) (now (buffer2 .entry))) (transferOf (settings .transfer) (settings .got))) × (r .size ≡ settings .size) ⌝ }
+    requires { ⌜ (length (now buffer1) ≡ pageBytes) × ((length (now buffer2) ≡ pageBytes) × ((settings .transfer ≤ 2) × Marked settings)) ⌝ }
+    ensures { λ r. ⌜ ((t i m : List ℕ) → readerOf r t i m (now (buffer1 .exit)) (now (buffer2 .exit)) ≡ ended (readerOf settings t i m (now (buffer1 .entry)) (now (buffer2 .entry))) (transferOf (settings .transfer) (settings .got))) × ((r .size ≡ settings .size) × Marked r) ⌝ }
 {
     let n = settings.transfer;
     if n == 0 {
         return settings;
     }
     buffers::wipe(n, buffer1, buffer2);
-    let s = buffers::hold(settings, n, false, numbers::NO_PAGE);
+    let s = buffers::hold(settings, n, 0, numbers::NO_PAGE);
     settings::moved(s, 0, 0)
 }
 
@@ -48,7 +49,7 @@ fn place(
     let n = settings.transfer;
     buffers::fill(n, buffer1, buffer2, got, content);
     if last {
-        return answers::silent(settings::moved(buffers::mark(settings, n, true), 0, 0));
+        return answers::silent(settings::moved(buffers::mark(settings, n, 1), 0, 0));
     }
     answers::silent(settings::moved(settings, n, next))
 }
@@ -62,7 +63,7 @@ pub(crate) fn take_part(
     right: bool,
     last: bool,
 ) -> Answer
-    requires { ⌜ (length (now buffer1) ≡ pageBytes) × ((length (now buffer2) ≡ pageBytes) × ((settings .transfer ≤ 2) × ((settings .size ≤ highestSize) × (settings .transfer ≡ 0 → settings .got ≡ 0)))) ⌝ }
+    requires { ⌜ (length (now buffer1) ≡ pageBytes) × ((length (now buffer2) ≡ pageBytes) × ((settings .transfer ≤ 2) × ((settings .size ≤ highestSize) × ((settings .transfer ≡ 0 → settings .got ≡ 0) × Marked settings)))) ⌝ }
     ensures { λ r. ⌜ ((t i m : List ℕ) → saidOf r t i m (now (buffer1 .exit)) (now (buffer2 .exit)) ≡ takeIn (readerOf settings t i m (now (buffer1 .entry)) (now (buffer2 .entry))) last right (now (content .entry)) (transferOf (settings .transfer) (settings .got))) × Ready r ⌝ }
 {
     if settings.transfer == 0 {

@@ -24,7 +24,7 @@ part-drop a e xs h l =
     ∙ drop-at (take a xs) (part a (e - a) xs) a (length-take-le a xs (omega arith)))
 
 -- bytes put over zeros are held
-over-zeros : (s rest : List ℕ) (n : ℕ) → n ≡ length s → length s ≤ holds → rest ≡ layFront s (zeros holds) → record { held = rest; count = n } ≡ holding s
+over-zeros : (s rest : List ℕ) (n : ℕ) → n ≡ length s → length s ≤ holds → rest ≡ layFront s (zeros holds) → record { held = rest; spare = 0; count = n } ≡ holding s
 unfolding holding layFront
 over-zeros s rest n e l f =
     let m : length s ≤ length (zeros holds) = rw (length-replicate {A = ℕ} holds 0) l in
@@ -69,7 +69,7 @@ module _ (n k : ℕ) (s : List ℕ) (f : k ≡ min (holds - n) (length s)) where
 
       -- those that are not used
       pub rest-held : (used : ℕ) → used ≤ n + k → (rest : List ℕ) → rest ≡ layFront (part used (n + k - used) cells) (zeros holds)
-          → record { held = rest; count = n + k - used } ≡ holding (drop used (take (n + k) cells))
+          → record { held = rest; spare = 0; count = n + k - used } ≡ holding (drop used (take (n + k) cells))
       rest-held used u rest e =
           let left : List ℕ = part used (n + k - used) cells in
           let j : n + k - used ≡ length left = sym (length-take-le _ _ (omega (arith, length-drop used cells, in-cells))) in

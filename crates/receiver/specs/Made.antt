@@ -6,7 +6,7 @@ use Rattle.protocol.specs.declared.Received.{Received}
 use Rattle.protocol.specs.declared.Emptied.{Emptied}
 
 abbrev pub received : Receiver → Settings → ℕ → ℕ → ℕ → Received
-received h s refusal taken length = record { receiver = h; settings = s; refusal = refusal; taken = taken; length = length }
+received h s refusal taken length = record { line = record { settings = s; receiver = h }; refusal = refusal; taken = taken; length = length }
 
 abbrev pub emptied : Receiver → Settings → ℕ → Emptied
-emptied h s refusal = record { receiver = h; settings = s; refusal = refusal }
+emptied h s refusal = record { line = record { settings = s; receiver = h }; refusal = refusal }

@@ -3,11 +3,12 @@ ghost use mathlib.Core.Path.{_≡_};
 ghost use mathlib.Core.List.{List, []};
 ghost use Prim.Native.Nat.{ℕ, min};
 ghost use Rattle.protocol.specs.Call.{core};
-ghost use Rattle.protocol.specs.Receiver.{holding, line, receiveOf, lineSwitchOf};
-ghost use Rattle.protocol.specs.Records.{readerOf, lentOf, receivedOf, emptiedOf};
+ghost use Rattle.protocol.specs.Receiver.{holding, receiveOf, lineSwitchOf};
+ghost use Rattle.protocol.specs.Records.{lineOf, lentOf, receivedOf, emptiedOf};
 ghost use Rattle.receiver.specs.Full.{fullRefusal};
 ghost use Rattle.receiver.specs.Made.{received, emptied};
 use protocol::Emptied;
+use protocol::Line;
 use protocol::Received;
 use protocol::Receiver;
 use protocol::Settings;
@@ -22,6 +23,7 @@ pub fn empty() -> Receiver
 {
     Receiver {
         held: [0; numbers::HOLDS],
+        spare: 0,
         count: 0,
     }
 }
@@ -43,8 +45,7 @@ fn received_of(
     ensures { λ r. ⌜ r ≡ received receiver settings refusal taken length ⌝ }
 {
     Received {
-        receiver,
-        settings,
+        line: Line { settings, receiver },
         refusal,
         taken,
         length,
@@ -55,8 +56,7 @@ fn emptied_of(receiver: Receiver, settings: Settings, refusal: u8) -> Emptied
     ensures { λ r. ⌜ r ≡ emptied receiver settings refusal ⌝ }
 {
     Emptied {
-        receiver,
-        settings,
+        line: Line { settings, receiver },
         refusal,
     }
 }
@@ -85,10 +85,9 @@ fn full_refusal(
 }
 
 // A call: takes what fits of the piece behind the bytes held, does the reader's call on all of them, and drops those used. The cells behind
-// what is still held are zero then.
+// what is still held are zero then, and so is the spare byte.
 pub fn receive(
-    receiver: Receiver,
-    settings: Settings,
+    line: Line,
     templates: &mut [u8],
     index: &mut [u8],
     notepad: &mut [u8],
@@ -99,8 +98,10 @@ pub fn receive(
     piece: &[u8],
     reply: &mut [u8],
 ) -> Received
-    ensures { λ r. ⌜ receivedOf r (now (templates .exit)) (now (index .exit)) (now (notepad .exit)) (now (buffer1 .exit)) (now (buffer2 .exit)) (now (reply .exit)) ≡ receiveOf core (line (readerOf settings (now (templates .entry)) (now (index .entry)) (now (notepad .entry)) (now (buffer1 .entry)) (now (buffer2 .entry))) receiver) (now (piece .entry)) (lentOf (now (scores .entry)) (now (thresholds .entry)) (now (reply .entry))) ⌝ }
+    ensures { λ r. ⌜ receivedOf r (now (templates .exit)) (now (index .exit)) (now (notepad .exit)) (now (buffer1 .exit)) (now (buffer2 .exit)) (now (reply .exit)) ≡ receiveOf core (lineOf line (now (templates .entry)) (now (index .entry)) (now (notepad .entry)) (now (buffer1 .entry)) (now (buffer2 .entry))) (now (piece .entry)) (lentOf (now (scores .entry)) (now (thresholds .entry)) (now (reply .entry))) ⌝ }
 {
+    let receiver = line.receiver;
+    let settings = line.settings;
     let count = receiver.count as usize;
     if numbers::HOLDS < count {
         let refusal = full_refusal(
@@ -141,11 +142,14 @@ pub fn receive(
     let mut rest = [0u8; numbers::HOLDS];
     bytes::put(&mut rest, &held[used..to]);
     Received {
-        receiver: Receiver {
-            held: rest,
-            count: kept,
+        line: Line {
+            settings: s,
+            receiver: Receiver {
+                held: rest,
+                spare: 0,
+                count: kept,
+            },
         },
-        settings: s,
         refusal: refusals::ACCEPTED,
         taken,
         length: c.length,
@@ -153,14 +157,11 @@ pub fn receive(
 }
 
 // The line switch: the reader's, and the held bytes emptied. It knows only refusal 1, and changes nothing then.
-pub fn line_switch(
-    receiver: Receiver,
-    settings: Settings,
-    buffer1: &mut [u8],
-    buffer2: &mut [u8],
-) -> Emptied
-    ensures { λ r. ⌜ ((t i n : List ℕ) → emptiedOf r t i n (now (buffer1 .exit)) (now (buffer2 .exit)) ≡ lineSwitchOf (line (readerOf settings t i n (now (buffer1 .entry)) (now (buffer2 .entry))) receiver)) ⌝ }
+pub fn line_switch(line: Line, buffer1: &mut [u8], buffer2: &mut [u8]) -> Emptied
+    ensures { λ r. ⌜ ((t i n : List ℕ) → emptiedOf r t i n (now (buffer1 .exit)) (now (buffer2 .exit)) ≡ lineSwitchOf (lineOf line t i n (now (buffer1 .entry)) (now (buffer2 .entry)))) ⌝ }
 {
+    let receiver = line.receiver;
+    let settings = line.settings;
     let switched = call::line_switch(settings, buffer1, buffer2);
     let s = switched.settings;
     if switched.refusal != refusals::ACCEPTED {

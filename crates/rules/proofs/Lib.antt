@@ -1,3 +1,4 @@
 pub mod Sizes
+pub mod Marks
 pub mod Transfers
 pub mod Gates

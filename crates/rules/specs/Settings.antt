@@ -1,5 +1,5 @@
 -- The settings record: with one thing changed, with its size code capped, and legal.
-use mathlib.Core.Bool.{Bool, false, _&&_, cond}
+use mathlib.Core.Bool.{Bool, true, _&&_, cond}
 use mathlib.Core.List.{List, []}
 use mathlib.Core.Path.{_≡_}
 use Prim.Native.Nat.{ℕ, _≤_}
@@ -10,18 +10,18 @@ use Rattle.protocol.specs.Index.{clearFrom}
 use Rattle.protocol.specs.Reader.{Reader, sizeOf}
 use Rattle.protocol.specs.Table.{publicOf}
 use Rattle.protocol.specs.Call.{fitPlain, fitTransfer, fitOrigin}
-use Rattle.protocol.specs.Records.{originOf, readerOf}
+use Rattle.protocol.specs.Records.{fitMarks, isSet, marksOf, originOf, readerOf}
 
 -- the one place that lists all fields
-abbrev pub record-of : List ℕ → List ℕ → ℕ → ℕ → ℕ → ℕ → ℕ → ℕ → Bool → Bool → Bool → Bool → ℕ → ℕ → Settings
+abbrev pub record-of : List ℕ → List ℕ → ℕ → ℕ → ℕ → ℕ → ℕ → ℕ → ℕ → ℕ → ℕ → ℕ → ℕ → ℕ → Settings
 record-of p a l z b w k g v f h m o q =
     record { password = p; address = a; level = l; size = z; baud = b; transfer = w; sensor = k; got = g; verified = v; filled1 = f; filled2 = h; found = m; origin1 = o; origin2 = q }
 
-abbrev pub withMark : Bool → Settings → Settings
+abbrev pub withMark : ℕ → Settings → Settings
 withMark v s = record-of (s .password) (s .address) (s .level) (s .size) (s .baud) (s .transfer) (s .sensor) (s .got) v (s .filled1) (s .filled2) (s .found) (s .origin1) (s .origin2)
 
 abbrev pub withPassword : List ℕ → Settings → Settings
-withPassword p s = record-of p (s .address) (s .level) (s .size) (s .baud) (s .transfer) (s .sensor) (s .got) false (s .filled1) (s .filled2) (s .found) (s .origin1) (s .origin2)
+withPassword p s = record-of p (s .address) (s .level) (s .size) (s .baud) (s .transfer) (s .sensor) (s .got) 0 (s .filled1) (s .filled2) (s .found) (s .origin1) (s .origin2)
 
 abbrev pub withAddress : List ℕ → Settings → Settings
 withAddress a s = record-of (s .password) a (s .level) (s .size) (s .baud) (s .transfer) (s .sensor) (s .got) (s .verified) (s .filled1) (s .filled2) (s .found) (s .origin1) (s .origin2)
@@ -32,18 +32,18 @@ withTuning b l z s = record-of (s .password) (s .address) l z b (s .transfer) (s
 abbrev pub withTransfer : ℕ → ℕ → Settings → Settings
 withTransfer w g s = record-of (s .password) (s .address) (s .level) (s .size) (s .baud) w (s .sensor) g (s .verified) (s .filled1) (s .filled2) (s .found) (s .origin1) (s .origin2)
 
-abbrev pub withFilled : Bool → Bool → Settings → Settings
+abbrev pub withFilled : ℕ → ℕ → Settings → Settings
 withFilled f h s = record-of (s .password) (s .address) (s .level) (s .size) (s .baud) (s .transfer) (s .sensor) (s .got) (s .verified) f h (s .found) (s .origin1) (s .origin2)
 
 abbrev pub withOrigins : ℕ → ℕ → Settings → Settings
 withOrigins o q s = record-of (s .password) (s .address) (s .level) (s .size) (s .baud) (s .transfer) (s .sensor) (s .got) (s .verified) (s .filled1) (s .filled2) (s .found) o q
 
-abbrev pub withFound : Bool → Settings → Settings
+abbrev pub withFound : ℕ → Settings → Settings
 withFound m s = record-of (s .password) (s .address) (s .level) (s .size) (s .baud) (s .transfer) (s .sensor) (s .got) (s .verified) (s .filled1) (s .filled2) m (s .origin1) (s .origin2)
 
 -- what a line switch leaves of them
 abbrev pub withSwitch : Settings → Settings
-withSwitch s = record-of (s .password) (s .address) (s .level) (s .size) (s .baud) 0 (s .sensor) 0 false false false false noPage noPage
+withSwitch s = record-of (s .password) (s .address) (s .level) (s .size) (s .baud) 0 (s .sensor) 0 0 0 0 0 noPage noPage
 
 -- status bit 1 as it shows: the settings decide, and no memory is looked at
 unfoldable pub shownOf : Settings → Bool
@@ -64,9 +64,13 @@ pub record SizeOf (code r : ℕ) : Type 0 where
   pub low : 1 ≤ r
   pub high : r ≤ pageBytes
 
+-- each mark is 0 or 1
+abbrev pub Marked : Settings → Type 0
+Marked s = fitMarks (marksOf s) ≡ true
+
 -- ---- legal settings
 
--- of the lent memory only the filled marks count, and they are settings
+-- of the lent memory only the filled marks count, and they are settings; a mark that is not fit makes the transfer odd
 unfoldable pub legalOf : Settings → Bool
 legalOf s =
     let r : Reader = readerOf s [] [] [] [] [] in
@@ -74,7 +78,7 @@ legalOf s =
 
 -- both origins, of c pages and an index x
 unfoldable pub originsFit : ℕ → List ℕ → Settings → Bool
-originsFit c x s = fitOrigin c x (s .filled1) (originOf (s .origin1)) && fitOrigin c x (s .filled2) (originOf (s .origin2))
+originsFit c x s = fitOrigin c x (isSet (s .filled1)) (originOf (s .origin1)) && fitOrigin c x (isSet (s .filled2)) (originOf (s .origin2))
 
 -- what refusal 3 tests
 unfoldable pub soundOf : ℕ → List ℕ → Settings → Bool
@@ -85,3 +89,4 @@ pub record Legal (s : Settings) : Type 0 where
   pub size : s .size ≤ highestSize
   pub which : s .transfer ≤ 2
   pub none : s .transfer ≡ 0 → s .got ≡ 0
+  pub marks : Marked s

@@ -7,7 +7,7 @@ ghost use lib.Dec.{eqb};
 ghost use Rattle.protocol.specs.Numbers.{highestSize};
 ghost use Rattle.protocol.specs.Reader.{locked};
 ghost use Rattle.protocol.specs.Call.{fitPlain, fitTransfer};
-ghost use Rattle.protocol.specs.Records.{plainOf, transferOf, readerOf, freshOf};
+ghost use Rattle.protocol.specs.Records.{fitMarks, isSet, marksOf, plainOf, transferOf, readerOf, freshOf};
 ghost use Rattle.rules.specs.Settings.{withMark, withPassword, withAddress, withTuning, withTransfer, withFilled, withOrigins, withFound, withSwitch, shownOf, SizeOf, legalOf};
 use protocol::Settings;
 use protocol::numbers;
@@ -26,20 +26,20 @@ pub fn fresh() -> Settings
         transfer: 0,
         sensor: numbers::FRESH_SENSOR,
         got: 0,
-        verified: false,
-        filled1: false,
-        filled2: false,
-        found: false,
+        verified: 0,
+        filled1: 0,
+        filled2: 0,
+        found: 0,
         origin1: numbers::NO_PAGE,
         origin2: numbers::NO_PAGE,
     }
 }
 
-pub fn marked(s: Settings, on: bool) -> Settings
-    ensures { λ r. ⌜ r ≡ withMark on s ⌝ }
+pub fn marked(s: Settings, mark: u8) -> Settings
+    ensures { λ r. ⌜ r ≡ withMark mark s ⌝ }
 {
     let mut t = s;
-    t.verified = on;
+    t.verified = mark;
     t
 }
 
@@ -48,7 +48,7 @@ pub fn with_password(s: Settings, p: [u8; 4]) -> Settings
 {
     let mut t = s;
     t.password = p;
-    t.verified = false;
+    t.verified = 0;
     t
 }
 
@@ -79,7 +79,7 @@ pub fn moved(s: Settings, transfer: u8, got: u16) -> Settings
     t
 }
 
-pub fn filled(s: Settings, one: bool, two: bool) -> Settings
+pub fn filled(s: Settings, one: u8, two: u8) -> Settings
     ensures { λ r. ⌜ r ≡ withFilled one two s ⌝ }
 {
     let mut t = s;
@@ -97,8 +97,8 @@ pub fn linked(s: Settings, one: u16, two: u16) -> Settings
     t
 }
 
-// Status bit 1 set or clear.
-pub fn remembered(s: Settings, found: bool) -> Settings
+// Status bit 1 as this.
+pub fn remembered(s: Settings, found: u8) -> Settings
     ensures { λ r. ⌜ r ≡ withFound found s ⌝ }
 {
     let mut t = s;
@@ -113,20 +113,20 @@ pub fn switched(s: Settings) -> Settings
     let mut t = s;
     t.transfer = 0;
     t.got = 0;
-    t.verified = false;
-    t.filled1 = false;
-    t.filled2 = false;
-    t.found = false;
+    t.verified = 0;
+    t.filled1 = 0;
+    t.filled2 = 0;
+    t.found = 0;
     t.origin1 = numbers::NO_PAGE;
     t.origin2 = numbers::NO_PAGE;
     t
 }
 
-// The filled mark of a buffer.
-pub fn filled_of(n: u8, one: bool, two: bool) -> bool
-    ensures { λ r. ⌜ r ≡ cond (eqb n 2) two one ⌝ }
+// Whether the filled mark of a buffer is set.
+pub fn filled_of(n: u8, one: u8, two: u8) -> bool
+    ensures { λ r. ⌜ r ≡ cond (eqb n 2) (isSet two) (isSet one) ⌝ }
 {
-    if n == 2 { two } else { one }
+    if n == 2 { two == 1 } else { one == 1 }
 }
 
 // The origin of a buffer.
@@ -146,7 +146,7 @@ pub fn is_locked(s: Settings) -> bool
     if free {
         return false;
     }
-    !s.verified
+    s.verified != 1
 }
 
 // Status bit 1 as it shows: not while the reader is locked. No branch looks at it.
@@ -154,7 +154,7 @@ pub fn shows_found(s: Settings) -> bool
     ensures { λ r. ⌜ r ≡ shownOf s ⌝ }
 {
     let locked = is_locked(s);
-    !locked & s.found
+    !locked & (s.found == 1)
 }
 
 // The data bytes of a size code; a code above the highest counts as the highest.
@@ -189,6 +189,22 @@ fn is_plain_fit(s: Settings) -> bool
     true
 }
 
+// Whether each mark is 0 or 1. The two take the same path, since the filled marks and status bit 1 are guarded.
+fn has_fit_marks(s: Settings) -> bool
+    ensures { λ r. ⌜ r ≡ fitMarks (marksOf s) ⌝ }
+{
+    if 1 < s.verified {
+        return false;
+    }
+    if 1 < s.filled1 {
+        return false;
+    }
+    if 1 < s.filled2 {
+        return false;
+    }
+    s.found < 2
+}
+
 // Whether the transfer is legal. The filled mark of its buffer is looked at last, and never on a locked reader.
 fn is_transfer_fit(s: Settings) -> bool
     requires { ⌜ s .size ≤ highestSize ⌝ }
@@ -216,12 +232,16 @@ fn is_transfer_fit(s: Settings) -> bool
     !full
 }
 
-// Whether settings and transfer are legal (refusal 3, but for the index and the origins).
+// Whether settings, marks and transfer are legal (refusal 3, but for the index and the origins).
 pub fn is_legal(s: Settings) -> bool
     ensures { λ r. ⌜ r ≡ legalOf s ⌝ }
 {
     let fit = is_plain_fit(s);
     if !fit {
+        return false;
+    }
+    let marked = has_fit_marks(s);
+    if !marked {
         return false;
     }
     is_transfer_fit(s)

@@ -1,18 +1,27 @@
-// What a C firmware calls that hands whole runs over: the reader with its settings lent. include/bystrodol.h is the C face.
+// The settings record lent, and changed where it lies: document 01's call and its line switch in the form of the cabinet loop, and what a C firmware calls that
+// hands whole runs over. include/bystrodol.h is the C face.
 // It stands apart from `board`, so that in the archive of each one function leads to the reader's call, and the compiler builds the call into it.
 ghost use mathlib.Core.Path.{_≡_};
 ghost use mathlib.Core.List.{List};
 ghost use Prim.Native.Nat.{ℕ};
-ghost use Rattle.protocol.specs.Records.{lentOf};
-ghost use Rattle.board.specs.Stored.{storedReaderOf, storedCallOf, storedSwitchOf, storedEndOf, storedSwitchedOf, storedCalledAt, storedSwitchedAt};
-use board::stored;
-use board::stored::StoredSettings;
-use place::Answered;
+ghost use Rattle.protocol.specs.Call.{core, callOf, switchOf};
+ghost use Rattle.protocol.specs.Records.{readerOf, lentOf, endedOf, switchedOf};
+ghost use Rattle.step.specs.Lent.{calledAt, switchedAt};
+use protocol::Settings;
+use reader::call;
+
+// What a call returns: the refusal or 0, the bytes used, and the reply's length. The settings lie changed where they were lent.
+#[repr(C)]
+pub struct Answered {
+    pub refusal: u8,
+    pub used: usize,
+    pub length: usize,
+}
 
 // A call of the reader on lent settings.
 #[no_mangle]
 pub extern "C" fn bystrodol_step(
-    settings: &mut StoredSettings,
+    settings: &mut Settings,
     templates: &mut [u8],
     index: &mut [u8],
     notepad: &mut [u8],
@@ -23,9 +32,9 @@ pub extern "C" fn bystrodol_step(
     run: &[u8],
     reply: &mut [u8],
 ) -> Answered
-    ensures { λ r. ⌜ storedEndOf (storedCalledAt (now (settings .exit)) r) (now (templates .exit)) (now (index .exit)) (now (notepad .exit)) (now (buffer1 .exit)) (now (buffer2 .exit)) (now (reply .exit)) ≡ storedCallOf (storedReaderOf (now (settings .entry)) (now (templates .entry)) (now (index .entry)) (now (notepad .entry)) (now (buffer1 .entry)) (now (buffer2 .entry))) (now (run .entry)) (lentOf (now (scores .entry)) (now (thresholds .entry)) (now (reply .entry))) ⌝ }
+    ensures { λ r. ⌜ endedOf (calledAt (now (settings .exit)) r) (now (templates .exit)) (now (index .exit)) (now (notepad .exit)) (now (buffer1 .exit)) (now (buffer2 .exit)) (now (reply .exit)) ≡ callOf core (readerOf (now (settings .entry)) (now (templates .entry)) (now (index .entry)) (now (notepad .entry)) (now (buffer1 .entry)) (now (buffer2 .entry))) (now (run .entry)) (lentOf (now (scores .entry)) (now (thresholds .entry)) (now (reply .entry))) ⌝ }
 {
-    let called = stored::step(
+    let called = call::step(
         *settings,
         templates,
         index,
@@ -48,13 +57,13 @@ pub extern "C" fn bystrodol_step(
 // A line switch on lent settings.
 #[no_mangle]
 pub extern "C" fn bystrodol_line_switch(
-    settings: &mut StoredSettings,
+    settings: &mut Settings,
     buffer1: &mut [u8],
     buffer2: &mut [u8],
 ) -> u8
-    ensures { λ r. ⌜ ((t i n : List ℕ) → storedSwitchedOf (storedSwitchedAt (now (settings .exit)) r) t i n (now (buffer1 .exit)) (now (buffer2 .exit)) ≡ storedSwitchOf (storedReaderOf (now (settings .entry)) t i n (now (buffer1 .entry)) (now (buffer2 .entry)))) ⌝ }
+    ensures { λ r. ⌜ ((t i n : List ℕ) → switchedOf (switchedAt (now (settings .exit)) r) t i n (now (buffer1 .exit)) (now (buffer2 .exit)) ≡ switchOf (readerOf (now (settings .entry)) t i n (now (buffer1 .entry)) (now (buffer2 .entry)))) ⌝ }
 {
-    let switched = stored::line_switch(*settings, buffer1, buffer2);
+    let switched = call::line_switch(*settings, buffer1, buffer2);
     *settings = switched.settings;
     switched.refusal
 }

@@ -1,5 +1,5 @@
--- `board::bystrodol_receiver_switch` meets its contract: a walk of its MIR, by hand. The borrow of the record is opened, and the record is copied out of its cell; `lines::receiver_switch` is called with the copy, and with the slices for good, at their own lifetimes, shares and names (`Told.antt`), and what it ensures is handed on as it is; what it returns is taken apart; and the borrow is closed at the new record.
--- All that the proof knows of `lines::receiver_switch` is that it meets its contract.
+-- `board::bystrodol_receiver_switch` meets its contract: a walk of its MIR, by hand. The borrow of the record is opened, and the record is copied out of its cell; `line_switch` is called with the copy, and with the slices for good, at their own lifetimes, shares and names (`Told.antt`), and what it ensures is handed on as it is; what it returns is taken apart; and the borrow is closed at the new record.
+-- All that the proof knows of `line_switch` is that it meets its contract.
 -- Assumes nothing.
 use mathlib.Core.Path.{_≡_, refl, ap}
 use Prim.Native.Nat.{ℕ}
@@ -41,18 +41,18 @@ use denote.Triple.Entry.{onEntry, alive}
 use denote.Triple.Spec.{Meets, tripleOf}
 use denote.Triple.Table.{entered, cited}
 use denote.Triple.Walked.{Stays, stay-ref, walkOf, goes-ref, Walks, ends-at, walked, walk-meets}
-use Rattle.board.specs.declared.lines.StoredLine.{StoredLine}
-use Rattle.board.proofs.lines.StoredLine as T
-use Rattle.board.proofs.lines.StoredLine.Laws as T′
-use Rattle.board.specs.declared.lines.StoredEmptied.{StoredEmptied}
-use Rattle.board.proofs.lines.StoredEmptied as D
-use Rattle.board.proofs.lines.StoredEmptied.Laws as D′
-use Rattle.place.proofs.Lent.{slice, Fits}
-use Rattle.place.proofs.Told.{rest, tolds, tolds-fit, tolds-go}
-use Rattle.board.proofs.lines.receiver_switch as g
-use Rattle.board.proofs.lines.receiver_switch.Symbol as g-def
-use Rattle.board.proofs.lines.receiver_switch.Symbol.{name as #g}
-use Rattle.board.proofs.lines.receiver_switch.Met as g-thm
+use Rattle.protocol.specs.declared.Line.{Line}
+use Rattle.protocol.proofs.Line as T
+use Rattle.protocol.proofs.Line.Laws as T′
+use Rattle.protocol.specs.declared.Emptied.{Emptied}
+use Rattle.protocol.proofs.Emptied as D
+use Rattle.protocol.proofs.Emptied.Laws as D′
+use Rattle.board.proofs.Lent.{slice, Fits}
+use Rattle.board.proofs.Told.{rest, tolds, tolds-fit, tolds-go}
+use Rattle.receiver.proofs.line_switch as g
+use Rattle.receiver.proofs.line_switch.Symbol as g-def
+use Rattle.receiver.proofs.line_switch.Symbol.{name as #g}
+use Rattle.receiver.proofs.line_switch.Met as g-thm
 use Rattle.board.proofs.bystrodol_receiver_switch.Key.{name as #f}
 use Rattle.board.proofs.bystrodol_receiver_switch as f
 use Rattle.board.proofs.bystrodol_receiver_switch.Statement as stated
@@ -61,21 +61,21 @@ use Rattle.board.proofs.bystrodol_receiver_switch.Code as code
 abbrev stayed : Stays (f.ended .signature .params) (f.ended .kept)
 stayed = (stay-ref (0 ∷ []) tt (plain (λ _. T.the-row)), tolds (rest (f.ended .signature .params)) (f.ended .kept .1))
 
-abbrev val : StoredLine → Val
+abbrev val : Line → Val
 val = LL.val T.the-type T′.the-laws
 
 -- what the wrapper returns
-abbrev taken : StoredEmptied → ℕ
+abbrev taken : Emptied → ℕ
 taken r = r .refusal
 
-abbrev takenVal : StoredEmptied → Val
+abbrev takenVal : Emptied → Val
 takenVal r = vint w8 (taken r)
 
 -- of what the callee returns, what is known of its parts
-new-is : (r : StoredEmptied) (v : Val) → Is D.the-row r (v ∷ []) → Is T.the-row (r .line) (val (r .line) ∷ [])
+new-is : (r : Emptied) (v : Val) → Is D.the-row r (v ∷ []) → Is T.the-row (r .line) (val (r .line) ∷ [])
 new-is r v is = LL.owed D.the-type D′.the-laws r (v ∷ []) is .0
 
-taken-is : (r : StoredEmptied) (v : Val) → Is D.the-row r (v ∷ []) → Is u8 (taken r) (takenVal r ∷ [])
+taken-is : (r : Emptied) (v : Val) → Is D.the-row r (v ∷ []) → Is u8 (taken r) (takenVal r ∷ [])
 taken-is r v is = LL.owed D.the-type D′.the-laws r (v ∷ []) is .1 .0
 
 -- the contract that the proof cites
@@ -92,8 +92,8 @@ rows κs = MutSlice (named 1) (κs .0) u8 ∷ MutSlice (named 2) (κs .1 .0) u8 
 abbrev vals : Slices → List Val × (List Val × Unit {0})
 vals xs = (slice (xs .0) ∷ [], (slice (xs .1 .0) ∷ [], tt))
 
-module _ {M : Type 1} (𝓤 : URA M) (H : Heap 𝓤) (A : Atoms 𝓤) (W : Given 𝓤 H A) (at-mem : Memory → SProp 𝓤) (run : Routine → Fun 𝓤) (κ : Lft) (κs : Lfts 2) (q : Share) (qs : Shares 2) (b o : ℕ) (γ : GName) (h : StoredLine) (xs : Slices) where
-  abbrev x : RefT StoredLine × Slices
+module _ {M : Type 1} (𝓤 : URA M) (H : Heap 𝓤) (A : Atoms 𝓤) (W : Given 𝓤 H A) (at-mem : Memory → SProp 𝓤) (run : Routine → Fun 𝓤) (κ : Lft) (κs : Lfts 2) (q : Share) (qs : Shares 2) (b o : ℕ) (γ : GName) (h : Line) (xs : Slices) where
+  abbrev x : RefT Line × Slices
   x = (record { ptr = (b, o); name = γ; now = h }, xs)
 
   abbrev at : List Val × (List Val × (List Val × Unit {0}))
@@ -109,14 +109,14 @@ module _ {M : Type 1} (𝓤 : URA M) (H : Heap 𝓤) (A : Atoms 𝓤) (W : Given
   abbrev Asks : SProp 𝓤
   Asks = g.clauses 𝓤 H A at-mem run κs (h, xs) .requires tt
 
-  abbrev Says : StoredEmptied → Ws → SProp 𝓤
+  abbrev Says : Emptied → Ws → SProp 𝓤
   Says r ws = g.clauses 𝓤 H A at-mem run κs (h, xs) .ensures tt r (atExit g.ended κs (h, xs) ws)
 
   -- both contracts are one, by computation. Nothing uses these two: where the contracts differ, the first error stands here
   asks-is : Asks ≡ f.clauses 𝓤 H A at-mem run (κ, κs) x .requires tt
   asks-is = refl
 
-  says-is : (r : StoredEmptied) (ws : Ws) → Says r ws ≡ f.clauses 𝓤 H A at-mem run (κ, κs) x .ensures tt (taken r) (atExit f.ended (κ, κs) x (r .line, ws .1))
+  says-is : (r : Emptied) (ws : Ws) → Says r ws ≡ f.clauses 𝓤 H A at-mem run (κ, κs) x .ensures tt (taken r) (atExit f.ended (κ, κs) x (r .line, ws .1))
   says-is r ws = refl
 
   abbrev Post : Val → SProp 𝓤
@@ -132,7 +132,7 @@ module _ {M : Type 1} (𝓤 : URA M) (H : Heap 𝓤) (A : Atoms 𝓤) (W : Given
   abbrev Last : Ws → Fml
   Last ws = lastsOf κs (rest (g.signature .params)) (g.ended .kept .1) xs (ws .1)
 
-  exits : (r : StoredEmptied) (v : Val) (ws : Ws) → Is D.the-row r (v ∷ [])
+  exits : (r : Emptied) (v : Val) (ws : Ws) → Is D.the-row r (v ∷ [])
       → ent 𝓤 (⋆ 𝓤 H A (‵ (fobs γ (T.the-row .coded .code (r .line))) ∷ ‵ (fbor κ (Body (mem T.the-row) b o γ)) ∷ ‵ (flft κ q) ∷ raw Toks ∷ ‵ (Last ws) ∷ raw (Says r ws) ∷ [])) (Post (takenVal r))
   exits r v ws is =
       qed W (‵ (fobs γ (T.the-row .coded .code (r .line))) ∷ ‵ (fbor κ (Body (mem T.the-row) b o γ)) ∷ ‵ (flft κ q) ∷ raw Toks ∷ ‵ (Last ws) ∷ raw (Says r ws) ∷ []) ∵
@@ -169,7 +169,7 @@ module _ {M : Type 1} (𝓤 : URA M) (H : Heap 𝓤) (A : Atoms 𝓤) (W : Given
         -- the call
         move ! (0 ∷ 25 ∷ 26 ∷ []) $ use3 W (raw (G 𝓤 H A at-mem run .pre to-g)) goes-g $
         calls-at ! fm (G 𝓤 H A at-mem run) known to-g (and-then ! (load ! (from ! (stop !)) (look ! 13 refl)) (and-then ! (load ! (from ! (stop !)) (look ! 9 refl)) (and-then ! (load ! (from ! (stop !)) (look ! 5 refl)) (no-more !)))) (λ v.
-        use1 W (later (some (λ (r : StoredEmptied). (raw Toks ⊛ ‵ (D.the-row .own r (v ∷ []))) ⊛ raw (ensured 𝓤 H A g.ended (g.clauses 𝓤 H A at-mem run) κs (h, xs) tt r)))) (id⊢ 𝓤 _) $ await ! tt $ pick ! (λ r.
+        use1 W (later (some (λ (r : Emptied). (raw Toks ⊛ ‵ (D.the-row .own r (v ∷ []))) ⊛ raw (ensured 𝓤 H A g.ended (g.clauses 𝓤 H A at-mem run) κs (h, xs) tt r)))) (id⊢ 𝓤 _) $ await ! tt $ pick ! (λ r.
         split ! $ move ! (1 ∷ []) $ use1 W (some (λ (ws : Ws). ‵ (lasts g.ended κs (h, xs) ws) ⊛ raw (Says r ws))) (id⊢ 𝓤 _) $ pick ! (λ ws.
         split ! $ fsplit ! $ drop ! $ move ! (2 ∷ []) $ split ! $ move ! (1 ∷ []) $
         peeks ! D.the-row (Is D.the-row) (shows 𝓤 H A D.the-row) r (v ∷ []) (λ is.
@@ -204,4 +204,4 @@ bystrodol-receiver-switch-spec 𝓤 H 𝓜 𝓖 𝓡 =
     entered 𝓤 H (tripleOf 𝓤 H (𝓖 .A) f.signature (f.spec 𝓤 H (𝓖 .A) (𝓜 .mem) (𝓡 .run)))
     (tables 𝓤 H 𝓜 𝓡 code.env .C) (tables 𝓤 H 𝓜 𝓡 code.env .Λ) #f code.function (code.unfolded 𝓤 H 𝓜 𝓡)
     (f-meets 𝓤 H (𝓖 .A) (givenOf 𝓤 H 𝓜 𝓖) (𝓜 .mem) (𝓡 .run) (tablesOf 𝓤 H 𝓜 (tables 𝓤 H 𝓜 𝓡 code.env))
-    (cited 𝓤 H (G 𝓤 H (𝓖 .A) (𝓜 .mem) (𝓡 .run)) 𝓜 𝓡 code.env #g g-def.routine code.calls-board·lines·receiver-switch (g-thm.met 𝓤 H 𝓜 𝓖 𝓡)))
+    (cited 𝓤 H (G 𝓤 H (𝓖 .A) (𝓜 .mem) (𝓡 .run)) 𝓜 𝓡 code.env #g g-def.routine code.calls-receiver·line-switch (g-thm.met 𝓤 H 𝓜 𝓖 𝓡)))

@@ -54,7 +54,7 @@ spokenAll (a ∷ answers) = spoken a ++ spokenAll answers
 
 -- a receiver that holds nothing
 abbrev pub vacant : Receiver
-vacant = record { held = replicate 267 0; count = 0 }
+vacant = record { held = replicate 267 0; spare = 0; count = 0 }
 
 -- a caller came to this: these answers in turn, such a reader, and nothing held
 pub record Comes (d : Ran) (answers : List (List ℕ)) (Left : Reader → Type 0) : Type 0 where

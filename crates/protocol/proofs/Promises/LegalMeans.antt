@@ -12,7 +12,7 @@ use Rattle.protocol.specs.Numbers.{highestSize}
 use Rattle.protocol.specs.Bytes.{four, same}
 use Rattle.protocol.specs.Tests.{within}
 use Rattle.protocol.specs.Index.{bit, stored}
-use Rattle.protocol.specs.Reader.{Transfer, closed, opened, unfit, Plain, fromPage, Buffer, Guarded, Reader, capacity, sizeOf, keyed, locked, bufferOf}
+use Rattle.protocol.specs.Reader.{Transfer, closed, opened, unfit, odd, Plain, fromPage, Buffer, Guarded, Reader, capacity, sizeOf, keyed, locked, bufferOf}
 use Rattle.protocol.specs.Records.{transferOf}
 use Rattle.protocol.specs.Call.{core, fitBuffers, fitPlain, fitTransfer, sound, fitLengths, legal}
 use Rattle.protocol.proofs.Laws.Logic.{and-l, and-r, and-i, and-false, eq→eqb}
@@ -55,6 +55,7 @@ LegalTransfer p g closed = Unit {0}
 LegalTransfer p g (opened false got) = Into p (g .buffer1 .filled) got
 LegalTransfer p g (opened true got) = Into p (g .buffer2 .filled) got
 LegalTransfer p g (unfit b k) = ⊥
+LegalTransfer p g (odd b k m) = ⊥
 
 -- "3 for an origin at or above C, on a vacant page, or on a buffer not filled": page p of a library, and the buffer b whose origin it is
 pub record LegalOrigin (templates index : List ℕ) (b : Buffer) (p : ℕ) : Type 0 where
@@ -154,6 +155,7 @@ transfer-means p g z closed = (λ t. tt, λ t. tt)
 transfer-means p g z (opened false got) = into p g false got z
 transfer-means p g z (opened true got) = into p g true got z
 transfer-means p g z (unfit b k) = (λ t. t, λ t. t)
+transfer-means p g z (odd b k m) = (λ t. t, λ t. t)
 
 -- "transfer: none, or buffer 1 or 2 with the bytes got so far": two numbers of the settings record, and none is 0 and 0
 pub transfer-numbers : (p : Plain) (g : Guarded) (b got : ℕ) → LegalTransfer p g (transferOf b got)

@@ -15,10 +15,11 @@ use Rattle.protocol.specs.declared.Emptied.{Emptied}
 use Rattle.protocol.specs.Numbers.{noPage}
 use Rattle.protocol.specs.Packet.{Made}
 use Rattle.protocol.specs.BringOver.{Brought}
-use Rattle.protocol.specs.Reader.{Transfer, closed, opened, unfit, Origin, noOrigin, fromPage, Reader}
+use Rattle.protocol.specs.Reader.{Marks, Transfer, closed, opened, unfit, odd, Origin, noOrigin, fromPage, Reader}
 use Rattle.protocol.specs.Call.{Ended}
 use Rattle.protocol.specs.Receiver.{Handed}
-use Rattle.protocol.specs.Records.{transferOf, originOf, readerOf, endedOf, switchedOf, receivedOf, emptiedOf, madeOf, broughtOf}
+use Rattle.protocol.specs.Records.{fitMarks, isSet, markOf, marksOf, transferOf, transferBeside, originOf, readerOf, endedOf, switchedOf, receivedOf, emptiedOf, madeOf, broughtOf}
+use Rattle.protocol.proofs.Laws.Marks.{mark-is, fit-verified, fit-filled1, fit-filled2, fit-found, beside-fit, beside-odd}
 
 -- a transfer's two numbers
 numbers : Transfer → ℕ × ℕ
@@ -26,6 +27,7 @@ numbers closed = (0, 0)
 numbers (opened false k) = (1, k)
 numbers (opened true k) = (2, k)
 numbers (unfit b k) = (b, k)
+numbers (odd b k m) = (b, k)
 
 numbered : (b k : ℕ) → numbers (transferOf b k) ≡ (b, k)
 unfolding numbers transferOf
@@ -34,6 +36,48 @@ numbered zero (suc k) = refl
 numbered (suc zero) k = refl
 numbered (suc (suc zero)) k = refl
 numbered (suc (suc (suc b))) k = refl
+
+beside-numbered : (m : Marks) (b k : ℕ) → numbers (transferBeside m b k) ≡ (b, k)
+unfolding numbers transferBeside
+beside-numbered m b k = go (fitMarks m)
+  where
+    go : (f : Bool) → numbers (cond f (transferOf b k) (odd b k m)) ≡ (b, k)
+    go true = numbered b k
+    go false = refl
+
+-- the marks: an odd transfer has them, and otherwise they are what the reader's bits say
+unfoldable pub marks : Transfer → Marks → Marks
+marks closed m = m
+marks (opened w k) m = m
+marks (unfit b k) m = m
+marks (odd b k m) n = m
+
+abbrev pub bits : Bool → Bool → Bool → Bool → Marks
+bits v f h o = record { verified = markOf v; filled1 = markOf f; filled2 = markOf h; found = markOf o }
+
+marks-of : (b k : ℕ) (m : Marks) → marks (transferOf b k) m ≡ m
+unfolding marks transferOf
+marks-of zero zero m = refl
+marks-of zero (suc k) m = refl
+marks-of (suc zero) k m = refl
+marks-of (suc (suc zero)) k m = refl
+marks-of (suc (suc (suc b))) k m = refl
+
+pub marked : (m : Marks) (b k : ℕ) → marks (transferBeside m b k) (bits (isSet (m .verified)) (isSet (m .filled1)) (isSet (m .filled2)) (isSet (m .found))) ≡ m
+unfolding marks
+marked m b k = go (fitMarks m) refl
+  where
+    go : (f : Bool) → fitMarks m ≡ f → marks (transferBeside m b k) (bits (isSet (m .verified)) (isSet (m .filled1)) (isSet (m .filled2)) (isSet (m .found))) ≡ m
+    go true e =
+        rw (beside-fit m b k e, marks-of b k _)
+        (λ j.
+        record {
+          verified = mark-is (m .verified) (fit-verified m e) j;
+          filled1 = mark-is (m .filled1) (fit-filled1 m e) j;
+          filled2 = mark-is (m .filled2) (fit-filled2 m e) j;
+          found = mark-is (m .found) (fit-found m e) j;
+        })
+    go false e = rw (beside-odd m b k e) refl
 
 -- an origin's number
 page-number : Origin → ℕ
@@ -63,7 +107,12 @@ pub record OneReader (s z : Settings) (t i n b c t′ i′ n′ b′ c′ : List
 pub one-reader : (s z : Settings) (t i n b c t′ i′ n′ b′ c′ : List ℕ) → readerOf s t i n b c ≡ readerOf z t′ i′ n′ b′ c′ → OneReader s z t i n b c t′ i′ n′ b′ c′
 one-reader s z t i n b c t′ i′ n′ b′ c′ e =
     let m : _≡_ {A = ℕ × ℕ} (s .transfer, s .got) (z .transfer, z .got) =
-    sym (numbered (s .transfer) (s .got)) ∙ ap (λ (r : Reader). numbers (r .plain .transfer)) e ∙ numbered (z .transfer) (z .got)
+    sym (beside-numbered (marksOf s) (s .transfer) (s .got)) ∙ ap (λ (r : Reader). numbers (r .plain .transfer)) e ∙ beside-numbered (marksOf z) (z .transfer) (z .got)
+    in
+    let k : marksOf s ≡ marksOf z =
+    sym (marked (marksOf s) (s .transfer) (s .got))
+    ∙ ap (λ (r : Reader). marks (r .plain .transfer) (bits (r .plain .verified) (r .guarded .buffer1 .filled) (r .guarded .buffer2 .filled) (r .guarded .found))) e
+    ∙ marked (marksOf z) (z .transfer) (z .got)
     in
     record {
       settings =
@@ -77,10 +126,10 @@ one-reader s z t i n b c t′ i′ n′ b′ c′ e =
             transfer = m j .0;
             sensor = e j .plain .sensor;
             got = m j .1;
-            verified = e j .plain .verified;
-            filled1 = e j .guarded .buffer1 .filled;
-            filled2 = e j .guarded .buffer2 .filled;
-            found = e j .guarded .found;
+            verified = k j .verified;
+            filled1 = k j .filled1;
+            filled2 = k j .filled2;
+            found = k j .found;
             origin1 = same-origin (s .origin1) (z .origin1) (ap (λ (r : Reader). r .guarded .buffer1 .origin) e) j;
             origin2 = same-origin (s .origin2) (z .origin2) (ap (λ (r : Reader). r .guarded .buffer2 .origin) e) j;
           };
@@ -111,24 +160,24 @@ one-switch x y t i n b c t′ i′ n′ b′ c′ e =
 
 -- a receiver's call: every cell too
 pub one-receive : (x y : Received) (t i n b c o t′ i′ n′ b′ c′ o′ : List ℕ) → receivedOf x t i n b c o ≡ receivedOf y t′ i′ n′ b′ c′ o′
-    → (x ≡ y) × (OneReader (x .settings) (y .settings) t i n b c t′ i′ n′ b′ c′ × (o ≡ o′))
+    → (x ≡ y) × (OneReader (x .line .settings) (y .line .settings) t i n b c t′ i′ n′ b′ c′ × (o ≡ o′))
 one-receive x y t i n b c o t′ i′ n′ b′ c′ o′ e =
-    let r : OneReader (x .settings) (y .settings) t i n b c t′ i′ n′ b′ c′ =
-    one-reader (x .settings) (y .settings) t i n b c t′ i′ n′ b′ c′ (ap (λ (z : Handed). z .after .reader) e)
+    let r : OneReader (x .line .settings) (y .line .settings) t i n b c t′ i′ n′ b′ c′ =
+    one-reader (x .line .settings) (y .line .settings) t i n b c t′ i′ n′ b′ c′ (ap (λ (z : Handed). z .after .reader) e)
     in (
       λ j.
-          record { receiver = e j .after .receiver; settings = r .settings j; refusal = e j .told .refusal; taken = e j .told .used; length = e j .told .length },
+          record { line = record { settings = r .settings j; receiver = e j .after .receiver }; refusal = e j .told .refusal; taken = e j .told .used; length = e j .told .length },
       (r, ap (λ (z : Handed). z .told .room) e),
     )
 
 -- a receiver's line switch
 pub one-emptied : (x y : Emptied) (t i n b c t′ i′ n′ b′ c′ : List ℕ) → emptiedOf x t i n b c ≡ emptiedOf y t′ i′ n′ b′ c′
-    → (x ≡ y) × OneReader (x .settings) (y .settings) t i n b c t′ i′ n′ b′ c′
+    → (x ≡ y) × OneReader (x .line .settings) (y .line .settings) t i n b c t′ i′ n′ b′ c′
 one-emptied x y t i n b c t′ i′ n′ b′ c′ e =
-    let r : OneReader (x .settings) (y .settings) t i n b c t′ i′ n′ b′ c′ =
-    one-reader (x .settings) (y .settings) t i n b c t′ i′ n′ b′ c′ (ap (λ (z : Handed). z .after .reader) e)
+    let r : OneReader (x .line .settings) (y .line .settings) t i n b c t′ i′ n′ b′ c′ =
+    one-reader (x .line .settings) (y .line .settings) t i n b c t′ i′ n′ b′ c′ (ap (λ (z : Handed). z .after .reader) e)
     in
-    (λ j. record { receiver = e j .after .receiver; settings = r .settings j; refusal = e j .told .refusal }, r)
+    (λ j. record { line = record { settings = r .settings j; receiver = e j .after .receiver }; refusal = e j .told .refusal }, r)
 
 -- the builder's record and its room
 pub one-build : (x y : Built) (o o′ : List ℕ) → madeOf x o ≡ madeOf y o′ → (x ≡ y) × (o ≡ o′)

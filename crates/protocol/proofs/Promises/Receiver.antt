@@ -81,6 +81,8 @@ pub record Takes (x : Line) (piece : List ℕ) (e : Ended) (o : Handed) : Type 0
   pub held : take (o .after .receiver .count) (o .after .receiver .held) ≡ drop (e .told .used) (take (x .receiver .count) (x .receiver .held) ++ take (267 - x .receiver .count) piece)
   -- every cell past the held bytes is zero, whatever it was
   pub zero : drop (o .after .receiver .count) (o .after .receiver .held) ≡ replicate (267 - o .after .receiver .count) 0
+  -- and the spare byte
+  pub spare : o .after .receiver .spare ≡ 0
 
 pub takes-what-fits : (x : Line) (piece : List ℕ) (lent : Lent) → receiveOf core x piece lent .told .refusal ≡ 0
     → Takes x piece (callOf core (x .reader) (take (x .receiver .count) (x .receiver .held) ++ take (267 - x .receiver .count) piece) lent) (receiveOf core x piece lent)
@@ -99,6 +101,7 @@ takes-what-fits x piece lent e =
       reader = refl;
       held = in-holding rest;
       zero = holding-zero rest;
+      spare = refl;
     }
 
 -- "answers at most one packet": of all held bytes the first whole packet alone is dealt with, and nothing behind it is dropped; where there is
@@ -145,13 +148,13 @@ deals-with-one x piece lent e = go (findOf run) refl
 abbrev pub Empties : Line → Handed → ℕ → Type 0
 Empties x o zero =
     Unused [] (bare o) 0
-    × ((o .after .reader ≡ switchOf (x .reader) .after) × ((o .after .receiver .count ≡ 0) × (o .after .receiver .held ≡ replicate 267 0)))
+    × ((o .after .reader ≡ switchOf (x .reader) .after) × ((o .after .receiver .count ≡ 0) × ((o .after .receiver .held ≡ replicate 267 0) × (o .after .receiver .spare ≡ 0))))
 Empties x o (suc n) = Unused [] (bare o) (suc n) × (o .after ≡ x)
 
 module _ (x : Line) where
   empties : (n : ℕ) → switchRefusal (x .reader .guarded) ≡ n → Empties x (lineSwitchAs x (switchAs (x .reader) n) n) n
   unfolding lineSwitchAs switchOf switchAs refused holding holds longest Rattle.protocol.specs.Bytes.lay
-  empties zero e = (record { refusal = refl; used = refl; length = refl; room = refl }, (rw e refl, (refl, refl)))
+  empties zero e = (record { refusal = refl; used = refl; length = refl; room = refl }, (rw e refl, (refl, (refl, refl))))
   empties (suc n) e = (record { refusal = refl; used = refl; length = refl; room = refl }, refl)
 
   told : (n : ℕ) → switchAs (x .reader) n .told .refusal ≡ n

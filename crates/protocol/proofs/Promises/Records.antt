@@ -3,15 +3,16 @@
 use mathlib.Core.Path.{_≡_, refl}
 use mathlib.Core.List.{List, []}
 use Prim.Native.Nat.{ℕ}
+use lib.Dec.{eqb}
 use Rattle.protocol.specs.declared.Settings.{Settings}
 use Rattle.protocol.specs.declared.Called.{Called}
 use Rattle.protocol.specs.declared.Switched.{Switched}
 use Rattle.protocol.specs.declared.Built.{Built}
 use Rattle.protocol.specs.declared.Received.{Received}
 use Rattle.protocol.specs.declared.Emptied.{Emptied}
-use Rattle.protocol.specs.Records.{transferOf, originOf, readerOf, lentOf, endedOf, switchedOf, receivedOf, emptiedOf, madeOf}
+use Rattle.protocol.specs.Records.{marksOf, transferBeside, originOf, readerOf, lentOf, endedOf, switchedOf, receivedOf, emptiedOf, madeOf}
 
--- settings; templates, index, notepad, buffers 1 and 2. `transferOf` and `originOf` are in Words
+-- settings; templates, index, notepad, buffers 1 and 2. A mark is set where its byte is 1. `transferBeside` is in Marks, `originOf` in Words
 pub reader-is : (s : Settings) (t i n b d : List ℕ) → readerOf s t i n b d
     ≡ record {
       plain =
@@ -22,10 +23,10 @@ pub reader-is : (s : Settings) (t i n b d : List ℕ) → readerOf s t i n b d
             size = s .size;
             baud = s .baud;
             sensor = s .sensor;
-            verified = s .verified;
-            transfer = transferOf (s .transfer) (s .got);
+            verified = eqb (s .verified) 1;
+            transfer = transferBeside (marksOf s) (s .transfer) (s .got);
           };
-      guarded = record { templates = t; index = i; notepad = n; buffer1 = record { bytes = b; filled = s .filled1; origin = originOf (s .origin1) }; buffer2 = record { bytes = d; filled = s .filled2; origin = originOf (s .origin2) }; found = s .found };
+      guarded = record { templates = t; index = i; notepad = n; buffer1 = record { bytes = b; filled = eqb (s .filled1) 1; origin = originOf (s .origin1) }; buffer2 = record { bytes = d; filled = eqb (s .filled2) 1; origin = originOf (s .origin2) }; found = eqb (s .found) 1 };
     }
 reader-is s t i n b d = refl
 
@@ -43,13 +44,13 @@ switch-is c t i n b d = refl
 pub receive-is : (c : Received) (t i n b d room : List ℕ) → receivedOf c t i n b d room
     ≡ record {
       told = record { refusal = c .refusal; used = c .taken; length = c .length; room = room };
-      after = record { reader = readerOf (c .settings) t i n b d; receiver = c .receiver };
+      after = record { reader = readerOf (c .line .settings) t i n b d; receiver = c .line .receiver };
     }
 receive-is c t i n b d room = refl
 
 -- a receiver's line switch
 pub emptied-is : (c : Emptied) (t i n b d : List ℕ) → emptiedOf c t i n b d
-    ≡ record { told = record { refusal = c .refusal; used = 0; length = 0; room = [] }; after = record { reader = readerOf (c .settings) t i n b d; receiver = c .receiver } }
+    ≡ record { told = record { refusal = c .refusal; used = 0; length = 0; room = [] }; after = record { reader = readerOf (c .line .settings) t i n b d; receiver = c .line .receiver } }
 emptied-is c t i n b d = refl
 
 -- what is lent anew: scores, thresholds, reply room

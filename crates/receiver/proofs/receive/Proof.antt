@@ -9,13 +9,16 @@ use Rattle.receiver.proofs.Calls.{full, stops, goes, used-within}
 use Rattle.receiver.proofs.receive.Statement.{statement}
 use Rattle.receiver.proofs.receive.Tie as tie
 
-held-long : (s : tie.Start) → length (s .args .receiver .held) ≡ holds
+held-long : (s : tie.Start) → length (s .args .line .receiver .held) ≡ holds
 unfolding holds longest
 held-long s = search needs
 
 -- places that are far back from the later needs
 unfoldable called : tie.Else2 → tie.After-step
 called c = search
+
+unfoldable begun : tie.After-lesser → tie.Start
+begun c = search
 
 unfoldable laid : tie.After-step → tie.After-put
 laid c = search
@@ -34,7 +37,12 @@ received-of-requires c κs = search needs
 
 returns : tie.Need-returns
 unfolding holds longest
-returns c = search full
+returns c =
+    let x = (let p : tie.Start = search in p .args .line) in
+    let l = (let p : tie.Then1 = search in p .if1 .taken) in
+    let e = (let p : tie.After-full-refusal = search in p .full-refusal .ensures) in
+    let q = (let p : tie.After-received-of = search in p .received-of .ensures) in
+    full (x .receiver) (x .settings) _ _ _ _ _ _ _ _ _ _ _ l e q
 
 lesser-requires : tie.Need-lesser-requires
 lesser-requires c κs = search needs
@@ -74,7 +82,10 @@ received-of-requires-2 : tie.Need-received-of-requires-2
 received-of-requires-2 c κs = search needs
 
 same-length : tie.Need-same-length
-same-length c = search needs
+same-length c =
+    let t = (let p : tie.After-templates = search in p .templates .given) in
+    let k = (let p : tie.After-step = search in p .step .kept) in
+    search needs
 
 same-length-2 : tie.Need-same-length-2
 same-length-2 c = search needs
@@ -92,7 +103,7 @@ same-length-6 : tie.Need-same-length-6
 same-length-6 c = search needs
 
 returns-2 : tie.Need-returns-2
-unfolding runOf bytesIn fitting holds longest called laid fitted
+unfolding runOf bytesIn fitting holds longest called begun laid fitted
 returns-2 c =
     let p = (let p : tie.After-put = search (laid, called) in p .put .ensures) in
     let q = (let p : tie.After-step = search called in p .step .ensures) in
@@ -101,7 +112,7 @@ returns-2 c =
     let a : tie.After-lesser = search (fitted, called) in
     let f = a .lesser .ensures in
     let m = (let p : tie.Else1 = search in p .if1 .left) in
-    let l = (let p : tie.Start = search in held-long p) in
+    let l = (let p : tie.Start = search (begun, fitted, called) in held-long p) in
     rw e (stops _ _ _ m _ (cells-run _ _ _ f _ l m _ p) _ q z)
 
 sub-left : tie.Need-sub-left

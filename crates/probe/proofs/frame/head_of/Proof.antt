@@ -3,14 +3,14 @@ use mathlib.Core.Path.{_≡_, refl}
 use mathlib.Core.List.{List, [], _∷_}
 use Prim.Native.Nat.{ℕ, _/_, _%_}
 use Rattle.protocol.specs.Bytes.{byteAt}
-use Rattle.board.specs.declared.lines.StoredReceived.{StoredReceived}
+use Rattle.protocol.specs.declared.Received.{Received}
 use Rattle.probe.specs.Frame.{wordOf, headOf}
 use borrow.Author.Needs.{needs}
 use Rattle.probe.proofs.frame.head_of.Statement.{statement}
 use Rattle.probe.proofs.frame.head_of.Tie as tie
 
 -- sensor type, bytes got and both origins, each as its two bytes
-listed : (c : StoredReceived) (k g o q : List ℕ) → k ≡ wordOf (c .line .settings .sensor) → g ≡ wordOf (c .line .settings .got) → o ≡ wordOf (c .line .settings .origin1)
+listed : (c : Received) (k g o q : List ℕ) → k ≡ wordOf (c .line .settings .sensor) → g ≡ wordOf (c .line .settings .got) → o ≡ wordOf (c .line .settings .origin1)
     → q ≡ wordOf (c .line .settings .origin2)
     → c .refusal ∷ c .taken / 16777216 % 256 ∷ c .taken / 65536 % 256 ∷ c .taken / 256 % 256 ∷ c .taken % 256
     ∷ c .length / 16777216 % 256 ∷ c .length / 65536 % 256 ∷ c .length / 256 % 256 ∷ c .length % 256

@@ -3,7 +3,7 @@ use mathlib.Core.Path.{ap}
 use borrow.Author.Tests.{eq-eqb, ne-eqb}
 use denote.Ref.{now}
 use Rattle.protocol.specs.Reader.{withLibrary}
-use Rattle.board.specs.Lines.{storedLineOf}
+use Rattle.protocol.specs.Records.{lineOf}
 use Rattle.probe.specs.Once.{withReceiver, withRoom, unmoved, broughtIn, onceOf}
 use borrow.Author.Needs.{needs}
 use Rattle.probe.proofs.once.once.Statement.{statement}
@@ -85,8 +85,8 @@ returns-3 c =
     let e = (let p : tie.After-receive = search in p .receive .ensures) in
     rw (ne-eqb _ _ d, ne-eqb _ _ d2, eq-eqb _ _ z) e
 
-receiver-switch-requires : tie.Need-receiver-switch-requires
-receiver-switch-requires c κs = search needs
+line-switch-requires-2 : tie.Need-line-switch-requires-2
+line-switch-requires-2 c κs = search needs
 
 same-length-15 : tie.Need-same-length-15
 same-length-15 c = search needs
@@ -102,7 +102,7 @@ returns-4 c =
     let d2 = (let p : tie.Else2 = search in p .if2 .left) in
     let d3 = (let p : tie.Else3 = search in p .if3 .left) in
     let z = (let p : tie.Then4 = search in p .if4 .taken) in
-    let e = (let p : tie.After-receiver-switch = search in p .receiver-switch .ensures (now (a .templates)) (now (a .index)) (now (a .notepad))) in
+    let e = (let p : tie.After-line-switch2 = search in p .line-switch2 .ensures (now (a .templates)) (now (a .index)) (now (a .notepad))) in
     rw (ne-eqb _ _ d, ne-eqb _ _ d2, ne-eqb _ _ d3, eq-eqb _ _ z) (ap (withRoom (now (a .reply))) e)
 
 fresh-requires : tie.Need-fresh-requires
@@ -136,7 +136,7 @@ returns-6 c =
     let d4 = (let p : tie.Else4 = search in p .if4 .left) in
     let d5 = (let p : tie.Else5 = search in p .if5 .left) in
     let e = (let p : tie.After-bring-over = search in p .bring-over .ensures) in
-    rw (ne-eqb _ _ d, ne-eqb _ _ d2, ne-eqb _ _ d3, ne-eqb _ _ d4, ne-eqb _ _ d5) (ap (λ x. withRoom (now (a .reply)) (broughtIn (storedLineOf (a .line) (now (a .templates)) (now (a .index)) (now (a .notepad)) (now (a .buffer1)) (now (a .buffer2))) x)) e)
+    rw (ne-eqb _ _ d, ne-eqb _ _ d2, ne-eqb _ _ d3, ne-eqb _ _ d4, ne-eqb _ _ d5) (ap (λ x. withRoom (now (a .reply)) (broughtIn (lineOf (a .line) (now (a .templates)) (now (a .index)) (now (a .notepad)) (now (a .buffer1)) (now (a .buffer2))) x)) e)
 
 pub once-spec : {M : Type 1} → statement M
 once-spec =
@@ -162,7 +162,7 @@ once-spec =
     same-length-13
     same-length-14
     returns-3
-    receiver-switch-requires
+    line-switch-requires-2
     same-length-15
     same-length-16
     returns-4

@@ -1,6 +1,5 @@
 -- The mark and the origin of the buffer of the number change, and those of the other stay.
 use mathlib.Core.Path.{_≡_}
-use mathlib.Core.Bool.{Bool}
 use Prim.Native.Nat.{ℕ}
 use borrow.Author.Tests.{ne-eqb}
 use Rattle.protocol.specs.declared.Settings.{Settings}
@@ -10,7 +9,7 @@ use borrow.Author.Needs.{needs}
 use Rattle.reader.proofs.buffers.hold.Statement.{statement}
 use Rattle.reader.proofs.buffers.hold.Tie as tie
 
-module _ (n : ℕ) (on : Bool) (o : ℕ) (s m q : Settings) (g : m ≡ withFill n on s) where
+module _ (n on o : ℕ) (s m q : Settings) (g : m ≡ withFill n on s) where
   second : n ≡ 2 → q ≡ withOrigins (m .origin1) o m → q ≡ withHeld n on o s
   second e f = rw (f, g, e)
 

@@ -1,6 +1,5 @@
 -- The mark of the buffer of the number changes, and the other stays.
 use mathlib.Core.Path.{_≡_}
-use mathlib.Core.Bool.{Bool}
 use Prim.Native.Nat.{ℕ}
 use borrow.Author.Tests.{ne-eqb}
 use Rattle.protocol.specs.declared.Settings.{Settings}
@@ -10,7 +9,7 @@ use borrow.Author.Needs.{needs}
 use Rattle.reader.proofs.buffers.mark.Statement.{statement}
 use Rattle.reader.proofs.buffers.mark.Tie as tie
 
-module _ (n : ℕ) (on : Bool) (s q : Settings) where
+module _ (n on : ℕ) (s q : Settings) where
   second : n ≡ 2 → q ≡ withFilled (s .filled1) on s → q ≡ withFill n on s
   second e f = rw (e, f)
 

@@ -14,6 +14,7 @@ use Rattle.protocol.specs.Table.{apply, rule, isBuffer}
 use Rattle.protocol.specs.Commands.{upChar}
 use Rattle.protocol.specs.Step.{says, carry, carryAs}
 use Rattle.protocol.proofs.Laws.Logic.{not-true, not-false}
+use Rattle.protocol.specs.Records.{isSet}
 use Rattle.reader.specs.declared.answers.Answer.{Answer}
 use Rattle.reader.specs.Answers.{answerOf, codeAlone, sent, saidOf, listedBytes}
 use Rattle.reader.specs.Commands.{obeyed}
@@ -25,7 +26,7 @@ use Rattle.reader.proofs.buffers.up_char.Statement.{statement}
 use Rattle.reader.proofs.buffers.up_char.Tie as tie
 
 module _ (χ : Chip) (s : Settings) (t i m b d : List ℕ) (n : ℕ) (a : Answer) (known : Bool) (k : known ≡ isBuffer n) (f : not known ≡ false)
-    (full : Bool) (l : full ≡ cond (eqb n 2) (s .filled2) (s .filled1)) where
+    (full : Bool) (l : full ≡ cond (eqb n 2) (isSet (s .filled2)) (isSet (s .filled1))) where
   not-filled : a ≡ codeAlone nothingToSend s → not full ≡ true → saidOf a t i m b d ≡ obeyed χ s t i m b d (upChar n)
   unfolding carry carryAs rule verdict says follow sent bufferOf
   not-filled e g = rw (e, ← k, not-false known f, chosen-filled, ← l, not-true full g)

@@ -5,6 +5,7 @@ use mathlib.Core.List.{List}
 use Prim.Native.Nat.{ℕ, _+_, _-_}
 use native.Mathlib.Omega.{arith}
 use lib.ListN.{length, take, drop, length-take, length-drop}
+use denote.Ref.{now}
 use borrow.Author.Needs.{needs}
 use Rattle.protocol.specs.declared.Settings.{Settings}
 use Rattle.protocol.specs.declared.Called.{Called}
@@ -132,7 +133,7 @@ same-length-6 : tie.Need-same-length-6
 same-length-6 c = search needs
 
 returns-2 : tie.Need-returns-2
-unfolding right asked passed
+unfolding right start asked passed
 returns-2 c =
     let a = (let p : tie.After-act = search in p .act .result) in
     let f = (let p : tie.After-act = search in p .act .ensures .0) in
@@ -141,7 +142,8 @@ returns-2 c =
     let k = (let p : tie.Else1 = search (right, passed) in p .if1 .left) in
     let w = (let p : tie.After-speak = search in p .speak .ensures) in
     let e = (let p : tie.After-called-of2 = search in p .called-of2 .ensures) in
-    answered _ _ _ _ _ _ _ _ _ _ _ _ o _ _ _ _ _ _ _ a _ _ e (w .0) (w .1) g k f
+    let z = (let p : tie.Start = search (right, start) in p .args) in
+    answered _ (z .settings) (now (z .templates)) (now (z .index)) (now (z .notepad)) (now (z .buffer1)) (now (z .buffer2)) _ _ _ _ _ o _ _ _ _ _ _ _ a _ _ e (w .0) (w .1) g k f
 
 pub hear-packet-spec : {M : Type 1} → statement M
 hear-packet-spec =

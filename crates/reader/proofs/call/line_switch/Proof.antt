@@ -4,6 +4,7 @@ use mathlib.Core.List.{List}
 use Prim.Native.Nat.{ℕ}
 use lib.ListN.{length}
 use borrow.Author.Tests.{eq-eqb, ne-eqb}
+use denote.Ref.{now}
 use borrow.Author.Needs.{needs}
 use Rattle.protocol.specs.declared.Settings.{Settings}
 use Rattle.protocol.specs.declared.Switched.{Switched}
@@ -13,7 +14,7 @@ use Rattle.protocol.specs.Tests.{verdict}
 use Rattle.protocol.specs.Reader as reader
 use Rattle.protocol.specs.Step as step
 use Rattle.protocol.specs.Call.{switchOf, switchAs, switchRefusal, refused, fitBuffers}
-use Rattle.protocol.specs.Records.{transferOf, originOf, readerOf, switchedOf}
+use Rattle.protocol.specs.Records.{fitMark, fitMarks, transferBeside, transferOf, originOf, readerOf, switchedOf}
 use Rattle.rules.specs.Settings.{withSwitch}
 use Rattle.reader.specs.Calls.{switched}
 use Rattle.reader.proofs.call.line_switch.Statement.{statement}
@@ -32,7 +33,7 @@ module _ (s : Settings) (t i n b d : List ℕ) (r : Switched) where
 
     wipes : (g : length d ≡ pageBytes) (u v : List ℕ) → u ≡ zeros (length b) → v ≡ zeros (length d) → (x : Settings) → r ≡ switched 0 x → x ≡ withSwitch s
         → switchedOf r t i n u v ≡ switchOf (readerOf s t i n b d)
-    unfolding switchOf switchAs switchRefusal verdict fitBuffers step.switched step.wiped reader.emptied reader.withMark reader.withTransfer transferOf originOf
+    unfolding switchOf switchAs switchRefusal verdict fitBuffers step.switched step.wiped reader.emptied reader.withMark reader.withTransfer fitMark fitMarks transferBeside transferOf originOf
     wipes g u v a c x e h = rw (e, h, a, c, f, g)
 
 -- places that are far back from the last return
@@ -41,6 +42,9 @@ zeroed c = search
 
 unfoldable first-zeroed : tie.After-zero2 → tie.After-zero
 first-zeroed c = search
+
+unfoldable start : tie.After-zero → tie.Start
+start c = search
 
 unfoldable passed : tie.After-zero2 → tie.Else1
 passed c = search
@@ -79,7 +83,7 @@ same-length-2 : tie.Need-same-length-2
 same-length-2 c = search needs
 
 returns-3 : tie.Need-returns-3
-unfolding zeroed first-zeroed passed passed-both
+unfolding zeroed first-zeroed start passed passed-both
 returns-3 c =
     let f = (let p : tie.Else1 = search (zeroed, passed) in p .if1 .left) in
     let g = (let p : tie.Else2 = search (zeroed, passed-both) in p .if2 .left) in
@@ -87,7 +91,8 @@ returns-3 c =
     let d = (let p : tie.After-zero2 = search zeroed in p .zero2 .ensures) in
     let h = (let p : tie.After-switched = search in p .switched .ensures) in
     let e = (let p : tie.After-switched-of3 = search in p .switched-of3 .ensures) in
-    λ t i n. wipes _ t i n _ _ _ f g _ _ a d _ e h
+    let x = (let p : tie.Start = search (zeroed, first-zeroed, start) in p .args) in
+    λ t i n. wipes (x .settings) t i n (now (x .buffer1)) (now (x .buffer2)) _ f g _ _ a d _ e h
 
 pub line-switch-spec : {M : Type 1} → statement M
 line-switch-spec =

@@ -219,7 +219,8 @@ returns-5 c =
     let w = (let p : tie.After-find = search in p .find .ensures) in
     let n = (let p : tie.After-f = search in p .f .given .1) in
     let v = (let p : tie.After-hear-packet = search in p .hear-packet .ensures) in
-    heard _ _ _ _ _ _ _ _ _ l f _ k _ _ h g _ w _ _ _ n v
+    let z = (let p : tie.Start = search (fitted, start) in p .args) in
+    heard (z .settings) (now (z .templates)) (now (z .index)) (now (z .notepad)) (now (z .buffer1)) (now (z .buffer2)) _ _ _ l f _ k _ (now (z .reply)) h g _ w _ _ _ n v
 
 pub step-spec : {M : Type 1} → statement M
 step-spec =

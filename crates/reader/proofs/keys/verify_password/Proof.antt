@@ -16,22 +16,25 @@ use Rattle.reader.specs.Answers.{codeAlone, sent, saidOf}
 use Rattle.reader.specs.Commands.{freed}
 use Rattle.rules.specs.Settings.{withMark}
 use Rattle.reader.proofs.Laws.{take-rest}
+use Rattle.protocol.proofs.Laws.Marks.{fit-mark}
+use Rattle.rules.specs.Settings.{Marked}
+use Rattle.rules.proofs.Marks.{beside-marked}
 use Rattle.reader.proofs.Ready.{ready-alone, size-mark}
 use borrow.Author.Needs.{needs}
 use Rattle.reader.proofs.keys.verify_password.Statement.{statement}
 use Rattle.reader.proofs.keys.verify_password.Tie as tie
 
-module _ (s q : Settings) (t i m b d x w : List ℕ) (a : Answer) (f : w ≡ part 1 fourBytes x) (h : length x ≡ 1 + fourBytes) (equal : Bool) (e : equal ≡ same w (s .password)) where
+module _ (s q : Settings) (t i m b d x w : List ℕ) (a : Answer) (f : w ≡ part 1 fourBytes x) (h : length x ≡ 1 + fourBytes) (equal : Bool) (e : equal ≡ same w (s .password)) (j : Marked s) where
   known : same (drop 1 x) (s .password) ≡ equal
   known = rw (← take-rest 1 fourBytes x h, ← f) (sym e)
 
-  verified : a ≡ codeAlone done q → q ≡ withMark true s → equal ≡ true → saidOf a t i m b d ≡ freed s t i m b d (verifyPassword (drop 1 x))
+  verified : a ≡ codeAlone done q → q ≡ withMark 1 s → equal ≡ true → saidOf a t i m b d ≡ freed s t i m b d (verifyPassword (drop 1 x))
   unfolding carryFree freeRule publicOf readers.withMark follow sent
-  verified g o z = rw (g, o, known ∙ z)
+  verified g o z = rw (g, o, beside-marked s j 1 (s .transfer) (s .got) (fit-mark true), known ∙ z)
 
-  refused : a ≡ codeAlone wrongPassword q → q ≡ withMark false s → equal ≡ false → saidOf a t i m b d ≡ freed s t i m b d (verifyPassword (drop 1 x))
+  refused : a ≡ codeAlone wrongPassword q → q ≡ withMark 0 s → equal ≡ false → saidOf a t i m b d ≡ freed s t i m b d (verifyPassword (drop 1 x))
   unfolding carryFree freeRule publicOf readers.withMark follow sent
-  refused g o z = rw (g, o, known ∙ z)
+  refused g o z = rw (g, o, beside-marked s j 0 (s .transfer) (s .got) (fit-mark false), known ∙ z)
 
 four-at-requires : tie.Need-four-at-requires
 four-at-requires c κs = search needs

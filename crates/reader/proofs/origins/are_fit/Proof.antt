@@ -5,13 +5,13 @@ use mathlib.Core.List.{List}
 use Prim.Native.Nat.{ℕ}
 use Rattle.protocol.specs.declared.Settings.{Settings}
 use Rattle.protocol.specs.Call.{fitOrigin}
-use Rattle.protocol.specs.Records.{originOf}
+use Rattle.protocol.specs.Records.{isSet, originOf}
 use Rattle.rules.specs.Settings.{originsFit}
 use borrow.Author.Needs.{needs}
 use Rattle.reader.proofs.origins.are_fit.Statement.{statement}
 use Rattle.reader.proofs.origins.are_fit.Tie as tie
 
-both : (c : ℕ) (x : List ℕ) (s : Settings) (a b : Bool) → a ≡ fitOrigin c x (s .filled1) (originOf (s .origin1)) → b ≡ fitOrigin c x (s .filled2) (originOf (s .origin2))
+both : (c : ℕ) (x : List ℕ) (s : Settings) (a b : Bool) → a ≡ fitOrigin c x (isSet (s .filled1)) (originOf (s .origin1)) → b ≡ fitOrigin c x (isSet (s .filled2)) (originOf (s .origin2))
     → (a && b) ≡ originsFit c x s
 unfolding originsFit
 both c x s a b e f = ap₂ _&&_ e f

@@ -10,22 +10,24 @@ use Rattle.protocol.specs.Numbers.{pageBytes, noPage}
 use Rattle.protocol.specs.Tests.{among}
 use Rattle.protocol.specs.Bytes.{zeros}
 use Rattle.protocol.specs.Reader.{Reader, bufferOf, emptied, isOneOf, without, withBuffer, reader}
-use Rattle.protocol.specs.Records.{originOf, plainOf, readerOf}
+use Rattle.protocol.specs.Records.{isSet, originOf, plainOf, readerOf}
 use Rattle.protocol.proofs.Laws.Logic.{not-true, not-false}
 use Rattle.protocol.proofs.Laws.Effects.{buffer-own}
+use Rattle.protocol.proofs.Laws.Marks.{fit-mark}
+use Rattle.rules.specs.Settings.{Marked}
 use Rattle.reader.specs.Buffers.{buffers, changed, withHeld, ForgotOne}
 use Rattle.reader.proofs.Laws.{chosen-origin}
-use Rattle.reader.proofs.ByNumber.{emptied-one}
+use Rattle.reader.proofs.ByNumber.{held-fit, beside-held, emptied-one}
 use borrow.Author.Needs.{needs}
 use Rattle.reader.proofs.origins.forget_one.Statement.{statement}
 use Rattle.reader.proofs.origins.forget_one.Tie as tie
 
-module _ (k p n : ℕ) (s : Settings) (b c : List ℕ) (o : ℕ) (e : o ≡ cond (eqb k 2) (s .origin2) (s .origin1)) (gone : Bool) (f : gone ≡ isOneOf (among p n) (originOf o)) where
+module _ (k p n : ℕ) (s : Settings) (b c : List ℕ) (o : ℕ) (e : o ≡ cond (eqb k 2) (s .origin2) (s .origin1)) (gone : Bool) (f : gone ≡ isOneOf (among p n) (originOf o)) (j : Marked s) where
   -- the test is the definition's
   asked : (t i m : List ℕ) → isOneOf (among p n) (bufferOf (eqb k 2) (readerOf s t i m b c .guarded) .origin) ≡ gone
   unfolding bufferOf
   asked t i m =
-      ap (isOneOf (among p n)) (chosen-origin (eqb k 2) c b (s .filled2) (s .filled1) (s .origin2) (s .origin1) ∙ ap originOf (sym e))
+      ap (isOneOf (among p n)) (chosen-origin (eqb k 2) c b (isSet (s .filled2)) (isSet (s .filled1)) (s .origin2) (s .origin1) ∙ ap originOf (sym e))
       ∙ sym f
 
   stays : not gone ≡ true → ForgotOne k p n s s b c b c
@@ -38,9 +40,10 @@ module _ (k p n : ℕ) (s : Settings) (b c : List ℕ) (o : ℕ) (e : o ≡ cond
             sym
             (ap (λ (z : Bool). reader (r .plain) (withBuffer (eqb k 2) (cond z emptied (bufferOf (eqb k 2) (r .guarded))) (r .guarded))) (asked t i m ∙ not-true gone g)
             ∙ ap (reader (r .plain)) (buffer-own (eqb k 2) (r .guarded)));
+        marks = j;
       }
 
-  goes : (q : Settings) (x y : List ℕ) → not gone ≡ false → q ≡ withHeld k false noPage s → buffers x y ≡ changed k (λ (z : List ℕ). zeros (length z)) b c
+  goes : (q : Settings) (x y : List ℕ) → not gone ≡ false → q ≡ withHeld k 0 noPage s → buffers x y ≡ changed k (λ (z : List ℕ). zeros (length z)) b c
       → length b ≡ pageBytes → length c ≡ pageBytes → ForgotOne k p n q s x y b c
   unfolding without
   goes q x y g h u l v =
@@ -49,8 +52,9 @@ module _ (k p n : ℕ) (s : Settings) (b c : List ℕ) (o : ℕ) (e : o ≡ cond
             λ t i m.
             let r : Reader = readerOf s t i m b c in
             ap (λ (z : Settings). readerOf z t i m x y) h
-            ∙ ap (reader (plainOf s)) (emptied-one k s t i m b c x y u l v)
+            ∙ rw (beside-held k 0 noPage s (s .transfer) (s .got) j (fit-mark false)) (ap (reader (plainOf s)) (emptied-one k s t i m b c x y u l v))
             ∙ sym (ap (λ (z : Bool). reader (r .plain) (withBuffer (eqb k 2) (cond z emptied (bufferOf (eqb k 2) (r .guarded))) (r .guarded))) (asked t i m ∙ not-false gone g));
+        marks = rw h (held-fit k 0 noPage s j (fit-mark false));
       }
 
 origin-of-requires : tie.Need-origin-of-requires

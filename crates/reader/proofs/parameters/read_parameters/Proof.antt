@@ -12,6 +12,7 @@ use Rattle.protocol.specs.Table.{statusOf, parametersOf, freeRule, publicOf}
 use Rattle.protocol.specs.Commands.{readSysPara}
 use Rattle.protocol.specs.Step.{carryFree}
 use Rattle.rules.specs.Settings.{shownOf}
+use Rattle.protocol.specs.Records.{isSet}
 use Rattle.reader.specs.declared.answers.Answer.{Answer}
 use Rattle.reader.specs.Answers.{answerOf, sent, saidOf}
 use Rattle.reader.specs.Commands.{freed}
@@ -22,7 +23,7 @@ use Rattle.reader.proofs.parameters.read_parameters.Tie as tie
 
 parameters-read : (s : Settings) (t i m b d y : List ℕ) (a : Answer) (shown : Bool) (v l z f pages : ℕ) → a ≡ answerOf true 0 16 y 0 s
     → take 16 y ≡ joined (two v ∷ two (s .sensor) ∷ two pages ∷ two l ∷ s .address ∷ two z ∷ two f ∷ []) → shown ≡ shownOf s
-    → v ≡ statusOf (s .verified) shown → l ≡ s .level → z ≡ s .size → f ≡ s .baud → length t / pageBytes ≡ pages → saidOf a t i m b d ≡ freed s t i m b d readSysPara
+    → v ≡ statusOf (isSet (s .verified)) shown → l ≡ s .level → z ≡ s .size → f ≡ s .baud → length t / pageBytes ≡ pages → saidOf a t i m b d ≡ freed s t i m b d readSysPara
 unfolding carryFree freeRule publicOf parametersOf shownOf capacity follow sent
 parameters-read s t i m b d y a shown v l z f pages e g w h j k o p = rw (e, g, h, w, j, k, o, p)
 

@@ -18,8 +18,10 @@ use Rattle.protocol.specs.Search.{thresholdOf, searchOf, matchCode, matchBytes}
 use Rattle.protocol.specs.Commands.{searchFor}
 use Rattle.protocol.specs.Table.{apply, rule, isBuffer}
 use Rattle.protocol.specs.Step.{says, carry, carryAs}
-use Rattle.protocol.specs.Records.{chipOf}
+use Rattle.protocol.specs.Records.{isSet, markOf, chipOf}
 use Rattle.protocol.proofs.Laws.Logic.{not-true, not-false}
+use Rattle.protocol.proofs.Laws.Marks.{fit-mark, set-mark}
+use Rattle.rules.proofs.Marks.{beside-found}
 use Rattle.rules.specs.Settings as records
 use Rattle.library.specs.Search.{bestIn}
 use Rattle.reader.specs.declared.answers.Answer.{Answer}
@@ -36,19 +38,19 @@ module _ (s : Settings) (t i m b d c h : List ℕ) (n p k : ℕ) (a : Answer) (k
   unfolding rule
   missing f g o = no-page s t i m b d a n known e _ _ _ _ _ p f g (rw l at o)
 
-  module _ (full : Bool) (o : full ≡ cond (eqb n 2) (s .filled2) (s .filled1)) (g : not known ≡ false) (u : p < length c) where
+  module _ (full : Bool) (o : full ≡ cond (eqb n 2) (isSet (s .filled2)) (isSet (s .filled1))) (g : not known ≡ false) (u : p < length c) where
     not-filled : a ≡ codeAlone nothingThere s → not full ≡ true → saidOf a t i m b d ≡ obeyed (chipOf c h) s t i m b d (searchFor n p k)
     unfolding carry carryAs rule verdict capacity says follow sent bufferOf
     not-filled f w = rw (f, ← e, not-false known g, ← l, lt-ltb _ _ u, chosen-filled, ← o, not-true full w)
 
-    searched : (q : Settings) (x : Match) (z : ℕ) → a ≡ answerOf true (matchCode x) 4 (matchList x) 0 q → not full ≡ false → q ≡ records.withFound (x .found) s
+    searched : (q : Settings) (x : Match) (z v′ : ℕ) → a ≡ answerOf true (matchCode x) 4 (matchList x) 0 q → not full ≡ false → q ≡ records.withFound v′ s → v′ ≡ markOf (x .found) → records.Marked s
         → z ≡ thresholdOf h (s .level) → x ≡ bestIn i c z p k → length i ≡ indexBytes → length c ≤ mostPages
         → saidOf a t i m b d ≡ obeyed (chipOf c h) s t i m b d (searchFor n p k)
     unfolding carry carryAs rule verdict capacity follow sent apply bufferOf withFound matchList matchBytes two joined bestIn searchOf
-    searched q x z f w y v r j few =
+    searched q x z v′ f w y fl ml v r j few =
         let one = le-leb (length c) mostPages few in
         let two : leb (length c) (8 * length i) ≡ true = le-leb (length c) (8 * length i) (omega arith) in
-        rw (f, y, r, v, one, two, ← e, not-false known g, ← l, lt-ltb _ _ u, chosen-filled, ← o, not-false full w)
+        rw (f, y, fl, beside-found s ml (markOf (x .found)) (s .transfer) (s .got) (fit-mark (x .found)), set-mark (x .found), r, v, one, two, ← e, not-false known g, ← l, lt-ltb _ _ u, chosen-filled, ← o, not-false full w)
 
 -- the start, from where the buffer is known to be filled
 unfoldable start : tie.Else3 → tie.Start
@@ -91,6 +93,9 @@ cast-best-2 c = search needs
 best-requires : tie.Need-best-requires
 best-requires c κs = search needs
 
+flag-requires : tie.Need-flag-requires
+flag-requires c κs = search needs
+
 remembered-requires : tie.Need-remembered-requires
 remembered-requires c κs = search needs
 
@@ -107,11 +112,12 @@ returns-4 c =
     let w = (let p : tie.Else3 = search in p .if3 .left) in
     let v = (let p : tie.After-threshold-of = search in p .threshold-of .ensures) in
     let r = (let p : tie.After-best = search in p .best .ensures) in
+    let fl = (let p : tie.After-flag = search in p .flag .ensures) in
     let y = (let p : tie.After-remembered = search in p .remembered .ensures) in
     let f = (let p : tie.After-matched = search in p .matched .ensures) in
     let j = (let s : tie.Start = search start in s .pre) in
     record {
-      said = λ t m b d e. searched _ t _ m b d _ _ _ _ _ _ _ k e _ o g u _ _ _ f w y v r (j .0) (j .1 .0);
+      said = λ t m b d e. searched _ t _ m b d _ _ _ _ _ _ _ k e _ o g u _ _ _ _ f w y fl (j .1 .1 .1 .1 .1) v r (j .0) (j .1 .0);
       ready = search (ready-listed, size-found);
     }
 
@@ -131,6 +137,7 @@ search-pages-spec =
     cast-best
     cast-best-2
     best-requires
+    flag-requires
     remembered-requires
     matched-requires
     returns-4)

@@ -1,17 +1,18 @@
 -- Number 2 has the second mark, and any other number the first.
 use mathlib.Core.Path.{_≡_}
-use mathlib.Core.Bool.{Bool, cond}
+use mathlib.Core.Bool.{cond}
 use Prim.Native.Nat.{ℕ}
 use lib.Dec.{eqb}
 use borrow.Author.Tests.{ne-eqb}
+use Rattle.protocol.specs.Records.{isSet}
 use Rattle.rules.proofs.settings.filled_of.Statement.{statement}
 use Rattle.rules.proofs.settings.filled_of.Tie as tie
 
-module _ (n : ℕ) (one two : Bool) where
-  second : n ≡ 2 → two ≡ cond (eqb n 2) two one
+module _ (n one two : ℕ) where
+  second : n ≡ 2 → isSet two ≡ cond (eqb n 2) (isSet two) (isSet one)
   second e = rw e
 
-  first : (n ≡ 2 → ⊥) → one ≡ cond (eqb n 2) two one
+  first : (n ≡ 2 → ⊥) → isSet one ≡ cond (eqb n 2) (isSet two) (isSet one)
   first e = rw (ne-eqb n 2 e)
 
 returns : tie.Need-returns

@@ -5,12 +5,12 @@ use borrow.Author.Needs.{needs}
 use Rattle.protocol.specs.declared.Settings.{Settings}
 use Rattle.protocol.specs.Reader.{locked}
 use Rattle.protocol.specs.Table.{publicOf}
-use Rattle.protocol.specs.Records.{plainOf}
+use Rattle.protocol.specs.Records.{isSet, plainOf}
 use Rattle.rules.specs.Settings.{shownOf}
 use Rattle.rules.proofs.settings.shows_found.Statement.{statement}
 use Rattle.rules.proofs.settings.shows_found.Tie as tie
 
-masked : (s : Settings) (shut : Bool) → shut ≡ locked (plainOf s) → (not shut && s .found) ≡ shownOf s
+masked : (s : Settings) (shut : Bool) → shut ≡ locked (plainOf s) → (not shut && isSet (s .found)) ≡ shownOf s
 unfolding shownOf publicOf
 masked s shut e = rw e
 

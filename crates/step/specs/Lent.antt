@@ -3,7 +3,7 @@ use Prim.Native.Nat.{ℕ}
 use Rattle.protocol.specs.declared.Settings.{Settings}
 use Rattle.protocol.specs.declared.Called.{Called}
 use Rattle.protocol.specs.declared.Switched.{Switched}
-use Rattle.place.specs.declared.Answered.{Answered}
+use Rattle.step.specs.declared.Answered.{Answered}
 
 abbrev pub calledAt : Settings → Answered → Called
 calledAt s a = record { settings = s; refusal = a .refusal; used = a .used; length = a .length }

@@ -1,9 +1,9 @@
 -- Each mark in its turn.
 use Rattle.wire.proofs.Picks.{picks}
 use borrow.Author.Needs.{needs}
-use Rattle.board.specs.Stored.{fitMark, fitMarks}
-use Rattle.board.proofs.stored.has_fit_marks.Statement.{statement}
-use Rattle.board.proofs.stored.has_fit_marks.Tie as tie
+use Rattle.protocol.specs.Records.{fitMark, fitMarks}
+use Rattle.rules.proofs.settings.has_fit_marks.Statement.{statement}
+use Rattle.rules.proofs.settings.has_fit_marks.Tie as tie
 
 returns : tie.Need-returns
 unfolding fitMarks fitMark
