@@ -8,24 +8,16 @@ ghost use Rattle.protocol.specs.BringOver.{bringOver};
 ghost use Rattle.protocol.specs.Services.{sumService, usedService, buildService, countService};
 ghost use Rattle.protocol.specs.Call.{core};
 ghost use Rattle.protocol.specs.Receiver.{receiveOf, lineSwitchOf};
-ghost use Rattle.protocol.specs.Records.{readerOf, lineOf, freshOf, lentOf, receivedOf, emptiedOf, broughtOf};
-ghost use Rattle.board.specs.Lent.{receivedAt, emptiedAt};
+ghost use Rattle.protocol.specs.Records.{readerOf, lineOf, freshOf, lentOf, receivedOf, emptiedOf, receivedAt, emptiedAt, broughtOf};
 use library::index;
 use protocol::Line;
 use protocol::Settings;
+use protocol::Taken;
 use protocol::numbers;
 use rules::settings;
 use wire::builder;
 use wire::bytes;
 use wire::finder;
-
-// What a receiver's call returns: the refusal or 0, the bytes taken of the piece, and the reply's length.
-#[repr(C)]
-pub struct Taken {
-    pub refusal: u8,
-    pub taken: usize,
-    pub length: usize,
-}
 
 // The sum of all bytes of a run modulo 65536.
 #[no_mangle]

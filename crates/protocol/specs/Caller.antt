@@ -11,7 +11,7 @@ use Rattle.protocol.specs.Reader.{Reader}
 use Rattle.protocol.specs.Search.{Chip}
 use Rattle.protocol.specs.Step.{stepOf}
 use Rattle.protocol.specs.Call.{Shape, Lent, Told, replyOf}
-use Rattle.protocol.specs.Dialogue.{Event, received, switch}
+use Rattle.protocol.specs.Dialogue.{Event, received, switch, Exchange}
 use Rattle.protocol.specs.Receiver.{bytesIn, holding, Line, line, Handed, runOf, receiveOf, lineSwitchOf}
 
 -- ---- "the caller offers the rest, then an empty piece"
@@ -94,6 +94,14 @@ unfoldable pub runs : Shape → Line → List Event → List Event
 runs σ x [] = []
 runs σ x (received piece lent ∷ es) = received (runOf (x .receiver) piece) lent ∷ runs σ (receiveOf σ x piece lent .after) es
 runs σ x (switch ∷ es) = switch ∷ runs σ (lineSwitchOf x .after) es
+
+-- what the host of a receiver saw of each call: the bytes that it was done on, and the reply that the receiver gave
+unfoldable pub seen : Shape → Line → List Event → List Exchange
+seen σ x [] = []
+seen σ x (received piece lent ∷ es) =
+    let o = receiveOf σ x piece lent in
+    record { run = runOf (x .receiver) piece; reply = replyOf (o .told) } ∷ seen σ (o .after) es
+seen σ x (switch ∷ es) = seen σ (lineSwitchOf x .after) es
 
 -- up to and including the first accepted password: the events gone through, what each got back, and the line after the last
 pub record Talk : Type 0 where

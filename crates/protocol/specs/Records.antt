@@ -5,10 +5,12 @@ use Prim.Native.Nat.{ℕ, zero, suc}
 use lib.Dec.{eqb, ltb}
 use Rattle.protocol.specs.declared.Settings.{Settings}
 use Rattle.protocol.specs.declared.Called.{Called}
+use Rattle.protocol.specs.declared.Answered.{Answered}
 use Rattle.protocol.specs.declared.Switched.{Switched}
 use Rattle.protocol.specs.declared.Built.{Built}
 use Rattle.protocol.specs.declared.Line.{Line}
 use Rattle.protocol.specs.declared.Received.{Received}
+use Rattle.protocol.specs.declared.Taken.{Taken}
 use Rattle.protocol.specs.declared.Emptied.{Emptied}
 use Rattle.protocol.specs.Numbers.{noPage}
 use Rattle.protocol.specs.Packet.{Made}
@@ -106,6 +108,22 @@ emptiedOf s t i n b d =
       told = record { refusal = s .refusal; used = 0; length = 0; room = [] };
       after = lineOf (s .line) t i n b d;
     }
+
+-- ---- lent records: what lies where it was lent and what was returned beside it are together what the call by value returns
+
+abbrev pub calledAt : Settings → Answered → Called
+calledAt s a = record { settings = s; refusal = a .refusal; used = a .used; length = a .length }
+
+abbrev pub switchedAt : Settings → ℕ → Switched
+switchedAt s refusal = record { settings = s; refusal = refusal }
+
+abbrev pub receivedAt : Line → Taken → Received
+receivedAt x a = record { line = x; refusal = a .refusal; taken = a .taken; length = a .length }
+
+abbrev pub emptiedAt : Line → ℕ → Emptied
+emptiedAt x refusal = record { line = x; refusal = refusal }
+
+-- ---- fresh settings, the builder, bringing over
 
 -- fresh settings have their filled marks and status bit 1 clear too, and no origins
 abbrev pub freshOf : List ℕ → List ℕ → List ℕ → List ℕ → List ℕ → Reader

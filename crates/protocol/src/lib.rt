@@ -53,6 +53,14 @@ pub struct Called {
     pub length: usize,
 }
 
+// What a call on lent settings returns: the same, and the settings lie changed where they were lent.
+#[repr(C)]
+pub struct Answered {
+    pub refusal: u8,
+    pub used: usize,
+    pub length: usize,
+}
+
 // What a line switch returns: the settings after it, and the refusal or 0.
 pub struct Switched {
     pub settings: Settings,
@@ -83,6 +91,14 @@ pub struct Line {
 // What a receiver's call returns: the line after it, the refusal or 0, the bytes taken of the piece, and the reply's length.
 pub struct Received {
     pub line: Line,
+    pub refusal: u8,
+    pub taken: usize,
+    pub length: usize,
+}
+
+// What a receiver's call on a lent line returns: the same, and the line lies changed where it was lent.
+#[repr(C)]
+pub struct Taken {
     pub refusal: u8,
     pub taken: usize,
     pub length: usize,

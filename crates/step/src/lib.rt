@@ -5,18 +5,10 @@ ghost use mathlib.Core.Path.{_≡_};
 ghost use mathlib.Core.List.{List};
 ghost use Prim.Native.Nat.{ℕ};
 ghost use Rattle.protocol.specs.Call.{core, callOf, switchOf};
-ghost use Rattle.protocol.specs.Records.{readerOf, lentOf, endedOf, switchedOf};
-ghost use Rattle.step.specs.Lent.{calledAt, switchedAt};
+ghost use Rattle.protocol.specs.Records.{readerOf, lentOf, endedOf, switchedOf, calledAt, switchedAt};
+use protocol::Answered;
 use protocol::Settings;
 use reader::call;
-
-// What a call returns: the refusal or 0, the bytes used, and the reply's length. The settings lie changed where they were lent.
-#[repr(C)]
-pub struct Answered {
-    pub refusal: u8,
-    pub used: usize,
-    pub length: usize,
-}
 
 // A call of the reader on lent settings.
 #[no_mangle]

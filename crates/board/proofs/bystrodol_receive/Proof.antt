@@ -46,9 +46,9 @@ use Rattle.protocol.proofs.Line.Laws as T′
 use Rattle.protocol.specs.declared.Received.{Received}
 use Rattle.protocol.proofs.Received as D
 use Rattle.protocol.proofs.Received.Laws as D′
-use Rattle.board.specs.declared.Taken.{Taken}
-use Rattle.board.proofs.Taken as K
-use Rattle.board.proofs.Taken.Laws as K′
+use Rattle.protocol.specs.declared.Taken.{Taken}
+use Rattle.protocol.proofs.Taken as K
+use Rattle.protocol.proofs.Taken.Laws as K′
 use Rattle.board.proofs.Lent.{slice, Fits}
 use Rattle.board.proofs.Told.{rest, tolds, tolds-fit, tolds-go}
 use Rattle.receiver.proofs.receive as g

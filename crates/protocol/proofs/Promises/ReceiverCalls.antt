@@ -2,28 +2,33 @@
 use mathlib.Core.Bool.{Bool, true, false, cond}
 use mathlib.Core.Path.{_≡_, refl, sym, ap, _∙_, subst}
 use mathlib.Core.Logic.{_⊎_}
-use mathlib.Core.List.{List, [], _∷_}
+use mathlib.Core.List.{List, [], _∷_, _++_}
 use Prim.Native.Nat.{ℕ, zero, suc, _*_, _≤_}
 use native.Mathlib.Omega.{arith}
-use lib.Dec.{leb, le→leb}
-use lib.ListN.{length, length-drop}
+use lib.Dec.{T, leb, le→leb}
+use lib.ListN.{length, take, drop, getD, length-drop}
 use Rattle.protocol.specs.Numbers.{holds, longest}
 use Rattle.protocol.specs.Bytes.{Bytes, zeros}
 use Rattle.protocol.specs.Index.{setBits}
-use Rattle.protocol.specs.Reader.{Reader}
-use Rattle.protocol.specs.Step.{stepOf}
-use Rattle.protocol.specs.Call.{Shape, Lent, Ended, carried, callOf, switchOf}
-use Rattle.protocol.specs.Dialogue.{Event, received, switch, on, finally, exchanges, Dialogue, over, first, dialogue}
+use Rattle.protocol.specs.Reader.{fromPage, Reader, capacity, locked}
+use Rattle.protocol.specs.Commands.{templeteNum, barred, command}
+use Rattle.protocol.specs.Data.{acknowledge}
+use Rattle.protocol.specs.Step.{order, hear, rested, stepOf}
+use Rattle.protocol.specs.Call.{Shape, Lent, fitLent, Ended, replyOf, carried, callOf, switchOf}
+use Rattle.protocol.specs.Dialogue.{Event, received, switch, on, finally, Exchange, exchanges, Dialogue, over, first, dialogue}
 use Rattle.protocol.specs.Receiver.{holding, Line, Handed, runOf, handed, receiveOf, lineSwitchOf}
-use Rattle.protocol.specs.Caller.{onLine, finallyOn, runs, Talk, endsAt, begins, talk}
+use Rattle.protocol.specs.Caller.{onLine, finallyOn, runs, seen, Talk, endsAt, begins, talk}
 use Rattle.protocol.proofs.Laws.Logic.{T→true}
 use Rattle.protocol.proofs.Laws.Answers.{switch-stays}
 use Rattle.protocol.proofs.Laws.Holding.{few-held, handedBy, receive-kinds, receive-call, switch-tells, switch-kinds}
-use Rattle.protocol.proofs.Promises.Told.{has}
-use Rattle.protocol.proofs.Promises.StaysLegal.{Legal}
+use Rattle.protocol.proofs.Promises.Told.{Gives, has, buffer, word}
+use Rattle.protocol.proofs.Promises.StaysLegal.{Legal, ever-legal}
 use Rattle.protocol.proofs.Promises.ReplyFits.{reply-fits}
-use Rattle.protocol.proofs.Promises.ValidCount.{livePages, valid-count}
+use Rattle.protocol.proofs.Promises.ValidCount.{livePages, valid-count, count-told}
 use Rattle.protocol.proofs.Promises.Untouched.{SawDeleted, Untouched, only-by-deletion}
+use Rattle.protocol.proofs.Promises.Faithful.{Faithful, Holds, ever-faithful}
+use Rattle.protocol.proofs.Promises.Searches.{Other, code, bit-kept}
+use Rattle.protocol.proofs.Promises.Receiver.{bare}
 use Rattle.protocol.proofs.Promises.SizeCode.{Unset, code-kept}
 
 -- ---- one call
@@ -78,6 +83,12 @@ as-calls σ (switch ∷ es) x few =
     let y : Line = lineSwitchOf x .after in
     as-calls σ es y (switch-few x few) ∙ ap (λ (r : Reader). finally σ r (runs σ y es)) (switch-reader x)
 
+ever-few : (σ : Shape) (es : List Event) (x : Line) → x .receiver .count ≤ 267 → finallyOn σ x es .receiver .count ≤ 267
+unfolding finallyOn onLine
+ever-few σ [] x few = few
+ever-few σ (received piece lent ∷ es) x few = ever-few σ es (receiveOf σ x piece lent .after) (stays-few σ x few piece lent)
+ever-few σ (switch ∷ es) x few = ever-few σ es (lineSwitchOf x .after) (switch-few x few)
+
 -- up to and including the first accepted password too: a talk goes as far as the dialogue of its runs, so `course` says where it stops
 pub record AsDialogue (σ : Shape) (x : Line) (d : Talk) (e : Dialogue) : Type 0 where
   pub events : runs σ x (d .events) ≡ e .events
@@ -122,25 +133,89 @@ as-dialogue σ (switch ∷ es) x few =
     go true i = record { events = refl; last = refl }
     go false i = record { events = ap (λ (y : List Event). switch ∷ y) (i .events); last = i .last }
 
--- demand 2's valid count, of the runs that were held and the replies to them
-pub line-count : (σ : Shape) (ok : σ .most ≤ 8 * σ .indexed) (x : Line) → x .receiver .count ≤ 267 → x .reader .guarded .index ≡ zeros (σ .indexed) → (es : List Event)
-    → setBits (finallyOn σ x es .reader .guarded .index) ≡ livePages σ ok (x .reader) (runs σ x es)
-line-count σ ok x few z es =
-    ap (λ (r : Reader). setBits (r .guarded .index)) (as-calls σ es x few) ∙ valid-count σ ok (x .reader) z (runs σ x es)
+-- ---- what its host saw: the replies that the receiver gave
+
+pub seen-is : (σ : Shape) (es : List Event) (x : Line) → x .receiver .count ≤ 267 → exchanges σ (x .reader) (runs σ x es) ≡ seen σ x es
+unfolding seen runs exchanges replyOf
+seen-is σ [] x few = refl
+seen-is σ (received piece lent ∷ es) x few =
+    let y : Line = receiveOf σ x piece lent .after in
+    let c = as-call σ x few piece lent in
+    (λ j. record { run = runOf (x .receiver) piece; reply = take (sym (c .length) j) (sym (c .room) j) } ∷ exchanges σ (sym (c .reader) j) (runs σ y es))
+    ∙ ap (λ (z : List Exchange). record { run = runOf (x .receiver) piece; reply = replyOf (receiveOf σ x piece lent .told) } ∷ z) (seen-is σ es y (stays-few σ x few piece lent))
+seen-is σ (switch ∷ es) x few =
+    let y : Line = lineSwitchOf x .after in
+    ap (λ (r : Reader). exchanges σ r (runs σ y es)) (sym (switch-reader x)) ∙ seen-is σ es y (switch-few x few)
+
+module _ (σ : Shape) (ok : σ .most ≤ 8 * σ .indexed) (x : Line) (few : x .receiver .count ≤ 267) where
+  -- a legal reader is legal after any sequence
+  pub line-legal : Legal σ ok (x .reader) → (es : List Event) → Legal σ ok (finallyOn σ x es .reader)
+  line-legal l es = subst (Legal σ ok) (sym (as-calls σ es x few)) (ever-legal σ ok (x .reader) l (runs σ x es))
+
+  -- demand 2's valid count: from an empty library the pages that the host saw stored and not deleted since
+  pub line-count : x .reader .guarded .index ≡ zeros (σ .indexed) → (es : List Event) → setBits (finallyOn σ x es .reader .guarded .index) ≡ livePages (σ .indexed) (seen σ x es)
+  line-count z es =
+      ap (λ (r : Reader). setBits (r .guarded .index)) (as-calls σ es x few) ∙ valid-count σ ok (x .reader) z (runs σ x es) ∙ ap (livePages (σ .indexed)) (seen-is σ es x few)
+
+  -- request [5]'s stored pages: each stays as it was, or the host saw it deleted
+  pub line-only-by-deletion : Bytes (x .reader .guarded .index) → (q : ℕ) → has (x .reader) q ≡ true → (es : List Event)
+      → Untouched q (x .reader) (finallyOn σ x es .reader) ⊎ SawDeleted q (seen σ x es)
+  line-only-by-deletion y q s es =
+      subst (λ (r : Reader). Untouched q (x .reader) r ⊎ SawDeleted q (seen σ x es)) (sym (as-calls σ es x few))
+      (subst (λ (z : List Exchange). Untouched q (x .reader) (finally σ (x .reader) (runs σ x es)) ⊎ SawDeleted q z) (seen-is σ es x few)
+      (only-by-deletion σ ok (x .reader) y q s (runs σ x es)))
+
+  -- request [7]'s buffers: one with an origin is filled and holds the bytes of that page, which is stored
+  pub line-faithful : Legal σ ok (x .reader) → Faithful (x .reader) → (es : List Event) (b p : ℕ) → buffer b (finallyOn σ x es .reader .guarded) .origin ≡ fromPage p
+      → Holds σ ok (finallyOn σ x es .reader) b p
+  line-faithful l f es b p =
+      subst (λ (r : Reader). buffer b (r .guarded) .origin ≡ fromPage p → Holds σ ok r b p) (sym (as-calls σ es x few)) (ever-faithful σ ok (x .reader) l f (runs σ x es) b p)
+
+  -- the reply never exceeds the reply room that is asked for
+  pub line-fits : Legal σ ok (x .reader) → (piece : List ℕ) (lent : Lent) → receiveOf σ x piece lent .told .length ≤ 700
+  line-fits l piece lent = rw (as-call σ x few piece lent .length) (reply-fits σ ok (x .reader) l (runOf (x .receiver) piece) lent)
+
+-- a receiver's call that replies this, at the front of the room and no more, and leaves this reader
+pub record LineGives (reply : List ℕ) (t : Reader) (lent : Lent) (o : Handed) : Type 0 where
+  pub refusal : o .told .refusal ≡ 0
+  pub long : o .told .length ≡ length reply
+  pub room : o .told .room ≡ reply ++ drop (length reply) (lent .room)
+  pub after : o .after .reader ≡ t
+
+pub line-gives : (σ : Shape) (x : Line) → x .receiver .count ≤ 267 → (piece : List ℕ) (lent : Lent) (reply : List ℕ) (t : Reader)
+    → Gives reply t (runOf (x .receiver) piece) lent (callOf σ (x .reader) (runOf (x .receiver) piece) lent) → LineGives reply t lent (receiveOf σ x piece lent)
+line-gives σ x few piece lent reply t g =
+    let c = as-call σ x few piece lent in
+    record { refusal = c .refusal ∙ g .told .refusal; long = c .length ∙ g .told .long; room = c .room ∙ g .told .room; after = c .reader ∙ g .after }
+
+module _ (σ : Shape) (ok : σ .most ≤ 8 * σ .indexed) where
+  -- TempleteNum tells the valid count, at any time that the reader is not locked
+  pub line-count-told : (x : Line) → x .receiver .count ≤ 267 → Legal σ ok (x .reader) → x .reader .guarded .index ≡ zeros (σ .indexed) → (es : List Event) (piece : List ℕ) (lent : Lent)
+      → (let y = finallyOn σ x es in
+      T (fitLent (capacity (x .reader .guarded)) lent) → locked (y .reader .plain) ≡ false → hear (y .reader .plain .address) (runOf (y .receiver) piece) ≡ order (command (barred templeteNum))
+      → LineGives (acknowledge (y .reader .plain .address) 0x00 (word (livePages (σ .indexed) (seen σ x es)))) (rested (y .reader)) lent (receiveOf σ y piece lent))
+  line-count-told x few l z es piece lent u free asks =
+      let y : Line = finallyOn σ x es in
+      let run : List ℕ = runOf (y .receiver) piece in
+      let told = subst
+      (λ (a : Reader × List Exchange). locked (a .0 .plain) ≡ false → hear (a .0 .plain .address) run ≡ order (command (barred templeteNum))
+      → Gives (acknowledge (a .0 .plain .address) 0x00 (word (livePages (σ .indexed) (a .1)))) (rested (a .0)) run lent (callOf σ (a .0) run lent))
+      (λ j. (sym (as-calls σ es x few) j, seen-is σ es x few j)) (count-told σ ok (x .reader) l z (runs σ x es) run lent u) free asks
+      in
+      line-gives σ y (ever-few σ es x few) piece lent _ _ told
+
+-- request [8]'s status bit 1, by the reply that the receiver gave: unless that is 00h or 09h of a Search, the bit is what it was
+pub line-bit-kept : (σ : Shape) (x : Line) → x .receiver .count ≤ 267 → length (x .reader .plain .address) ≡ 4 → (piece : List ℕ) (lent : Lent)
+    → Other (hear (x .reader .plain .address) (runOf (x .receiver) piece)) (code (bare (receiveOf σ x piece lent)))
+    → receiveOf σ x piece lent .after .reader .guarded .found ≡ x .reader .guarded .found
+unfolding replyOf
+line-bit-kept σ x few four piece lent o =
+    let run : List ℕ = runOf (x .receiver) piece in
+    let c = as-call σ x few piece lent in
+    ap (λ (r : Reader). r .guarded .found) (c .reader)
+    ∙ bit-kept σ (x .reader) four run lent (subst (λ (a : ℕ × List ℕ). Other (hear (x .reader .plain .address) run) (getD (take (a .0) (a .1)) 9 0xff)) (λ j. (c .length j, c .room j)) o)
 
 -- request [2]'s "Stored settings keep their own code", where no run that was held asks for parameter 6
 pub line-code : (σ : Shape) (x : Line) → x .receiver .count ≤ 267 → (es : List Event) → Unset σ (x .reader) (runs σ x es)
     → finallyOn σ x es .reader .plain .size ≡ x .reader .plain .size
 line-code σ x few es u = ap (λ (r : Reader). r .plain .size) (as-calls σ es x few) ∙ code-kept σ (runs σ x es) (x .reader) u
-
--- request [5]'s stored pages: each stays as it was, or the host saw it deleted, of the runs that were held and the replies to them
-pub line-only-by-deletion : (σ : Shape) (ok : σ .most ≤ 8 * σ .indexed) (x : Line) → x .receiver .count ≤ 267 → Bytes (x .reader .guarded .index) → (q : ℕ)
-    → has (x .reader) q ≡ true → (es : List Event) → Untouched q (x .reader) (finallyOn σ x es .reader) ⊎ SawDeleted q (exchanges σ (x .reader) (runs σ x es))
-line-only-by-deletion σ ok x few y q s es =
-    subst (λ (r : Reader). Untouched q (x .reader) r ⊎ SawDeleted q (exchanges σ (x .reader) (runs σ x es))) (sym (as-calls σ es x few))
-    (only-by-deletion σ ok (x .reader) y q s (runs σ x es))
-
--- the reply never exceeds the reply room that is asked for
-pub line-fits : (σ : Shape) (ok : σ .most ≤ 8 * σ .indexed) (x : Line) → x .receiver .count ≤ 267 → Legal σ ok (x .reader) → (piece : List ℕ) (lent : Lent)
-    → receiveOf σ x piece lent .told .length ≤ 700
-line-fits σ ok x few l piece lent = rw (as-call σ x few piece lent .length) (reply-fits σ ok (x .reader) l (runOf (x .receiver) piece) lent)

@@ -15,7 +15,7 @@ use Rattle.protocol.specs.Commands.{templeteNum, barred, command}
 use Rattle.protocol.specs.Data.{acknowledge}
 use Rattle.protocol.specs.Step.{order, hear, rested}
 use Rattle.protocol.specs.Call.{Shape, Lent, fitLent, legal, callOf}
-use Rattle.protocol.specs.Dialogue.{Event, finally, exchanges, Act, history, live}
+use Rattle.protocol.specs.Dialogue.{Event, finally, Exchange, exchanges, Act, history, live}
 use Rattle.protocol.proofs.Laws.Index.{Fine, stored-with, stored-span, stored-zeros, fine-with, fine-span, fine-zeros}
 use Rattle.protocol.proofs.Laws.Count.{count-ext}
 use Rattle.protocol.proofs.Laws.History.{ever-capacity, Keeps, events-keep}
@@ -61,24 +61,24 @@ pub tells-count : (m : ℕ) (x : List ℕ) (acts : List Act) → Tells m x acts 
 unfolding setBits
 tells-count m x acts k = ap (λ (n : ℕ). countBelow (stored x) (8 * n)) (k .fine .long) ∙ count-ext (stored x) (live acts) (8 * m) (λ q l. k .pages q)
 
+-- the pages that a host saw stored and not deleted since, of an index of m bytes
+abbrev pub livePages : ℕ → List Exchange → ℕ
+livePages m seen = countBelow (live (history seen [])) (8 * m)
+
 module _ (σ : Shape) (ok : σ .most ≤ 8 * σ .indexed) where
   -- whatever reader, runs, reply rooms and line switches
   pub tells-ever : (r : Reader) (acts : List Act) → Tells (σ .indexed) (r .guarded .index) acts → (es : List Event)
       → Tells (σ .indexed) (finally σ r es .guarded .index) (history (exchanges σ r es) acts)
   tells-ever r acts k es = events-keep σ ok (λ t y acts. Tells (σ .indexed) y acts) (tells-kept (σ .indexed)) es r acts k
 
-  -- the pages that the host saw stored and not deleted since
-  abbrev pub livePages : Reader → List Event → ℕ
-  livePages r es = countBelow (live (history (exchanges σ r es) [])) (8 * σ .indexed)
-
   -- from an empty library, the set bits are those pages
-  pub valid-count : (r : Reader) → r .guarded .index ≡ zeros (σ .indexed) → (es : List Event) → setBits (finally σ r es .guarded .index) ≡ livePages r es
+  pub valid-count : (r : Reader) → r .guarded .index ≡ zeros (σ .indexed) → (es : List Event) → setBits (finally σ r es .guarded .index) ≡ livePages (σ .indexed) (exchanges σ r es)
   valid-count r z es = tells-count (σ .indexed) (finally σ r es .guarded .index) (history (exchanges σ r es) []) (tells-ever r [] (rw z (tells-none (σ .indexed))) es)
 
   -- and TempleteNum answers them, at any time that the reader is not locked
   pub count-told : (r : Reader) → Legal σ ok r → r .guarded .index ≡ zeros (σ .indexed) → (es : List Event) (s : List ℕ) (lent : Lent) → T (fitLent (capacity (r .guarded)) lent)
       → locked (finally σ r es .plain) ≡ false → hear (finally σ r es .plain .address) s ≡ order (command (barred templeteNum))
-      → Gives (acknowledge (finally σ r es .plain .address) 0x00 (word (livePages r es))) (rested (finally σ r es)) s lent (callOf σ (finally σ r es) s lent)
+      → Gives (acknowledge (finally σ r es .plain .address) 0x00 (word (livePages (σ .indexed) (exchanges σ r es)))) (rested (finally σ r es)) s lent (callOf σ (finally σ r es) s lent)
   count-told r f z es s lent u l h =
       let t : Reader = finally σ r es in
       let same = ap₂ (λ (a : List ℕ) (n : ℕ). acknowledge a 0x00 (word n)) (spared t .address) (ap setBits (spared t .index) ∙ valid-count r z es) in

@@ -46,9 +46,9 @@ use Rattle.protocol.proofs.Settings.Laws as T′
 use Rattle.protocol.specs.declared.Called.{Called}
 use Rattle.protocol.proofs.Called as D
 use Rattle.protocol.proofs.Called.Laws as D′
-use Rattle.step.specs.declared.Answered.{Answered}
-use Rattle.step.proofs.Answered as K
-use Rattle.step.proofs.Answered.Laws as K′
+use Rattle.protocol.specs.declared.Answered.{Answered}
+use Rattle.protocol.proofs.Answered as K
+use Rattle.protocol.proofs.Answered.Laws as K′
 use Rattle.board.proofs.Lent.{slice, Fits}
 use Rattle.board.proofs.Told.{rest, tolds, tolds-fit, tolds-go}
 use Rattle.reader.proofs.call.step as g
