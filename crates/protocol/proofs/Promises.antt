@@ -41,6 +41,8 @@ pub mod Caller
 pub mod ComesToRest
 pub mod ReceiverLock
 pub mod ReceiverCalls
+pub mod FromC
+pub mod LockFromC
 pub mod InPieces
 pub mod LongData
 pub mod LongLimits

@@ -66,11 +66,41 @@ abbrev pub toldOf : {S : Type 0} → List (Entry S) → List Told
 toldOf [] = []
 toldOf (x ∷ xs) = x .told ∷ toldOf xs
 
+-- "up to and including the first accepted password": only the last call may leave a verified mark of 1, where `marked` tells the mark
+abbrev pub Until : {S : Type 0} → (S → ℕ) → List (Entry S) → Type 0
+Until marked [] = Unit {0}
+Until marked (x ∷ []) = Unit {0}
+Until marked (x ∷ y ∷ xs) = (marked (x .after) ≢ 1) × Until marked (y ∷ xs)
+
+-- ---- without a receiver
+
 -- each call went as the contract of its door says
 abbrev pub Steps : Vault → List (Entry Vault) → Type 0
 Steps v [] = Unit {0}
 Steps v (x ∷ xs) = (_≡_ {A = Ended} record { told = x .told; after = readerIn (x .after) } (on core (readerIn v) (x .event))) × Steps (x .after) xs
 
+-- what the host saw of each call: the run, and as many bytes of the reply room as the answer says
+abbrev pub sees : Event → Told → List Exchange → List Exchange
+sees (received run lent) t more = record { run = run; reply = take (t .length) (t .room) } ∷ more
+sees switch t more = more
+
+abbrev pub saw : List (Entry Vault) → List Exchange
+saw [] = []
+saw (x ∷ xs) = sees (x .event) (x .told) (saw xs)
+
+-- ---- with a receiver
+
 abbrev pub Receives : LineVault → List (Entry LineVault) → Type 0
 Receives v [] = Unit {0}
 Receives v (x ∷ xs) = (_≡_ {A = Handed} record { told = x .told; after = lineIn (x .after) } (onLine core (lineIn v) (x .event))) × Receives (x .after) xs
+
+-- the same, and its run is what was held before and what fits of the piece
+abbrev pub seesOn : LineVault → Event → Told → List Exchange → List Exchange
+seesOn v (received piece lent) t more =
+    let h = v .line .receiver in
+    record { run = take (h .count) (h .held) ++ take (holds - h .count) piece; reply = take (t .length) (t .room) } ∷ more
+seesOn v switch t more = more
+
+abbrev pub sawOn : LineVault → List (Entry LineVault) → List Exchange
+sawOn v [] = []
+sawOn v (x ∷ xs) = seesOn v (x .event) (x .told) (sawOn (x .after) xs)
