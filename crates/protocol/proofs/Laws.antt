@@ -19,3 +19,4 @@ pub mod Holding
 pub mod History
 pub mod Sizes
 pub mod Best
+pub mod Entries

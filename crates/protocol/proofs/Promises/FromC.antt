@@ -14,18 +14,20 @@ use Rattle.protocol.specs.Bytes.{Bytes}
 use Rattle.protocol.specs.Tests.{countBelow}
 use Rattle.protocol.specs.Reader.{fromPage, Reader, capacity}
 use Rattle.protocol.specs.Call.{core, Lent, Told, Ended, replyOf, callOf, switchOf}
-use Rattle.protocol.specs.Dialogue.{Event, received, switch, on, finally, Exchange, exchanges, history, live}
+use Rattle.protocol.specs.Dialogue.{Event, received, switch, on, finally, Exchange, exchanges, Act, history, live}
 use Rattle.protocol.specs.Services.{countService}
-use Rattle.protocol.specs.Records.{originOf, readerOf, lentOf, endedOf, switchedOf, calledAt, switchedAt}
-use Rattle.protocol.specs.Doors.{Memory, Vault, readerIn, Entry, lastOf, eventsOf, toldOf, Steps, sees, saw}
+use Rattle.protocol.specs.Records.{marksOf, originOf, readerOf, lentOf, endedOf, switchedOf, calledAt, switchedAt}
+use Rattle.protocol.specs.Doors.{Memory, Vault, readerAt, readerIn, Entry, lastOf, eventsOf, toldOf, Steps, sees, saw}
 
 use borrow.Author.Tests.{eqb-true, ne-eqb}
+use Rattle.protocol.proofs.Laws.Lines.{Line, unless, Follows}
 use Rattle.protocol.proofs.Laws.History.{ever-capacity}
 use Rattle.protocol.proofs.Promises.Told.{has, buffer}
-use Rattle.protocol.proofs.Promises.LegalMeans.{core-holds, legal-means}
-use Rattle.protocol.proofs.Promises.Refused.{call-refusals}
+use Rattle.protocol.proofs.Promises.LegalMeans.{core-holds, Lengths, Settled, legal-means}
+use Rattle.protocol.proofs.Promises.Refused.{Unused, Ends, ChipLengths, call-refusals, Switches, switch-refusals}
 use Rattle.protocol.proofs.Promises.StaysLegal.{Legal, ever-legal}
-use Rattle.protocol.proofs.Promises.Marks.{Marked, settled-marks}
+use Rattle.protocol.proofs.Promises.Marks.{Marked, settled-marks, switch-clears}
+use Rattle.protocol.proofs.Promises.OneResult.{one-reader}
 use Rattle.protocol.proofs.Promises.ValidCount.{Tells, tells-none, tells-count, tells-ever}
 use Rattle.protocol.proofs.Promises.Faithful.{Faithful, Holds, ever-faithful}
 use Rattle.protocol.proofs.Promises.Untouched.{SawDeleted, Untouched, only-by-deletion}
@@ -78,6 +80,65 @@ steps-saw (x ∷ xs) v q = go (x .event) (q .0) (steps-saw xs (x .after) (q .1))
         ∙ ap (λ (e : Ended). record { run = run; reply = take (e .told .length) (e .told .room) } ∷ exchanges core (e .after) (eventsOf xs)) p
     go switch p i = i ∙ ap (λ (e : Ended). exchanges core (e .after) (eventsOf xs)) p
 
+-- ---- demand 1: "refusal 1, 2, 3 .. as document 01 says; no reply is written and no byte changes", with an unfit mark as a line of its own
+
+-- one reader comes of one settings record and one memory
+pub same-vault : (s z : Settings) (m n : Memory) → readerAt s m ≡ readerAt z n → (s ≡ z) × (m ≡ n)
+same-vault s z m n e =
+    let o = one-reader s z (m .templates) (m .index) (m .notepad) (m .buffer1) (m .buffer2) (n .templates) (n .index) (n .notepad) (n .buffer1) (n .buffer2) e in
+    (o .settings, λ j. record { templates = o .templates j; index = o .index j; notepad = o .notepad j; buffer1 = o .buffer1 j; buffer2 = o .buffer2 j })
+
+abbrev pub door-lines : Settings → Memory → Lent → List Line
+door-lines s m lent =
+    let r = readerAt s m in
+    unless (Lengths (r .guarded)) 1 ∷ unless (ChipLengths r lent) 1 ∷ unless (700 ≤ length (lent .room)) 2 ∷ unless (Marked s) 3 ∷ unless (Settled r) 3 ∷ []
+
+-- 0 is no refusal; a refused call returns its number and zeros, and settings, memory and reply room lie as they lay, byte for byte
+abbrev pub DoorEnds : Vault → Lent → Told → Vault → ℕ → Type 0
+DoorEnds v lent t w zero = t .refusal ≡ 0
+DoorEnds v lent t w (suc n) = (t ≡ record { refusal = suc n; used = 0; length = 0; room = lent .room }) × (w ≡ v)
+
+pub step-refusals : (v w : Vault) (run : List ℕ) (lent : Lent) (t : Told) → Steps v (record { event = received run lent; told = t; after = w } ∷ [])
+    → Follows (door-lines (v .settings) (v .memory) lent) (DoorEnds v lent t w)
+unfolding on
+step-refusals v w run lent t q =
+    let c = call-refusals (readerIn v) run lent in
+    (λ a. (λ b. (λ d. (λ k. (λ h. end 0 (c .0 a .0 b .0 d .0 h), λ f. end 3 (c .0 a .0 b .0 d .1 f)), λ f. end 3 (c .0 a .0 b .0 d .1 (λ h. f (marks h)))), λ f. end 2 (c .0 a .0 b .1 f)), λ f. end 1 (c .0 a .1 f)), λ f. end 1 (c .1 f))
+  where
+    marks : Settled (readerIn v) → Marked (v .settings)
+    marks = settled-marks (v .settings) (v .memory .templates) (v .memory .index) (v .memory .notepad) (v .memory .buffer1) (v .memory .buffer2)
+
+    end : (n : ℕ) → Ends (readerIn v) (lent .room) (callOf core (readerIn v) run lent) n → DoorEnds v lent t w n
+    end zero e = ap (λ (x : Ended). x .told .refusal) (q .0) ∙ e
+    end (suc n) e =
+        let o = same-vault (w .settings) (v .settings) (w .memory) (v .memory) (ap (λ (x : Ended). x .after) (q .0) ∙ e .1) in (
+          ap (λ (x : Ended). x .told) (q .0) ∙ (λ j. record { refusal = e .0 .refusal j; used = e .0 .used j; length = e .0 .length j; room = e .0 .room j }),
+          λ j. record { settings = o .0 j; memory = o .1 j },
+        )
+
+-- the line switch takes any settings, whatever bytes the marks are, and knows only refusal 1; carried out, it leaves marks of 0
+abbrev pub SwitchEnds : Vault → Told → Vault → ℕ → Type 0
+SwitchEnds v t w zero = (t ≡ record { refusal = 0; used = 0; length = 0; room = [] }) × (marksOf (w .settings) ≡ record { verified = 0; filled1 = 0; filled2 = 0; found = 0 })
+SwitchEnds v t w (suc n) = (t ≡ record { refusal = suc n; used = 0; length = 0; room = [] }) × (w ≡ v)
+
+pub switch-refusal : (v w : Vault) (t : Told) → Steps v (record { event = switch; told = t; after = w } ∷ [])
+    → Follows (unless ((length (v .memory .buffer1) ≡ 512) × (length (v .memory .buffer2) ≡ 512)) 1 ∷ []) (SwitchEnds v t w)
+unfolding on
+switch-refusal v w t q = let c = switch-refusals (readerIn v) in (λ a. end 0 (c .0 a), λ f. end 1 (c .1 f))
+  where
+    same : (n : ℕ) → Unused [] (switchOf (readerIn v)) n → t ≡ record { refusal = n; used = 0; length = 0; room = [] }
+    same n e = ap (λ (x : Ended). x .told) (q .0) ∙ (λ j. record { refusal = e .refusal j; used = e .used j; length = e .length j; room = e .room j })
+
+    end : (n : ℕ) → Switches (readerIn v) (switchOf (readerIn v)) n → SwitchEnds v t w n
+    end zero e = (
+      same 0 e,
+      switch-clears (v .settings) (v .memory .templates) (v .memory .index) (v .memory .notepad) (v .memory .buffer1) (v .memory .buffer2) (w .memory .templates) (w .memory .index) (w .memory .notepad) (w .memory .buffer1) (w .memory .buffer2)
+      record { settings = w .settings; refusal = 0 } (rw (same 0 e) at (q .0)) refl,
+    )
+    end (suc n) e =
+        let o = same-vault (w .settings) (v .settings) (w .memory) (v .memory) (ap (λ (x : Ended). x .after) (q .0) ∙ e .1) in
+        (same (suc n) (e .0), λ j. record { settings = o .0 j; memory = o .1 j })
+
 -- ---- demand 1: a legal vault is legal after any calls, each of its marks is 0 or 1, and no call whose scores, thresholds and reply room are fit is refused
 
 -- by the types of C password and address have four bytes, and a byte of the index is below 256
@@ -89,15 +150,32 @@ vault-marks v l =
     let m = v .memory in
     settled-marks (v .settings) (m .templates) (m .index) (m .notepad) (m .buffer1) (m .buffer2) (legal-means (readerIn v) (l .legal) .settings)
 
+-- the set bits of an index that tells of the acts so far, as bystrodol_count gives them
+pub count-of : (x : List ℕ) (acts : List Act) → Tells 128 x acts → countService x ≡ countBelow (live acts) 1024
+unfolding countService core
+count-of x acts t = rw (t .fine .long) (tells-count 128 x acts t)
+
 -- page p of this memory is stored, and this filled mark and these bytes are those of a buffer that holds its template
 pub record HoldsPage (m : Memory) (p mark : ℕ) (b : List ℕ) : Type 0 where
   pub there : getD (m .index) (p / 8) 0 / 2 ^ (p % 8) % 2 ≡ 1
   pub filled : mark ≡ 1
   pub bytes : b ≡ take 512 (drop (512 * p) (m .templates))
 
-from-page : (n : ℕ) → n ≢ 65535 → originOf n ≡ fromPage n
+-- so do both buffers, where they have an origin
+pub record HeldPages (s : Settings) (m : Memory) : Type 0 where
+  pub first : s .origin1 ≢ 65535 → HoldsPage m (s .origin1) (s .filled1) (m .buffer1)
+  pub second : s .origin2 ≢ 65535 → HoldsPage m (s .origin2) (s .filled2) (m .buffer2)
+
+pub pages-held : (s : Settings) (m : Memory) → ((b p : ℕ) → buffer b (readerAt s m .guarded) .origin ≡ fromPage p → Holds core core-holds (readerAt s m) b p) → HeldPages s m
 unfolding originOf
-from-page n d = rw (ne-eqb n 65535 d) refl
+pages-held s m holds =
+    record {
+      first = λ d. (let h = holds 1 (s .origin1) (from-page (s .origin1) d) in record { there = eqb-true _ 1 (h .stored-there); filled = eqb-true _ 1 (h .filled); bytes = h .bytes });
+      second = λ d. (let h = holds 2 (s .origin2) (from-page (s .origin2) d) in record { there = eqb-true _ 1 (h .stored-there); filled = eqb-true _ 1 (h .filled); bytes = h .bytes });
+    }
+  where
+    from-page : (n : ℕ) → n ≢ 65535 → originOf n ≡ fromPage n
+    from-page n d = rw (ne-eqb n 65535 d) refl
 
 module _ (v : Vault) (xs : List (Entry Vault)) (q : Steps v xs) where
   pub vault-legal : LegalVault v → LegalVault (lastOf v xs)
@@ -121,13 +199,12 @@ module _ (v : Vault) (xs : List (Entry Vault)) (q : Steps v xs) where
 
   -- what bystrodol_count gives of the index is the number of pages that the host saw stored and not deleted since
   pub vault-count : v .memory .index ≡ replicate 128 0 → countService (lastOf v xs .memory .index) ≡ countBelow (live (history (saw xs) [])) 1024
-  unfolding countService core
+  unfolding core
   vault-count z =
-      let tells = tells-ever core core-holds (readerIn v) [] (rw z (tells-none 128)) (eventsOf xs) in
-      let t : Tells 128 (lastOf v xs .memory .index) (history (saw xs) []) =
-      rw (steps-saw xs v q) (subst (λ (r : Reader). Tells 128 (r .guarded .index) (history (exchanges core (readerIn v) (eventsOf xs)) [])) (sym (steps-end xs v q)) tells)
-      in
-      rw (t .fine .long) (tells-count 128 (lastOf v xs .memory .index) (history (saw xs) []) t)
+      count-of (lastOf v xs .memory .index) (history (saw xs) [])
+      (rw (steps-saw xs v q)
+      (subst (λ (r : Reader). Tells 128 (r .guarded .index) (history (exchanges core (readerIn v) (eventsOf xs)) [])) (sym (steps-end xs v q))
+      (tells-ever core core-holds (readerIn v) [] (rw z (tells-none 128)) (eventsOf xs))))
 
   -- ---- request [5]: a page that is stored stays so, with its 512 bytes, or the host saw it deleted
 
@@ -141,18 +218,9 @@ module _ (v : Vault) (xs : List (Entry Vault)) (q : Steps v xs) where
   -- ---- request [7]: a buffer with an origin holds the template of that page, which is stored
 
   -- from a start of which that is true, as one without origins (`faithful-start`)
-  pub vault-faithful : LegalVault v → Faithful (readerIn v) → (let w = lastOf v xs in
-      (w .settings .origin1 ≢ 65535 → HoldsPage (w .memory) (w .settings .origin1) (w .settings .filled1) (w .memory .buffer1))
-      × (w .settings .origin2 ≢ 65535 → HoldsPage (w .memory) (w .settings .origin2) (w .settings .filled2) (w .memory .buffer2)))
-  vault-faithful l f = (
-    λ d. (let h = ever 1 (w .settings .origin1) (from-page (w .settings .origin1) d) in record { there = eqb-true _ 1 (h .stored-there); filled = eqb-true _ 1 (h .filled); bytes = h .bytes }),
-    λ d. (let h = ever 2 (w .settings .origin2) (from-page (w .settings .origin2) d) in record { there = eqb-true _ 1 (h .stored-there); filled = eqb-true _ 1 (h .filled); bytes = h .bytes }),
-  )
-    where
-      w : Vault
-      w = lastOf v xs
-
-      ever : (b p : ℕ) → buffer b (readerIn w .guarded) .origin ≡ fromPage p → Holds core core-holds (readerIn w) b p
-      ever b p =
-          subst (λ (r : Reader). buffer b (r .guarded) .origin ≡ fromPage p → Holds core core-holds r b p) (sym (steps-end xs v q))
-          (ever-faithful core core-holds (readerIn v) l f (eventsOf xs) b p)
+  pub vault-faithful : LegalVault v → Faithful (readerIn v) → HeldPages (lastOf v xs .settings) (lastOf v xs .memory)
+  vault-faithful l f =
+      pages-held (lastOf v xs .settings) (lastOf v xs .memory)
+      (λ b p.
+      subst (λ (r : Reader). buffer b (r .guarded) .origin ≡ fromPage p → Holds core core-holds r b p) (sym (steps-end xs v q))
+      (ever-faithful core core-holds (readerIn v) l f (eventsOf xs) b p))

@@ -1,5 +1,5 @@
 -- Demand 3 at the doors for C: over the bytes that lie in a caller's settings and memory, what it hands in, and what it gets back.
-use mathlib.Core.Bool.{Bool, true, false, cond}
+use mathlib.Core.Bool.{Bool, true, false, true≢false, cond}
 use mathlib.Core.Path.{_≡_, refl, sym, ap, _∙_, subst}
 use mathlib.Core.Logic.{_⊎_, inl, inr, _≢_}
 use mathlib.Core.List.{List, [], _∷_}
@@ -7,23 +7,25 @@ use Prim.Native.Nat.{ℕ, zero, suc, _/_, _≤_}
 use native.Mathlib.Omega.{arith}
 use lib.Dec.{T, eqb}
 use lib.ListN.{length, take, replicate}
-use borrow.Author.Tests.{eqb-true, ne-eqb}
+use borrow.Author.Tests.{lt-ltb, ne-eqb}
 use Rattle.protocol.specs.declared.Settings.{Settings}
 use Rattle.protocol.specs.Bytes.{lay}
-use Rattle.protocol.specs.Reader.{closed, Plain, Guarded, Reader, capacity, keyed, locked}
+use Rattle.protocol.specs.Reader.{closed, Plain, Guarded, Reader, capacity, keyed, emptied, settings}
 use Rattle.protocol.specs.Data.{acknowledge}
+use Rattle.protocol.specs.Step.{wiped}
 use Rattle.protocol.specs.Call.{core, Lent, Told, Ended, replyOf, callOf}
 use Rattle.protocol.specs.Dialogue.{Event, received, switch, on, Dialogue, over, first, dialogue, kept, Paired}
-use Rattle.protocol.specs.Records.{marksOf, isSet, transferOf, transferBeside}
+use Rattle.protocol.specs.Records.{fitMark, originOf, isSet, markOf, transferOf, plainOf}
 use Rattle.protocol.specs.Doors.{Memory, Vault, LineVault, readerAt, readerIn, lineIn, Entry, lastOf, eventsOf, toldOf, Until, Steps, Receives}
+use Rattle.protocol.proofs.Laws.Marks.{mark-is}
 use Rattle.protocol.proofs.Promises.Words as words
 use Rattle.protocol.proofs.Promises.LegalMeans.{core-holds, LegalTransfer, legal-means}
 use Rattle.protocol.proofs.Promises.StaysLegal.{Legal}
 use Rattle.protocol.proofs.Promises.Marks.{Marked, beside-marked}
-use Rattle.protocol.proofs.Promises.OneResult.{OneReader, one-reader}
+use Rattle.protocol.proofs.Promises.OneResult.{same-origin, transfer-same}
 use Rattle.protocol.proofs.Promises.Parameters.{AsksParameters}
-use Rattle.protocol.proofs.Promises.Lock.{mark, ButStatus, Bars, Alike, FirstHalf, marked-legal, first-half}
-use Rattle.protocol.proofs.Promises.FromC.{LegalVault, vault-marks, vault-legal}
+use Rattle.protocol.proofs.Promises.Lock.{mark, ButStatus, Bars, Alike, FirstHalf, marked-legal, first-half, Blind, second-half}
+use Rattle.protocol.proofs.Promises.FromC.{same-vault, LegalVault, vault-marks, vault-legal}
 
 -- ---- "its copy with only the verified mark changed"
 
@@ -72,11 +74,6 @@ pub record HalfFromC (s : Settings) (m : Memory) (run : List ℕ) (lent : Lent) 
   pub used : t .used ≡ u .used
   pub answers : Barred s lent m t s₁ m₁ ⊎ SameButMark (s .address) run t u s₁ s₂ m₁ m₂
 
-same-memory : (s z : Settings) (m n : Memory) → readerAt s m ≡ readerAt z n → (s ≡ z) × (m ≡ n)
-same-memory s z m n e =
-    let o = one-reader s z (m .templates) (m .index) (m .notepad) (m .buffer1) (m .buffer2) (n .templates) (n .index) (n .notepad) (n .buffer1) (n .buffer2) e in
-    (o .settings, λ j. record { templates = o .templates j; index = o .index j; notepad = o .notepad j; buffer1 = o .buffer1 j; buffer2 = o .buffer2 j })
-
 half-bytes : (s : Settings) (m : Memory) (run : List ℕ) (lent : Lent) (t : Told) (s₁ : Settings) (m₁ : Memory) (u : Told) (s₂ : Settings) (m₂ : Memory) → Marked s₁ → Marked s₂
     → FirstHalf (readerAt s m) run lent record { told = t; after = readerAt s₁ m₁ } record { told = u; after = readerAt s₂ m₂ } → HalfFromC s m run lent t s₁ m₁ u s₂ m₂
 unfolding replyOf
@@ -84,9 +81,9 @@ half-bytes s m run lent t s₁ m₁ u s₂ m₂ h k f = record { refusal = f .re
   where
     go : Bars (readerAt s m) lent record { told = t; after = readerAt s₁ m₁ } ⊎ Alike (s .address) run record { told = t; after = readerAt s₁ m₁ } record { told = u; after = readerAt s₂ m₂ }
         → Barred s lent m t s₁ m₁ ⊎ SameButMark (s .address) run t u s₁ s₂ m₁ m₂
-    go (inl b) = let o = same-memory s₁ s m₁ m (b .after) in inl record { reply = b .reply; room = b .room; settings = o .0; memory = o .1 }
+    go (inl b) = let o = same-vault s₁ s m₁ m (b .after) in inl record { reply = b .reply; room = b .room; settings = o .0; memory = o .1 }
     go (inr a) =
-        let o = same-memory (marked 0 s₁) (marked 0 s₂) m₁ m₂ (remarked s₁ m₁ h 0 (omega arith) ∙ a .after false ∙ sym (remarked s₂ m₂ k 0 (omega arith))) in
+        let o = same-vault (marked 0 s₁) (marked 0 s₂) m₁ m₂ (remarked s₁ m₁ h 0 (omega arith) ∙ a .after false ∙ sym (remarked s₂ m₂ k 0 (omega arith))) in
         inr record { told = a .told; settings = λ k. ap (marked k) (o .0); memory = o .1 }
 
 module _ (s : Settings) (m : Memory) where
@@ -137,3 +134,192 @@ module _ (s : Settings) (m : Memory) where
         half-bytes (marked 0 s) m run lent t (w .settings) (w .memory) u (z .settings) (z .memory) o k
         (subst (λ (e : Ended). FirstHalf at run lent e record { told = u; after = readerIn z }) (sym (p .0))
         (subst (λ (e : Ended). FirstHalf at run lent (callOf core at run lent) e) (sym (q .0 ∙ ap (λ (r : Reader). callOf core r run lent) copy)) (first-half at keys still core (l .legal) run lent)))
+
+-- ---- the second half
+
+-- equal settings but for the filled marks, the origins and the found mark
+pub record SameOpen (s z : Settings) : Type 0 where
+  pub password : s .password ≡ z .password
+  pub address : s .address ≡ z .address
+  pub level : s .level ≡ z .level
+  pub size : s .size ≡ z .size
+  pub baud : s .baud ≡ z .baud
+  pub transfer : s .transfer ≡ z .transfer
+  pub sensor : s .sensor ≡ z .sensor
+  pub got : s .got ≡ z .got
+  pub verified : s .verified ≡ z .verified
+
+open-plain : (s z : Settings) → Marked s → Marked z → SameOpen s z → plainOf s ≡ plainOf z
+open-plain s z h k o =
+    rw (beside-marked s h, beside-marked z k)
+    (λ j.
+    settings (o .password j) (o .address j) (o .level j) (o .size j) (o .baud j) (o .sensor j) (isSet (o .verified j)) (transferOf (o .transfer j) (o .got j)))
+
+mark-bytes : (a b : ℕ) → a ≤ 1 → b ≤ 1 → isSet a ≡ isSet b → a ≡ b
+unfolding fitMark
+mark-bytes a b l m e = sym (mark-is a (lt-ltb a 2 (omega arith))) ∙ ap markOf e ∙ mark-is b (lt-ltb b 2 (omega arith))
+
+plain-open : (s z : Settings) → Marked s → Marked z → plainOf s ≡ plainOf z → SameOpen s z
+plain-open s z h k e =
+    let t = transfer-same (s .transfer) (s .got) (z .transfer) (z .got) (sym (beside-marked s h) ∙ ap (λ (p : Plain). p .transfer) e ∙ beside-marked z k) in
+    record {
+      password = ap (λ (p : Plain). p .password) e;
+      address = ap (λ (p : Plain). p .address) e;
+      level = ap (λ (p : Plain). p .level) e;
+      size = ap (λ (p : Plain). p .size) e;
+      baud = ap (λ (p : Plain). p .baud) e;
+      transfer = t .0;
+      sensor = ap (λ (p : Plain). p .sensor) e;
+      got = t .1;
+      verified = mark-bytes (s .verified) (z .verified) (h .verified) (k .verified) (ap (λ (p : Plain). p .verified) e);
+    }
+
+-- a line switch is among the events
+abbrev pub Switches : List Event → Type 0
+Switches [] = ⊥
+Switches (received run lent ∷ es) = Switches es
+Switches (switch ∷ es) = Unit {0}
+
+-- "these contents stay as they were, save that a line switch wipes the two buffers and clears their filled marks", makes their origins none and clears the found mark
+pub record Stay (es : List Event) (s : Settings) (m : Memory) (s′ : Settings) (m′ : Memory) : Type 0 where
+  pub templates : m′ .templates ≡ m .templates
+  pub index : m′ .index ≡ m .index
+  pub notepad : m′ .notepad ≡ m .notepad
+  pub buffers : (Switches es → ⊥) → (m′ .buffer1 ≡ m .buffer1) × (m′ .buffer2 ≡ m .buffer2)
+  pub marks : (Switches es → ⊥) → (s′ .filled1 ≡ s .filled1) × ((s′ .filled2 ≡ s .filled2) × (s′ .found ≡ s .found))
+  pub origins : (Switches es → ⊥) → (s′ .origin1 ≡ s .origin1) × (s′ .origin2 ≡ s .origin2)
+  pub wiped-buffers : Switches es → (m′ .buffer1 ≡ replicate 512 0) × (m′ .buffer2 ≡ replicate 512 0)
+  pub wiped-marks : Switches es → (s′ .filled1 ≡ 0) × ((s′ .filled2 ≡ 0) × (s′ .found ≡ 0))
+  pub wiped-origins : Switches es → (s′ .origin1 ≡ 65535) × (s′ .origin2 ≡ 65535)
+
+kept-wiped : (es : List Event) (g : Guarded) → kept (wiped g) es ≡ wiped g
+unfolding kept wiped
+kept-wiped [] g = refl
+kept-wiped (received run lent ∷ es) g = kept-wiped es g
+kept-wiped (switch ∷ es) g = kept-wiped es g
+
+kept-still : (es : List Event) (g : Guarded) → (Switches es → ⊥) → kept g es ≡ g
+unfolding kept
+kept-still [] g n = refl
+kept-still (received run lent ∷ es) g n = kept-still es g n
+kept-still (switch ∷ es) g n = absurd (n tt)
+
+kept-switched : (es : List Event) (g : Guarded) → Switches es → kept g es ≡ wiped g
+unfolding kept
+kept-switched [] g y = absurd y
+kept-switched (received run lent ∷ es) g y = kept-switched es g y
+kept-switched (switch ∷ es) g y = kept-wiped es g
+
+kept-library : (es : List Event) (g : Guarded) → (kept g es .templates ≡ g .templates) × ((kept g es .index ≡ g .index) × (kept g es .notepad ≡ g .notepad))
+unfolding kept wiped
+kept-library [] g = (refl, (refl, refl))
+kept-library (received run lent ∷ es) g = kept-library es g
+kept-library (switch ∷ es) g = kept-library es (wiped g)
+
+stay-bytes : (es : List Event) (s : Settings) (m : Memory) (s′ : Settings) (m′ : Memory) → Marked s → Marked s′ → readerAt s′ m′ .guarded ≡ kept (readerAt s m .guarded) es → Stay es s m s′ m′
+unfolding wiped emptied originOf
+stay-bytes es s m s′ m′ h k e =
+    let o = kept-library es (readerAt s m .guarded) in
+    record {
+      templates = ap (λ (g : Guarded). g .templates) e ∙ o .0;
+      index = ap (λ (g : Guarded). g .index) e ∙ o .1 .0;
+      notepad = ap (λ (g : Guarded). g .notepad) e ∙ o .1 .1;
+      buffers = λ n. (let f = e ∙ kept-still es (readerAt s m .guarded) n in (ap (λ (g : Guarded). g .buffer1 .bytes) f, ap (λ (g : Guarded). g .buffer2 .bytes) f));
+      marks =
+          λ n. (let f = e ∙ kept-still es (readerAt s m .guarded) n in
+          (mark-bytes _ _ (k .filled1) (h .filled1) (ap (λ (g : Guarded). g .buffer1 .filled) f), (mark-bytes _ _ (k .filled2) (h .filled2) (ap (λ (g : Guarded). g .buffer2 .filled) f), mark-bytes _ _ (k .found) (h .found) (ap (λ (g : Guarded). g .found) f))));
+      origins =
+          λ n. (let f = e ∙ kept-still es (readerAt s m .guarded) n in
+          (same-origin (s′ .origin1) (s .origin1) (ap (λ (g : Guarded). g .buffer1 .origin) f), same-origin (s′ .origin2) (s .origin2) (ap (λ (g : Guarded). g .buffer2 .origin) f)));
+      wiped-buffers = λ y. (let f = e ∙ kept-switched es (readerAt s m .guarded) y in (ap (λ (g : Guarded). g .buffer1 .bytes) f, ap (λ (g : Guarded). g .buffer2 .bytes) f));
+      wiped-marks =
+          λ y. (let f = e ∙ kept-switched es (readerAt s m .guarded) y in
+          (mark-bytes _ 0 (k .filled1) (omega arith) (ap (λ (g : Guarded). g .buffer1 .filled) f), (mark-bytes _ 0 (k .filled2) (omega arith) (ap (λ (g : Guarded). g .buffer2 .filled) f), mark-bytes _ 0 (k .found) (omega arith) (ap (λ (g : Guarded). g .found) f))));
+      wiped-origins =
+          λ y. (let f = e ∙ kept-switched es (readerAt s m .guarded) y in
+          (same-origin (s′ .origin1) 65535 (ap (λ (g : Guarded). g .buffer1 .origin) f), same-origin (s′ .origin2) 65535 (ap (λ (g : Guarded). g .buffer2 .origin) f)));
+    }
+
+-- ---- a sequence up to and including the first accepted password is a dialogue, whole
+
+paired-long : (c : ℕ) (es fs : List Event) → Paired c es fs → length es ≡ length fs
+paired-long c [] [] p = refl
+paired-long c [] (f ∷ fs) p = absurd p
+paired-long c (e ∷ es) [] p = absurd p
+paired-long c (received s l ∷ es) (received t m ∷ fs) p = ap suc (paired-long c es fs (p .1 .1 .1))
+paired-long c (received s l ∷ es) (switch ∷ fs) p = absurd p
+paired-long c (switch ∷ es) (received t m ∷ fs) p = absurd p
+paired-long c (switch ∷ es) (switch ∷ fs) p = ap suc (paired-long c es fs p)
+
+abbrev whole : Vault → List (Entry Vault) → Dialogue
+whole v xs = record { events = eventsOf xs; told = toldOf xs; last = readerIn (lastOf v xs) }
+
+module _ (x : Entry Vault) where
+  abbrev going : List (Entry Vault) → Bool → Dialogue
+  going xs b = first (x .event) (x .told) (cond b (over (readerIn (x .after))) (dialogue core (readerIn (x .after)) (eventsOf xs)))
+
+  begun : (v : Vault) (xs : List (Entry Vault)) → Steps v (x ∷ xs) → dialogue core (readerIn v) (eventsOf (x ∷ xs)) ≡ going xs (isSet (x .after .settings .verified))
+  unfolding dialogue
+  begun v xs q = ap (λ (o : Ended). first (x .event) (o .told) (cond (o .after .plain .verified) (over (o .after)) (dialogue core (o .after) (eventsOf xs)))) (sym (q .0))
+
+goes-whole : (xs : List (Entry Vault)) (v : Vault) → Steps v xs → length (dialogue core (readerIn v) (eventsOf xs) .events) ≡ length (eventsOf xs)
+    → dialogue core (readerIn v) (eventsOf xs) ≡ whole v xs
+unfolding dialogue over first
+goes-whole [] v q e = refl
+goes-whole (x ∷ xs) v q e =
+    begun x v xs q
+    ∙ go (isSet (x .after .settings .verified)) xs (ap (λ (d : Dialogue). length (d .events)) (sym (begun x v xs q)) ∙ e) (goes-whole xs (x .after) (q .1))
+  where
+    go : (b : Bool) (ys : List (Entry Vault)) → length (going x ys b .events) ≡ suc (length (eventsOf ys))
+        → (length (dialogue core (readerIn (x .after)) (eventsOf ys) .events) ≡ length (eventsOf ys) → dialogue core (readerIn (x .after)) (eventsOf ys) ≡ whole (x .after) ys)
+        → going x ys b ≡ whole v (x ∷ ys)
+    go true [] l i = refl
+    go true (y ∷ ys) l i = absurd (omega (arith, l))
+    go false ys l i = ap (first (x .event) (x .told)) (i (omega (arith, l)))
+
+goes-through : (xs : List (Entry Vault)) (v : Vault) → Steps v xs → Until (λ (w : Vault). w .settings .verified) xs
+    → length (dialogue core (readerIn v) (eventsOf xs) .events) ≡ length (eventsOf xs)
+unfolding dialogue over first
+goes-through [] v q u = refl
+goes-through (x ∷ []) v q u = ap (λ (d : Dialogue). length (d .events)) (begun x v [] q) ∙ go (isSet (x .after .settings .verified))
+  where
+    go : (b : Bool) → length (going x [] b .events) ≡ 1
+    go true = refl
+    go false = refl
+goes-through (x ∷ y ∷ xs) v q u =
+    ap (λ (d : Dialogue). length (d .events)) (begun x v (y ∷ xs) q ∙ ap (going x (y ∷ xs)) (ne-eqb (x .after .settings .verified) 1 (u .0)))
+    ∙ ap suc (goes-through (y ∷ xs) (x .after) (q .1) (u .1))
+
+-- what two callers got back, and what lies with them after the last
+pub record BlindFromC (v w : Vault) (xs ys : List (Entry Vault)) : Type 0 where
+  pub told : toldOf xs ≡ toldOf ys
+  pub settings : SameOpen (lastOf v xs .settings) (lastOf w ys .settings)
+  pub kept-one : Stay (eventsOf xs) (v .settings) (v .memory) (lastOf v xs .settings) (lastOf v xs .memory)
+  pub kept-other : Stay (eventsOf ys) (w .settings) (w .memory) (lastOf w ys .settings) (lastOf w ys .memory)
+
+-- "two legal locked readers of equal capacity and, but for the filled marks, equal settings .. answer any sequence of runs alike, line switches among them, up to
+-- and including the first accepted password"
+pub vault-second-half : (v w : Vault) → LegalVault v → LegalVault w → v .settings .password ≢ 0 ∷ 0 ∷ 0 ∷ 0 ∷ [] → v .settings .verified ≡ 0 → SameOpen (v .settings) (w .settings)
+    → length (v .memory .templates) ≡ length (w .memory .templates) → (xs ys : List (Entry Vault)) → Steps v xs → Steps w ys → Until (λ (u : Vault). u .settings .verified) xs
+    → Paired (length (v .memory .templates) / 512) (eventsOf xs) (eventsOf ys) → BlindFromC v w xs ys
+unfolding capacity
+vault-second-half v w l k key shut same pages xs ys p q u pair =
+    let h = vault-marks v l in
+    let n = vault-marks w k in
+    let f = words.kept .locked-means (readerIn v .plain) .1 (key, rw shut refl) in
+    let b = second-half core (readerIn v) (readerIn w) (l .legal) (k .legal) f (open-plain (v .settings) (w .settings) h n same) (ap (λ (t : ℕ). t / 512) pages) (eventsOf xs) (eventsOf ys) pair in
+    let one : dialogue core (readerIn v) (eventsOf xs) ≡ whole v xs = goes-whole xs v p (goes-through xs v p u) in
+    let c : ℕ = length (v .memory .templates) / 512 in
+    let long : length (dialogue core (readerIn w) (eventsOf ys) .events) ≡ length (eventsOf ys) =
+    sym (paired-long c _ _ (b .events)) ∙ ap (λ (d : Dialogue). length (d .events)) one ∙ paired-long c (eventsOf xs) (eventsOf ys) pair
+    in
+    let other : dialogue core (readerIn w) (eventsOf ys) ≡ whole w ys = goes-whole ys w q long in
+    let b′ : Blind c (readerIn v .guarded) (readerIn w .guarded) (whole v xs) (whole w ys) = subst (λ (d : Dialogue). Blind c (readerIn v .guarded) (readerIn w .guarded) d (whole w ys)) one (subst (Blind c (readerIn v .guarded) (readerIn w .guarded) (dialogue core (readerIn v) (eventsOf xs))) other b) in
+    let last = vault-marks (lastOf v xs) (vault-legal v xs p l) in
+    let last′ = vault-marks (lastOf w ys) (vault-legal w ys q k) in
+    record {
+      told = b′ .told;
+      settings = plain-open (lastOf v xs .settings) (lastOf w ys .settings) last last′ (b′ .settings);
+      kept-one = stay-bytes (eventsOf xs) (v .settings) (v .memory) (lastOf v xs .settings) (lastOf v xs .memory) h last (b′ .kept-one);
+      kept-other = stay-bytes (eventsOf ys) (w .settings) (w .memory) (lastOf w ys .settings) (lastOf w ys .memory) n last′ (b′ .kept-other);
+    }

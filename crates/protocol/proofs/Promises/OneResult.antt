@@ -37,6 +37,11 @@ numbered (suc zero) k = refl
 numbered (suc (suc zero)) k = refl
 numbered (suc (suc (suc b))) k = refl
 
+pub transfer-same : (b k c j : ℕ) → transferOf b k ≡ transferOf c j → (b ≡ c) × (k ≡ j)
+transfer-same b k c j e =
+    let m : _≡_ {A = ℕ × ℕ} (b, k) (c, j) = sym (numbered b k) ∙ ap numbers e ∙ numbered c j in
+    (ap (λ (p : ℕ × ℕ). p .0) m, ap (λ (p : ℕ × ℕ). p .1) m)
+
 beside-numbered : (m : Marks) (b k : ℕ) → numbers (transferBeside m b k) ≡ (b, k)
 unfolding numbers transferBeside
 beside-numbered m b k = go (fitMarks m)
@@ -92,7 +97,7 @@ origin-numbered n = go (eqb n noPage) refl
     go true e = sym (eqb-true n noPage e)
     go false e = refl
 
-same-origin : (n m : ℕ) → originOf n ≡ originOf m → n ≡ m
+pub same-origin : (n m : ℕ) → originOf n ≡ originOf m → n ≡ m
 same-origin n m e = sym (origin-numbered n) ∙ ap page-number e ∙ origin-numbered m
 
 -- one reader comes of one settings record and one lent memory
