@@ -42,6 +42,7 @@ pub mod ComesToRest
 pub mod ReceiverLock
 pub mod ReceiverCalls
 pub mod FromC
+pub mod LinesFromC
 pub mod LockFromC
 pub mod InPieces
 pub mod LongData

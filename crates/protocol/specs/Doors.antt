@@ -1,6 +1,5 @@
 -- What a C caller hands to the doors of include/bystrodol.h and gets back, call after call: bystrodol_step and bystrodol_line_switch on a vault, and
 -- bystrodol_receive and bystrodol_receiver_switch on one with a receiver.
-use mathlib.Core.Path.{_≡_}
 use mathlib.Core.Logic.{_≢_}
 use mathlib.Core.List.{List, [], _∷_, _++_}
 use Prim.Native.Nat.{ℕ, _-_}

@@ -1,12 +1,11 @@
 -- The promises at the doors for C without a receiver, over sequences of calls: over what a caller hands to bystrodol_step and bystrodol_line_switch, what they
 -- return, and what lies in its settings and its memory after each.
-use mathlib.Core.Bool.{Bool, true, false, cond, true≢false}
+use mathlib.Core.Bool.{true}
 use mathlib.Core.Path.{_≡_, refl, sym, ap, _∙_, subst}
-use mathlib.Core.Logic.{_⊎_, inl, inr, _≢_}
+use mathlib.Core.Logic.{_⊎_, _≢_}
 use mathlib.Core.List.{List, [], _∷_}
 use Prim.Native.Nat.{ℕ, zero, suc, _*_, _/_, _%_, _^_, _≤_}
 use native.Mathlib.Omega.{arith}
-use lib.Dec.{T, eqb}
 use lib.ListN.{length, take, drop, getD, replicate}
 use Rattle.protocol.specs.declared.Settings.{Settings}
 use Rattle.protocol.specs.declared.Answered.{Answered}
@@ -17,8 +16,7 @@ use Rattle.protocol.specs.Call.{core, Lent, Told, Ended, replyOf, callOf
 use Rattle.protocol.specs.Dialogue.{Event, received, switch, on, finally, Exchange, exchanges, Act, history, live}
 use Rattle.protocol.specs.Services.{countService}
 use Rattle.protocol.specs.Records.{marksOf, originOf, readerOf, lentOf, endedOf, switchedOf, calledAt, switchedAt}
-use Rattle.protocol.specs.Doors.{Memory, Vault, readerAt, readerIn, Entry, lastOf, eventsOf, toldOf, Steps, sees, saw}
-
+use Rattle.protocol.specs.Doors.{Memory, Vault, readerAt, readerIn, Entry, lastOf, eventsOf, Steps, sees, saw}
 use borrow.Author.Tests.{eqb-true, ne-eqb}
 use Rattle.protocol.proofs.Laws.Lines.{Line, unless, Follows}
 use Rattle.protocol.proofs.Laws.History.{ever-capacity}
@@ -133,7 +131,7 @@ switch-refusal v w t q = let c = switch-refusals (readerIn v) in (λ a. end 0 (c
     end zero e = (
       same 0 e,
       switch-clears (v .settings) (v .memory .templates) (v .memory .index) (v .memory .notepad) (v .memory .buffer1) (v .memory .buffer2) (w .memory .templates) (w .memory .index) (w .memory .notepad) (w .memory .buffer1) (w .memory .buffer2)
-      record { settings = w .settings; refusal = 0 } (rw (same 0 e) at (q .0)) refl,
+          record { settings = w .settings; refusal = 0 } (rw (same 0 e) at (q .0)) refl,
     )
     end (suc n) e =
         let o = same-vault (w .settings) (v .settings) (w .memory) (v .memory) (ap (λ (x : Ended). x .after) (q .0) ∙ e .1) in

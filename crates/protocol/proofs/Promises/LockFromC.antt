@@ -1,30 +1,36 @@
 -- Demand 3 at the doors for C: over the bytes that lie in a caller's settings and memory, what it hands in, and what it gets back.
-use mathlib.Core.Bool.{Bool, true, false, true≢false, cond}
+use mathlib.Core.Bool.{true, false, cond}
 use mathlib.Core.Path.{_≡_, refl, sym, ap, _∙_, subst}
 use mathlib.Core.Logic.{_⊎_, inl, inr, _≢_}
-use mathlib.Core.List.{List, [], _∷_}
-use Prim.Native.Nat.{ℕ, zero, suc, _/_, _≤_}
+use mathlib.Core.List.{List, [], _∷_, _++_}
+use Prim.Native.Nat.{ℕ, zero, suc, _-_, _/_, _≤_}
 use native.Mathlib.Omega.{arith}
 use lib.Dec.{T, eqb}
 use lib.ListN.{length, take, replicate}
-use borrow.Author.Tests.{lt-ltb, ne-eqb}
+use borrow.Author.Tests.{lt-ltb}
 use Rattle.protocol.specs.declared.Settings.{Settings}
+use Rattle.protocol.specs.declared.Receiver.{Receiver}
+use Rattle.protocol.specs.Numbers.{holds, longest}
 use Rattle.protocol.specs.Bytes.{lay}
 use Rattle.protocol.specs.Reader.{closed, Plain, Guarded, Reader, capacity, keyed, emptied, settings}
 use Rattle.protocol.specs.Data.{acknowledge}
 use Rattle.protocol.specs.Step.{wiped}
 use Rattle.protocol.specs.Call.{core, Lent, Told, Ended, replyOf, callOf}
 use Rattle.protocol.specs.Dialogue.{Event, received, switch, on, Dialogue, over, first, dialogue, kept, Paired}
+use Rattle.protocol.specs.Receiver.{bytesIn, line, Handed, fitting, runOf, receiveOf}
+use Rattle.protocol.specs.Caller.{onLine, Talk, endsAt, begins, talk}
 use Rattle.protocol.specs.Records.{fitMark, originOf, isSet, markOf, transferOf, plainOf}
 use Rattle.protocol.specs.Doors.{Memory, Vault, LineVault, readerAt, readerIn, lineIn, Entry, lastOf, eventsOf, toldOf, Until, Steps, Receives}
 use Rattle.protocol.proofs.Laws.Marks.{mark-is}
+use Rattle.protocol.proofs.Laws.Entries.{paired-long, Tale, whole, goes-whole, goes-through}
 use Rattle.protocol.proofs.Promises.Words as words
-use Rattle.protocol.proofs.Promises.LegalMeans.{core-holds, LegalTransfer, legal-means}
-use Rattle.protocol.proofs.Promises.StaysLegal.{Legal}
+use Rattle.protocol.proofs.Promises.LegalMeans.{LegalTransfer, legal-means}
 use Rattle.protocol.proofs.Promises.Marks.{Marked, beside-marked}
 use Rattle.protocol.proofs.Promises.OneResult.{same-origin, transfer-same}
 use Rattle.protocol.proofs.Promises.Parameters.{AsksParameters}
 use Rattle.protocol.proofs.Promises.Lock.{mark, ButStatus, Bars, Alike, FirstHalf, marked-legal, first-half, Blind, second-half}
+use Rattle.protocol.proofs.Promises.ReceiverLock.{ReceiverHalf, receiver-first-half, SameHeld, ReceiverBlind, receiver-second-half}
+use Rattle.protocol.proofs.Promises.LinesFromC.{LegalLine, line-marks, line-vault-legal}
 use Rattle.protocol.proofs.Promises.FromC.{same-vault, LegalVault, vault-marks, vault-legal}
 
 -- ---- "its copy with only the verified mark changed"
@@ -135,6 +141,24 @@ module _ (s : Settings) (m : Memory) where
         (subst (λ (e : Ended). FirstHalf at run lent e record { told = u; after = readerIn z }) (sym (p .0))
         (subst (λ (e : Ended). FirstHalf at run lent (callOf core at run lent) e) (sym (q .0 ∙ ap (λ (r : Reader). callOf core r run lent) copy)) (first-half at keys still core (l .legal) run lent)))
 
+    -- the same with a receiver, on what is held then, `run`; and the two hold the same bytes after it
+    pub line-vault-first-half : (h : Receiver) → h .count ≤ 267 → (piece : List ℕ) (lent : Lent) (t u : Told) (w z : LineVault)
+        → Receives record { line = record { settings = marked 0 s; receiver = h }; memory = m } (record { event = received piece lent; told = t; after = w } ∷ [])
+        → Receives record { line = record { settings = marked 1 s; receiver = h }; memory = m } (record { event = received piece lent; told = u; after = z } ∷ [])
+        → (let run = take (h .count) (h .held) ++ take (267 - h .count) piece in
+        HalfFromC (marked 0 s) m run lent t (w .line .settings) (w .memory) u (z .line .settings) (z .memory) × (w .line .receiver ≡ z .line .receiver))
+    unfolding at onLine runOf bytesIn fitting holds longest
+    line-vault-first-half h few piece lent t u w z p q =
+        let o = line-marks w (line-vault-legal _ (record { event = received piece lent; told = t; after = w } ∷ []) p record { reader = l; few = few }) in
+        let k = line-marks z (line-vault-legal _ (record { event = received piece lent; told = u; after = z } ∷ []) q record { reader = copy-legal; few = few }) in
+        let run : List ℕ = runOf h piece in
+        let half : ReceiverHalf at run lent record { told = t; after = lineIn w } record { told = u; after = lineIn z } =
+        subst (λ (e : Handed). ReceiverHalf at run lent e record { told = u; after = lineIn z }) (sym (p .0))
+        (subst (λ (e : Handed). ReceiverHalf at run lent (receiveOf core (line at h) piece lent) e) (sym (q .0 ∙ ap (λ (r : Reader). receiveOf core (line r h) piece lent) copy))
+        (receiver-first-half core at keys still (l .legal) h piece lent))
+        in
+        (half-bytes (marked 0 s) m run lent t (w .line .settings) (w .memory) u (z .line .settings) (z .memory) o k (half .half), half .receiver)
+
 -- ---- the second half
 
 -- equal settings but for the filled marks, the origins and the found mark
@@ -240,86 +264,130 @@ stay-bytes es s m s′ m′ h k e =
           (same-origin (s′ .origin1) 65535 (ap (λ (g : Guarded). g .buffer1 .origin) f), same-origin (s′ .origin2) 65535 (ap (λ (g : Guarded). g .buffer2 .origin) f)));
     }
 
--- ---- a sequence up to and including the first accepted password is a dialogue, whole
+-- what lies with two callers after their last calls, and how much of it stayed
+pub record AlikeFromC (es fs : List Event) (s : Settings) (m : Memory) (z : Settings) (n : Memory) (s′ : Settings) (m′ : Memory) (z′ : Settings) (n′ : Memory) : Type 0 where
+  pub settings : SameOpen s′ z′
+  pub kept-one : Stay es s m s′ m′
+  pub kept-other : Stay fs z n z′ n′
 
-paired-long : (c : ℕ) (es fs : List Event) → Paired c es fs → length es ≡ length fs
-paired-long c [] [] p = refl
-paired-long c [] (f ∷ fs) p = absurd p
-paired-long c (e ∷ es) [] p = absurd p
-paired-long c (received s l ∷ es) (received t m ∷ fs) p = ap suc (paired-long c es fs (p .1 .1 .1))
-paired-long c (received s l ∷ es) (switch ∷ fs) p = absurd p
-paired-long c (switch ∷ es) (received t m ∷ fs) p = absurd p
-paired-long c (switch ∷ es) (switch ∷ fs) p = ap suc (paired-long c es fs p)
+alike-bytes : (es fs : List Event) (s : Settings) (m : Memory) (z : Settings) (n : Memory) (s′ : Settings) (m′ : Memory) (z′ : Settings) (n′ : Memory) → Marked s → Marked z → Marked s′ → Marked z′
+    → plainOf s′ ≡ plainOf z′ → readerAt s′ m′ .guarded ≡ kept (readerAt s m .guarded) es → readerAt z′ n′ .guarded ≡ kept (readerAt z n .guarded) fs → AlikeFromC es fs s m z n s′ m′ z′ n′
+alike-bytes es fs s m z n s′ m′ z′ n′ h k h′ k′ e f g =
+    record { settings = plain-open s′ z′ h′ k′ e; kept-one = stay-bytes es s m s′ m′ h h′ f; kept-other = stay-bytes fs z n z′ n′ k k′ g }
 
-abbrev whole : Vault → List (Entry Vault) → Dialogue
-whole v xs = record { events = eventsOf xs; told = toldOf xs; last = readerIn (lastOf v xs) }
+-- ---- a caller's calls up to and including the first accepted password are a dialogue, and a talk
 
-module _ (x : Entry Vault) where
-  abbrev going : List (Entry Vault) → Bool → Dialogue
-  going xs b = first (x .event) (x .told) (cond b (over (readerIn (x .after))) (dialogue core (readerIn (x .after)) (eventsOf xs)))
+verifiedIn : Vault → ℕ
+verifiedIn v = v .settings .verified
 
-  begun : (v : Vault) (xs : List (Entry Vault)) → Steps v (x ∷ xs) → dialogue core (readerIn v) (eventsOf (x ∷ xs)) ≡ going xs (isSet (x .after .settings .verified))
-  unfolding dialogue
-  begun v xs q = ap (λ (o : Ended). first (x .event) (o .told) (cond (o .after .plain .verified) (over (o .after)) (dialogue core (o .after) (eventsOf xs)))) (sym (q .0))
+steps-tale : Tale (λ (v : Vault) (es : List Event). dialogue core (readerIn v) es) (λ (v : Vault). over (readerIn v)) first (λ (d : Dialogue). length (d .events)) verifiedIn Steps
+unfolding dialogue over first verifiedIn
+steps-tale =
+    record {
+      ends-long = λ v. refl;
+      more-long = λ e t d. refl;
+      none = λ v. refl;
+      rest = λ v x xs q. q .1;
+      begun = λ v x xs q. ap (λ (o : Ended). first (x .event) (o .told) (cond (o .after .plain .verified) (over (o .after)) (dialogue core (o .after) (eventsOf xs)))) (sym (q .0));
+    }
 
-goes-whole : (xs : List (Entry Vault)) (v : Vault) → Steps v xs → length (dialogue core (readerIn v) (eventsOf xs) .events) ≡ length (eventsOf xs)
-    → dialogue core (readerIn v) (eventsOf xs) ≡ whole v xs
-unfolding dialogue over first
-goes-whole [] v q e = refl
-goes-whole (x ∷ xs) v q e =
-    begun x v xs q
-    ∙ go (isSet (x .after .settings .verified)) xs (ap (λ (d : Dialogue). length (d .events)) (sym (begun x v xs q)) ∙ e) (goes-whole xs (x .after) (q .1))
-  where
-    go : (b : Bool) (ys : List (Entry Vault)) → length (going x ys b .events) ≡ suc (length (eventsOf ys))
-        → (length (dialogue core (readerIn (x .after)) (eventsOf ys) .events) ≡ length (eventsOf ys) → dialogue core (readerIn (x .after)) (eventsOf ys) ≡ whole (x .after) ys)
-        → going x ys b ≡ whole v (x ∷ ys)
-    go true [] l i = refl
-    go true (y ∷ ys) l i = absurd (omega (arith, l))
-    go false ys l i = ap (first (x .event) (x .told)) (i (omega (arith, l)))
+steps-are : (xs : List (Entry Vault)) (v : Vault)
+    → whole (λ (v : Vault) (es : List Event). dialogue core (readerIn v) es) (λ (v : Vault). over (readerIn v)) first (λ (d : Dialogue). length (d .events)) verifiedIn Steps v xs
+    ≡ record { events = eventsOf xs; told = toldOf xs; last = readerIn (lastOf v xs) }
+unfolding whole over first
+steps-are [] v = refl
+steps-are (x ∷ xs) v = ap (first (x .event) (x .told)) (steps-are xs (x .after))
 
-goes-through : (xs : List (Entry Vault)) (v : Vault) → Steps v xs → Until (λ (w : Vault). w .settings .verified) xs
-    → length (dialogue core (readerIn v) (eventsOf xs) .events) ≡ length (eventsOf xs)
-unfolding dialogue over first
-goes-through [] v q u = refl
-goes-through (x ∷ []) v q u = ap (λ (d : Dialogue). length (d .events)) (begun x v [] q) ∙ go (isSet (x .after .settings .verified))
-  where
-    go : (b : Bool) → length (going x [] b .events) ≡ 1
-    go true = refl
-    go false = refl
-goes-through (x ∷ y ∷ xs) v q u =
-    ap (λ (d : Dialogue). length (d .events)) (begun x v (y ∷ xs) q ∙ ap (going x (y ∷ xs)) (ne-eqb (x .after .settings .verified) 1 (u .0)))
-    ∙ ap suc (goes-through (y ∷ xs) (x .after) (q .1) (u .1))
+verifiedOn : LineVault → ℕ
+verifiedOn v = v .line .settings .verified
 
--- what two callers got back, and what lies with them after the last
+receives-tale : Tale (λ (v : LineVault) (es : List Event). talk core (lineIn v) es) (λ (v : LineVault). endsAt (lineIn v)) begins (λ (d : Talk). length (d .events)) verifiedOn Receives
+unfolding talk endsAt begins verifiedOn
+receives-tale =
+    record {
+      ends-long = λ v. refl;
+      more-long = λ e t d. refl;
+      none = λ v. refl;
+      rest = λ v x xs q. q .1;
+      begun = λ v x xs q. ap (λ (o : Handed). begins (x .event) (o .told) (cond (o .after .reader .plain .verified) (endsAt (o .after)) (talk core (o .after) (eventsOf xs)))) (sym (q .0));
+    }
+
+receives-are : (xs : List (Entry LineVault)) (v : LineVault)
+    → whole (λ (v : LineVault) (es : List Event). talk core (lineIn v) es) (λ (v : LineVault). endsAt (lineIn v)) begins (λ (d : Talk). length (d .events)) verifiedOn Receives v xs
+    ≡ record { events = eventsOf xs; told = toldOf xs; last = lineIn (lastOf v xs) }
+unfolding whole endsAt begins
+receives-are [] v = refl
+receives-are (x ∷ xs) v = ap (begins (x .event) (x .told)) (receives-are xs (x .after))
+
+-- what two callers got back at each call, and what lies with them after the last
 pub record BlindFromC (v w : Vault) (xs ys : List (Entry Vault)) : Type 0 where
   pub told : toldOf xs ≡ toldOf ys
-  pub settings : SameOpen (lastOf v xs .settings) (lastOf w ys .settings)
-  pub kept-one : Stay (eventsOf xs) (v .settings) (v .memory) (lastOf v xs .settings) (lastOf v xs .memory)
-  pub kept-other : Stay (eventsOf ys) (w .settings) (w .memory) (lastOf w ys .settings) (lastOf w ys .memory)
+  pub after : AlikeFromC (eventsOf xs) (eventsOf ys) (v .settings) (v .memory) (w .settings) (w .memory) (lastOf v xs .settings) (lastOf v xs .memory) (lastOf w ys .settings) (lastOf w ys .memory)
 
 -- "two legal locked readers of equal capacity and, but for the filled marks, equal settings .. answer any sequence of runs alike, line switches among them, up to
 -- and including the first accepted password"
 pub vault-second-half : (v w : Vault) → LegalVault v → LegalVault w → v .settings .password ≢ 0 ∷ 0 ∷ 0 ∷ 0 ∷ [] → v .settings .verified ≡ 0 → SameOpen (v .settings) (w .settings)
     → length (v .memory .templates) ≡ length (w .memory .templates) → (xs ys : List (Entry Vault)) → Steps v xs → Steps w ys → Until (λ (u : Vault). u .settings .verified) xs
     → Paired (length (v .memory .templates) / 512) (eventsOf xs) (eventsOf ys) → BlindFromC v w xs ys
-unfolding capacity
+unfolding capacity verifiedIn
 vault-second-half v w l k key shut same pages xs ys p q u pair =
     let h = vault-marks v l in
     let n = vault-marks w k in
-    let f = words.kept .locked-means (readerIn v .plain) .1 (key, rw shut refl) in
-    let b = second-half core (readerIn v) (readerIn w) (l .legal) (k .legal) f (open-plain (v .settings) (w .settings) h n same) (ap (λ (t : ℕ). t / 512) pages) (eventsOf xs) (eventsOf ys) pair in
-    let one : dialogue core (readerIn v) (eventsOf xs) ≡ whole v xs = goes-whole xs v p (goes-through xs v p u) in
     let c : ℕ = length (v .memory .templates) / 512 in
-    let long : length (dialogue core (readerIn w) (eventsOf ys) .events) ≡ length (eventsOf ys) =
-    sym (paired-long c _ _ (b .events)) ∙ ap (λ (d : Dialogue). length (d .events)) one ∙ paired-long c (eventsOf xs) (eventsOf ys) pair
+    let d : Dialogue = dialogue core (readerIn v) (eventsOf xs) in
+    let e : Dialogue = dialogue core (readerIn w) (eventsOf ys) in
+    let b : Blind c (readerIn v .guarded) (readerIn w .guarded) d e =
+    second-half core (readerIn v) (readerIn w) (l .legal) (k .legal) (words.kept .locked-means (readerIn v .plain) .1 (key, rw shut refl)) (open-plain (v .settings) (w .settings) h n same)
+    (ap (λ (t : ℕ). t / 512) pages) (eventsOf xs) (eventsOf ys) pair
     in
-    let other : dialogue core (readerIn w) (eventsOf ys) ≡ whole w ys = goes-whole ys w q long in
-    let b′ : Blind c (readerIn v .guarded) (readerIn w .guarded) (whole v xs) (whole w ys) = subst (λ (d : Dialogue). Blind c (readerIn v .guarded) (readerIn w .guarded) d (whole w ys)) one (subst (Blind c (readerIn v .guarded) (readerIn w .guarded) (dialogue core (readerIn v) (eventsOf xs))) other b) in
-    let last = vault-marks (lastOf v xs) (vault-legal v xs p l) in
-    let last′ = vault-marks (lastOf w ys) (vault-legal w ys q k) in
+    let long : length (d .events) ≡ length (eventsOf xs) = goes-through _ _ _ _ _ _ steps-tale xs v p u in
+    let long′ : length (e .events) ≡ length (eventsOf ys) = sym (paired-long c (d .events) (e .events) (b .events)) ∙ long ∙ paired-long c (eventsOf xs) (eventsOf ys) pair in
+    let one : d ≡ record { events = eventsOf xs; told = toldOf xs; last = readerIn (lastOf v xs) } = goes-whole _ _ _ _ _ _ steps-tale xs v p long ∙ steps-are xs v in
+    let other : e ≡ record { events = eventsOf ys; told = toldOf ys; last = readerIn (lastOf w ys) } = goes-whole _ _ _ _ _ _ steps-tale ys w q long′ ∙ steps-are ys w in
+    let f : Blind c (readerIn v .guarded) (readerIn w .guarded) record { events = eventsOf xs; told = toldOf xs; last = readerIn (lastOf v xs) } record { events = eventsOf ys; told = toldOf ys; last = readerIn (lastOf w ys) } =
+    subst (λ (a : Dialogue × Dialogue). Blind c (readerIn v .guarded) (readerIn w .guarded) (a .0) (a .1)) (λ j. (one j, other j)) b
+    in
     record {
-      told = b′ .told;
-      settings = plain-open (lastOf v xs .settings) (lastOf w ys .settings) last last′ (b′ .settings);
-      kept-one = stay-bytes (eventsOf xs) (v .settings) (v .memory) (lastOf v xs .settings) (lastOf v xs .memory) h last (b′ .kept-one);
-      kept-other = stay-bytes (eventsOf ys) (w .settings) (w .memory) (lastOf w ys .settings) (lastOf w ys .memory) n last′ (b′ .kept-other);
+      told = f .told;
+      after =
+          alike-bytes (eventsOf xs) (eventsOf ys) (v .settings) (v .memory) (w .settings) (w .memory) (lastOf v xs .settings) (lastOf v xs .memory) (lastOf w ys .settings) (lastOf w ys .memory) h n
+          (vault-marks (lastOf v xs) (vault-legal v xs p l)) (vault-marks (lastOf w ys) (vault-legal w ys q k)) (f .settings) (f .kept-one) (f .kept-other);
+    }
+
+-- with a receiver: the two hold the same bytes, and hold the same after the last call
+pub record LinesBlindFromC (v w : LineVault) (xs ys : List (Entry LineVault)) : Type 0 where
+  pub told : toldOf xs ≡ toldOf ys
+  pub held : SameHeld (lastOf v xs .line .receiver) (lastOf w ys .line .receiver)
+  pub after : AlikeFromC (eventsOf xs) (eventsOf ys) (v .line .settings) (v .memory) (w .line .settings) (w .memory) (lastOf v xs .line .settings) (lastOf v xs .memory) (lastOf w ys .line .settings) (lastOf w ys .memory)
+
+pub line-vault-second-half : (v w : LineVault) → LegalLine v → LegalLine w → v .line .settings .password ≢ 0 ∷ 0 ∷ 0 ∷ 0 ∷ [] → v .line .settings .verified ≡ 0
+    → SameOpen (v .line .settings) (w .line .settings) → length (v .memory .templates) ≡ length (w .memory .templates) → SameHeld (v .line .receiver) (w .line .receiver)
+    → (xs ys : List (Entry LineVault)) → Receives v xs → Receives w ys → Until (λ (u : LineVault). u .line .settings .verified) xs
+    → Paired (length (v .memory .templates) / 512) (eventsOf xs) (eventsOf ys) → LinesBlindFromC v w xs ys
+unfolding capacity verifiedOn
+line-vault-second-half v w l k key shut same pages held xs ys p q u pair =
+    let h = line-marks v l in
+    let n = line-marks w k in
+    let c : ℕ = length (v .memory .templates) / 512 in
+    let r : Reader = lineIn v .reader in
+    let t : Reader = lineIn w .reader in
+    let d : Talk = talk core (lineIn v) (eventsOf xs) in
+    let e : Talk = talk core (lineIn w) (eventsOf ys) in
+    let b : ReceiverBlind c (r .guarded) (t .guarded) d e =
+    receiver-second-half core r t (v .line .receiver) (w .line .receiver) (l .reader .legal) (k .reader .legal) (words.kept .locked-means (r .plain) .1 (key, rw shut refl))
+    (open-plain (v .line .settings) (w .line .settings) h n same) (ap (λ (j : ℕ). j / 512) pages) held (eventsOf xs) (eventsOf ys) pair
+    in
+    let long : length (d .events) ≡ length (eventsOf xs) = goes-through _ _ _ _ _ _ receives-tale xs v p u in
+    let long′ : length (e .events) ≡ length (eventsOf ys) = sym (paired-long c (d .events) (e .events) (b .events)) ∙ long ∙ paired-long c (eventsOf xs) (eventsOf ys) pair in
+    let one = goes-whole _ _ _ _ _ _ receives-tale xs v p long ∙ receives-are xs v in
+    let other = goes-whole _ _ _ _ _ _ receives-tale ys w q long′ ∙ receives-are ys w in
+    let f : ReceiverBlind c (r .guarded) (t .guarded) record { events = eventsOf xs; told = toldOf xs; last = lineIn (lastOf v xs) } record { events = eventsOf ys; told = toldOf ys; last = lineIn (lastOf w ys) } =
+    subst (λ (a : Talk × Talk). ReceiverBlind c (r .guarded) (t .guarded) (a .0) (a .1)) (λ j. (one j, other j)) b
+    in
+    record {
+      told = f .told;
+      held = f .held;
+      after =
+          alike-bytes (eventsOf xs) (eventsOf ys) (v .line .settings) (v .memory) (w .line .settings) (w .memory) (lastOf v xs .line .settings) (lastOf v xs .memory) (lastOf w ys .line .settings) (lastOf w ys .memory) h n
+          (line-marks (lastOf v xs) (line-vault-legal v xs p l)) (line-marks (lastOf w ys) (line-vault-legal w ys q k)) (f .settings) (f .kept-one) (f .kept-other);
     }

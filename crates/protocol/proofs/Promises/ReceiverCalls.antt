@@ -83,7 +83,7 @@ as-calls σ (switch ∷ es) x few =
     let y : Line = lineSwitchOf x .after in
     as-calls σ es y (switch-few x few) ∙ ap (λ (r : Reader). finally σ r (runs σ y es)) (switch-reader x)
 
-ever-few : (σ : Shape) (es : List Event) (x : Line) → x .receiver .count ≤ 267 → finallyOn σ x es .receiver .count ≤ 267
+pub ever-few : (σ : Shape) (es : List Event) (x : Line) → x .receiver .count ≤ 267 → finallyOn σ x es .receiver .count ≤ 267
 unfolding finallyOn onLine
 ever-few σ [] x few = few
 ever-few σ (received piece lent ∷ es) x few = ever-few σ es (receiveOf σ x piece lent .after) (stays-few σ x few piece lent)
