@@ -16,7 +16,7 @@ use Rattle.protocol.specs.Call.{core, Lent, Told, Ended, replyOf, callOf
 use Rattle.protocol.specs.Dialogue.{Event, received, switch, on, finally, Exchange, exchanges, Act, history, live}
 use Rattle.protocol.specs.Services.{countService}
 use Rattle.protocol.specs.Records.{marksOf, originOf, readerOf, lentOf, endedOf, switchedOf, calledAt, switchedAt}
-use Rattle.protocol.specs.Doors.{Memory, Vault, readerAt, readerIn, Entry, lastOf, eventsOf, Steps, sees, saw}
+use Rattle.protocol.specs.Doors.{Memory, Vault, readerAt, readerIn, Entry, lastOf, eventsOf, ended, Steps, sees, saw}
 use borrow.Author.Tests.{eqb-true, ne-eqb}
 use Rattle.protocol.proofs.Laws.Lines.{Line, unless, Follows}
 use Rattle.protocol.proofs.Laws.History.{ever-capacity}
@@ -71,7 +71,7 @@ unfolding exchanges on replyOf
 steps-saw [] v q = refl
 steps-saw (x ∷ xs) v q = go (x .event) (q .0) (steps-saw xs (x .after) (q .1))
   where
-    go : (e : Event) → _≡_ {A = Ended} record { told = x .told; after = readerIn (x .after) } (on core (readerIn v) e)
+    go : (e : Event) → ended (x .told) (x .after) ≡ on core (readerIn v) e
         → saw xs ≡ exchanges core (readerIn (x .after)) (eventsOf xs) → sees e (x .told) (saw xs) ≡ exchanges core (readerIn v) (e ∷ eventsOf xs)
     go (received run lent) p i =
         ap (λ (z : List Exchange). record { run = run; reply = take (x .told .length) (x .told .room) } ∷ z) i

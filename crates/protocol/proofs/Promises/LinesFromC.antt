@@ -19,7 +19,7 @@ use Rattle.protocol.specs.Receiver as receivers
 use Rattle.protocol.specs.Caller.{onLine, finallyOn, runs, seen}
 use Rattle.protocol.specs.Services.{countService}
 use Rattle.protocol.specs.Records.{lineOf, lentOf, receivedOf, emptiedOf, receivedAt, emptiedAt}
-use Rattle.protocol.specs.Doors.{Memory, LineVault, readerAt, lineIn, Entry, lastOf, eventsOf, Receives, seesOn, sawOn}
+use Rattle.protocol.specs.Doors.{Memory, LineVault, readerAt, lineIn, Entry, lastOf, eventsOf, handed, Receives, seesOn, sawOn}
 use Rattle.protocol.proofs.Laws.Lines.{Line as Unless, unless, Follows}
 use Rattle.protocol.proofs.Laws.History.{ever-capacity}
 use Rattle.protocol.proofs.Promises.Told.{has, buffer}
@@ -75,7 +75,7 @@ unfolding seen onLine replyOf runOf bytesIn fitting
 receives-saw [] v q = refl
 receives-saw (x ∷ xs) v q = go (x .event) (q .0) (receives-saw xs (x .after) (q .1))
   where
-    go : (e : Event) → _≡_ {A = Handed} record { told = x .told; after = lineIn (x .after) } (onLine core (lineIn v) e)
+    go : (e : Event) → handed (x .told) (x .after) ≡ onLine core (lineIn v) e
         → sawOn (x .after) xs ≡ seen core (lineIn (x .after)) (eventsOf xs) → seesOn v e (x .told) (sawOn (x .after) xs) ≡ seen core (lineIn v) (e ∷ eventsOf xs)
     go (received piece lent) p i =
         ap (λ (z : List Exchange). record { run = runOf (v .line .receiver) piece; reply = take (x .told .length) (x .told .room) } ∷ z) i
