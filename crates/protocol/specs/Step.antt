@@ -12,7 +12,7 @@ use Rattle.protocol.specs.Tests.{verdict}
 use Rattle.protocol.specs.Packet.{addressAt, identifierAt, contentAt, rightAt}
 use Rattle.protocol.specs.Finder.{findOf, usedOf}
 use Rattle.protocol.specs.Reader.{Transfer, closed, opened, unfit, odd, Plain, Buffer, Guarded, Reader, sizeOf, locked, bufferOf, emptied, withMark, withTransfer, withBuffer, contents, reader}
-use Rattle.protocol.specs.Commands.{searchFor, Command, free, barred, Order, damaged, unknown, misfit, command, orderOf}
+use Rattle.protocol.specs.Commands.{Command, free, barred, Order, damaged, unknown, misfit, command, orderOf, searchFor}
 use Rattle.protocol.specs.Data.{acknowledge}
 use Rattle.protocol.specs.Search.{Chip}
 use Rattle.protocol.specs.Table.{Row, rule, apply, FreeRow, freeRule, publicOf}
