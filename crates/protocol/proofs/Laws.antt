@@ -13,6 +13,7 @@ pub mod Answers
 pub mod Legal
 pub mod Proper
 pub mod Locked
+pub mod ChipFree
 pub mod Growth
 pub mod Drain
 pub mod Holding

@@ -9,21 +9,17 @@ use lib.ListN.{length, take, drop}
 use Rattle.protocol.specs.Finder.{findOf, usedOf}
 use Rattle.protocol.specs.Reader.{Reader}
 use Rattle.protocol.specs.Search.{Chip}
-use Rattle.protocol.specs.Step.{stepOf}
+use Rattle.protocol.specs.Step.{hear, IsSearch, stepOf}
 use Rattle.protocol.specs.Call.{Shape, Lent, Told, replyOf}
 use Rattle.protocol.specs.Dialogue.{Event, received, switch, Exchange}
 use Rattle.protocol.specs.Receiver.{bytesIn, holding, Line, line, Handed, runOf, receiveOf, lineSwitchOf}
 
 -- ---- "the caller offers the rest, then an empty piece"
 
--- one of its calls: how many bytes it offers of those left, and the reply room that it lends. Scores and thresholds are the same at every call: a Search sees
--- those of the call that deals with it
+-- one of its calls: how many bytes it offers of those left, and what it lends
 pub record Try : Type 0 where
   pub size : ℕ
-  pub room : List ℕ
-
-abbrev pub lending : Chip → List ℕ → Lent
-lending χ room = record { chip = χ; room = room }
+  pub lent : Lent
 
 -- what some calls did: the replies in order, the line after them, and the bytes of the run that are left
 pub record Ran : Type 0 where
@@ -37,18 +33,27 @@ replied [] d = d
 replied (b ∷ a) d = record { replies = (b ∷ a) ∷ d .replies; after = d .after; left = d .left }
 
 -- a run offered: any way to cut it, to offer a rest again, or to offer nothing
-unfoldable pub offers : Shape → Chip → List Try → Line → List ℕ → Ran
-offers σ χ [] x s = record { replies = []; after = x; left = s }
-offers σ χ (t ∷ ts) x s =
-    let o = receiveOf σ x (take (t .size) s) (lending χ (t .room)) in
-    replied (replyOf (o .told)) (offers σ χ ts (o .after) (drop (o .told .used) s))
+unfoldable pub offers : Shape → List Try → Line → List ℕ → Ran
+offers σ [] x s = record { replies = []; after = x; left = s }
+offers σ (t ∷ ts) x s =
+    let o = receiveOf σ x (take (t .size) s) (t .lent) in
+    replied (replyOf (o .told)) (offers σ ts (o .after) (drop (o .told .used) s))
 
 -- "no call is refused"
-unfoldable pub served : Shape → Chip → List Try → Line → List ℕ → Bool
-served σ χ [] x s = true
-served σ χ (t ∷ ts) x s =
-    let o = receiveOf σ x (take (t .size) s) (lending χ (t .room)) in
-    eqb (o .told .refusal) 0 && served σ χ ts (o .after) (drop (o .told .used) s)
+unfoldable pub served : Shape → List Try → Line → List ℕ → Bool
+served σ [] x s = true
+served σ (t ∷ ts) x s =
+    let o = receiveOf σ x (take (t .size) s) (t .lent) in
+    eqb (o .told .refusal) 0 && served σ ts (o .after) (drop (o .told .used) s)
+
+-- by request [8] "scores and thresholds are lent at each call and may be new each time", and a Search sees those of the call that deals with it: each of these
+-- calls that deals with a Search lends these
+unfoldable pub SearchesSee : Shape → Chip → List Try → Line → List ℕ → Type 0
+SearchesSee σ χ [] x s = Unit {0}
+SearchesSee σ χ (t ∷ ts) x s =
+    let piece = take (t .size) s in
+    let o = receiveOf σ x piece (t .lent) in
+    (IsSearch (hear (x .reader .plain .address) (runOf (x .receiver) piece)) → t .lent .chip ≡ χ) × SearchesSee σ χ ts (o .after) (drop (o .told .used) s)
 
 -- "until a call takes nothing, answers nothing and leaves the held bytes as they are": all of the run is taken, and this call, of an empty
 -- piece, is such a one

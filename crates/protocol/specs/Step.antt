@@ -12,7 +12,7 @@ use Rattle.protocol.specs.Tests.{verdict}
 use Rattle.protocol.specs.Packet.{addressAt, identifierAt, contentAt, rightAt}
 use Rattle.protocol.specs.Finder.{findOf, usedOf}
 use Rattle.protocol.specs.Reader.{Transfer, closed, opened, unfit, odd, Plain, Buffer, Guarded, Reader, sizeOf, locked, bufferOf, emptied, withMark, withTransfer, withBuffer, contents, reader}
-use Rattle.protocol.specs.Commands.{Command, free, barred, Order, damaged, unknown, misfit, command, orderOf}
+use Rattle.protocol.specs.Commands.{Command, free, barred, Order, damaged, unknown, misfit, command, orderOf, searchFor}
 use Rattle.protocol.specs.Data.{acknowledge}
 use Rattle.protocol.specs.Search.{Chip}
 use Rattle.protocol.specs.Table.{Row, rule, apply, FreeRow, freeRule, publicOf}
@@ -40,6 +40,10 @@ hearAt address s (Whole p n) = cond (same (addressAt s p) address) (hearAs (iden
 
 unfoldable pub hear : List ℕ → List ℕ → Heard
 hear address s = hearAt address s (findOf s)
+
+-- it is a Search: a buffer, a start and a count
+pub data IsSearch : Heard → Type 0 where
+  a-search : (b start count : ℕ) → IsSearch (order (command (barred (searchFor b start count))))
 
 -- ---- answering
 

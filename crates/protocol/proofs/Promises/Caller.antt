@@ -1,20 +1,22 @@
 -- Request [1]: what the words of the promises about a receiver's caller mean, in the fields of its calls: the calls of a caller, document 01's call
 -- again and again, and sequences of pieces and line switches.
 use mathlib.Core.Bool.{Bool, true, false, cond}
-use mathlib.Core.Path.{_≡_, refl, ap, _∙_}
+use mathlib.Core.Path.{_≡_, refl, sym, ap, ap₂, _∙_, subst}
 use mathlib.Core.Logic.{_↔_}
 use mathlib.Core.List.{List, [], _∷_, _++_}
-use Prim.Native.Nat.{ℕ}
+use Prim.Native.Nat.{ℕ, _-_}
 use lib.Dec.{T, eqb, eqb→eq}
 use lib.ListN.{take, drop}
+use Rattle.protocol.specs.Numbers.{holds, longest}
 use Rattle.protocol.specs.Finder.{findOf, usedOf}
 use Rattle.protocol.specs.Reader.{Reader, capacity}
 use Rattle.protocol.specs.Search.{Chip}
-use Rattle.protocol.specs.Step.{stepOf}
+use Rattle.protocol.specs.Commands.{barred, searchFor, command}
+use Rattle.protocol.specs.Step.{Heard, order, hear, IsSearch, a-search, stepOf}
 use Rattle.protocol.specs.Call.{Shape, Lent, fitLent, legal, Told, replyOf, callOf}
 use Rattle.protocol.specs.Dialogue.{Event, received, switch}
-use Rattle.protocol.specs.Receiver.{holding, Line, line, Handed, receiveOf, lineSwitchOf}
-use Rattle.protocol.specs.Caller.{Try, Ran, replied, offers, served, resting, atRest, drained, onLine, finallyOn, Talk, endsAt, begins, talk, lending}
+use Rattle.protocol.specs.Receiver.{bytesIn, holding, Line, line, Handed, fitting, runOf, receiveOf, lineSwitchOf}
+use Rattle.protocol.specs.Caller.{Try, Ran, replied, offers, served, SearchesSee, resting, atRest, drained, onLine, finallyOn, Talk, endsAt, begins, talk}
 use Rattle.protocol.proofs.Laws.Logic.{and-l, and-r, and-i, eq→eqb}
 use Rattle.protocol.proofs.Laws.Drain.{drained-rest, drained-call}
 use Rattle.protocol.proofs.Promises.Cuts.{drains-by-call}
@@ -35,32 +37,60 @@ replied-is (b ∷ a) d = refl
 
 -- ---- the calls of a caller
 
--- with the same scores and thresholds at every call
-module _ (σ : Shape) (χ : Chip) where
-  pub offers-none : (x : Line) (s : List ℕ) → offers σ χ [] x s ≡ record { replies = []; after = x; left = s }
+-- a caller lends these scores and thresholds at every call
+abbrev pub AlwaysLends : Chip → List Try → Type 0
+AlwaysLends χ [] = Unit {0}
+AlwaysLends χ (t ∷ ts) = (t .lent .chip ≡ χ) × AlwaysLends χ ts
+
+module _ (σ : Shape) where
+  pub offers-none : (x : Line) (s : List ℕ) → offers σ [] x s ≡ record { replies = []; after = x; left = s }
   unfolding offers
   offers-none x s = refl
 
   module _ (t : Try) (ts : List Try) (x : Line) (s : List ℕ) where
     -- so many bytes of those left
     abbrev pub calls : Handed
-    calls = receiveOf σ x (take (t .size) s) (lending χ (t .room))
+    calls = receiveOf σ x (take (t .size) s) (t .lent)
 
     -- and then the other calls, with all that it did not take
-    pub offers-more : offers σ χ (t ∷ ts) x s ≡ before (calls .told) (offers σ χ ts (calls .after) (drop (calls .told .used) s))
+    pub offers-more : offers σ (t ∷ ts) x s ≡ before (calls .told) (offers σ ts (calls .after) (drop (calls .told .used) s))
     unfolding offers replyOf
-    offers-more = replied-is (take (calls .told .length) (calls .told .room)) (offers σ χ ts (calls .after) (drop (calls .told .used) s))
+    offers-more = replied-is (take (calls .told .length) (calls .told .room)) (offers σ ts (calls .after) (drop (calls .told .used) s))
 
     -- "no call is refused"
-    pub served-more : T (served σ χ (t ∷ ts) x s) ↔ ((calls .told .refusal ≡ 0) × T (served σ χ ts (calls .after) (drop (calls .told .used) s)))
+    pub served-more : T (served σ (t ∷ ts) x s) ↔ ((calls .told .refusal ≡ 0) × T (served σ ts (calls .after) (drop (calls .told .used) s)))
     unfolding served
     served-more =
-        let more : Bool = served σ χ ts (calls .after) (drop (calls .told .used) s) in
+        let more : Bool = served σ ts (calls .after) (drop (calls .told .used) s) in
         (λ h. (eqb→eq (calls .told .refusal) 0 (and-l (eqb (calls .told .refusal) 0) more h), and-r (eqb (calls .told .refusal) 0) more h), λ h. and-i (eqb (calls .told .refusal) 0) more (eq→eqb (calls .told .refusal) 0 (h .0)) (h .1))
 
-  pub served-none : (x : Line) (s : List ℕ) → T (served σ χ [] x s)
+    -- if the held bytes, and behind them what fits of the piece, say a Search to the reader, the call lends these scores and thresholds
+    abbrev pub LendsIfSearch : Chip → Type 0
+    LendsIfSearch χ = (b start count : ℕ)
+        → hear (x .reader .plain .address) (take (x .receiver .count) (x .receiver .held) ++ take (267 - x .receiver .count) (take (t .size) s)) ≡ order (command (barred (searchFor b start count)))
+        → (t .lent .chip .scores ≡ χ .scores) × (t .lent .chip .thresholds ≡ χ .thresholds)
+
+    -- and so do the other calls
+    pub sees-more : (χ : Chip) → SearchesSee σ χ (t ∷ ts) x s ↔ (LendsIfSearch χ × SearchesSee σ χ ts (calls .after) (drop (calls .told .used) s))
+    unfolding SearchesSee runOf bytesIn fitting holds longest
+    sees-more χ = (λ h. (λ b start count e. let same = h .0 (subst IsSearch (sym e) (a-search b start count)) in (ap (λ (κ : Chip). κ .scores) same, ap (λ (κ : Chip). κ .thresholds) same), h .1), λ h. (λ i. go _ i refl (h .0), h .1))
+      where
+        go : (k : Heard) → IsSearch k → hear (x .reader .plain .address) (runOf (x .receiver) (take (t .size) s)) ≡ k → LendsIfSearch χ → t .lent .chip ≡ χ
+        go _ (a-search b start count) e l = let same = l b start count e in ap₂ (λ (a d : List ℕ). record { scores = a; thresholds = d }) (same .0) (same .1)
+
+  pub served-none : (x : Line) (s : List ℕ) → T (served σ [] x s)
   unfolding served
   served-none x s = tt
+
+  pub sees-none : (χ : Chip) (x : Line) (s : List ℕ) → SearchesSee σ χ [] x s
+  unfolding SearchesSee
+  sees-none χ x s = tt
+
+  -- which holds of a caller who always lends them
+  pub always-sees : (χ : Chip) (ts : List Try) (x : Line) (s : List ℕ) → AlwaysLends χ ts → SearchesSee σ χ ts x s
+  unfolding SearchesSee
+  always-sees χ [] x s a = tt
+  always-sees χ (t ∷ ts) x s (e, a) = (λ i. e, always-sees χ ts _ _ a)
 
   -- the last call of an empty piece adds no reply, and its line is the end
   pub resting-is : (d : Ran) (lent : Lent) → resting σ d lent ≡ record { replies = d .replies; after = receiveOf σ (d .after) [] lent .after; left = d .left }
@@ -69,9 +99,9 @@ module _ (σ : Shape) (χ : Chip) where
 
   -- ---- the run whole
 
-  module _ (r : Reader) (s room : List ℕ) (l : T (legal σ r)) (u : T (fitLent (capacity (r .guarded)) (lending χ room))) where
-    abbrev lent : Lent
-    lent = lending χ room
+  module _ (r : Reader) (s : List ℕ) (lent : Lent) (l : T (legal σ r)) (u : T (fitLent (capacity (r .guarded)) lent)) where
+    abbrev χ : Chip
+    χ = lent .chip
 
     -- a call that uses nothing is the end: all bytes are held
     pub drained-waits : callOf σ r s lent .told .used ≡ 0 → drained χ r s ≡ record { replies = []; after = line r (holding s); left = [] }

@@ -13,10 +13,10 @@ use Rattle.protocol.specs.Finder.{findOf, usedOf}
 use Rattle.protocol.specs.Reader.{Reader, capacity}
 use Rattle.protocol.specs.Search.{Chip}
 use Rattle.protocol.specs.Step.{stepOf}
-use Rattle.protocol.specs.Call.{Shape, Lent, fitLent, Ended, replyOf, carried, fitChip, fitRoom}
+use Rattle.protocol.specs.Call.{Shape, Lent, fitLent, Ended, replyOf, carried}
 use Rattle.protocol.specs.Dialogue.{Event, received, switch, on, finally}
 use Rattle.protocol.specs.Receiver.{bytesIn, holding, Line, line, Handed, fitting, runOf, handed, receiveOf, lineSwitchOf}
-use Rattle.protocol.specs.Caller.{Try, Ran, replied, offers, served, Rests, resting, onLine, finallyOn, lending}
+use Rattle.protocol.specs.Caller.{Try, Ran, replied, offers, served, SearchesSee, Rests, resting, onLine, finallyOn}
 use Rattle.protocol.proofs.Laws.Logic.{and-l, and-r, and-i, eq→eqb}
 use Rattle.protocol.proofs.Laws.Answers.{call-legal}
 use Rattle.protocol.proofs.Laws.Finder.{used-in}
@@ -26,10 +26,10 @@ use Rattle.protocol.proofs.Promises.StaysLegal.{Legal, stays-legal}
 use Rattle.protocol.proofs.Promises.ZeroUsed.{empty-run}
 use Rattle.protocol.proofs.Promises.Cuts.{run-left, idle, run-same, fits-nil, cut-free, none-fits, length-held, full-drops, count-after, took-is}
 
--- every call of a caller has a fit reply room; and none offers nothing while bytes are left
-unfoldable pub roomy : List Try → Bool
-roomy [] = true
-roomy (t ∷ ts) = fitRoom (t .room) && roomy ts
+-- every call of a caller lends scores, thresholds and a reply room that are fit for a reader of c pages; and none offers nothing while bytes are left
+unfoldable pub lendsFit : ℕ → List Try → Bool
+lendsFit c [] = true
+lendsFit c (t ∷ ts) = fitLent c (t .lent) && lendsFit c ts
 
 unfoldable pub eager : List Try → Bool
 eager [] = true
@@ -96,35 +96,32 @@ module _ (σ : Shape) (ok : σ .most ≤ 8 * σ .indexed) where
   ever-ready c (switch ∷ es) x k = ever-ready c es (lineSwitchOf x .after) (ready-switch c x k)
 
   -- over the calls of a caller
-  pub offers-ready : (χ : Chip) (c : ℕ) (ts : List Try) (x : Line) (s : List ℕ) → Ready c x → Ready c (offers σ χ ts x s .after)
+  pub offers-ready : (c : ℕ) (ts : List Try) (x : Line) (s : List ℕ) → Ready c x → Ready c (offers σ ts x s .after)
   unfolding offers replied
-  offers-ready χ c [] x s k = k
-  offers-ready χ c (t ∷ ts) x s k =
-      let o : Handed = receiveOf σ x (take (t .size) s) (lending χ (t .room)) in
-      go (replyOf (o .told)) (offers σ χ ts (o .after) (drop (o .told .used) s)) (offers-ready χ c ts (o .after) (drop (o .told .used) s) (ready-receive c x k (take (t .size) s) (lending χ (t .room))))
+  offers-ready c [] x s k = k
+  offers-ready c (t ∷ ts) x s k =
+      let o : Handed = receiveOf σ x (take (t .size) s) (t .lent) in
+      go (replyOf (o .told)) (offers σ ts (o .after) (drop (o .told .used) s)) (offers-ready c ts (o .after) (drop (o .told .used) s) (ready-receive c x k (take (t .size) s) (t .lent)))
     where
       go : (a : List ℕ) (d : Ran) → Ready c (d .after) → Ready c (replied a d .after)
       go [] d k = k
       go (b ∷ a) d k = record { pages = k .pages; legal = k .legal; cells = k .cells; few = k .few }
 
-  -- of c pages, with the same scores and thresholds at every call: one for each page, and five
-  module _ (c : ℕ) (χ : Chip) (chip : T (fitChip c χ)) where
-    fit : (t : Try) → T (fitRoom (t .room)) → T (fitLent c (lending χ (t .room)))
-    fit t u = and-i (fitChip c χ) (fitRoom (t .room)) chip u
-
-    pub ready-served : (ts : List Try) (x : Line) (s : List ℕ) → Ready c x → T (roomy ts) → T (served σ χ ts x s)
-    unfolding served roomy
+  -- of c pages
+  module _ (c : ℕ) where
+    pub ready-served : (ts : List Try) (x : Line) (s : List ℕ) → Ready c x → T (lendsFit c ts) → T (served σ ts x s)
+    unfolding served lendsFit
     ready-served [] x s k u = tt
     ready-served (t ∷ ts) x s k u =
-        let o : Handed = receiveOf σ x (take (t .size) s) (lending χ (t .room)) in
-        and-i (eqb (o .told .refusal) 0) (served σ χ ts (o .after) (drop (o .told .used) s))
-        (eq→eqb (o .told .refusal) 0 (ready-accepted c x k (take (t .size) s) (lending χ (t .room)) (fit t (and-l (fitRoom (t .room)) (roomy ts) u))))
-        (ready-served ts (o .after) (drop (o .told .used) s) (ready-receive c x k (take (t .size) s) (lending χ (t .room))) (and-r (fitRoom (t .room)) (roomy ts) u))
+        let o : Handed = receiveOf σ x (take (t .size) s) (t .lent) in
+        and-i (eqb (o .told .refusal) 0) (served σ ts (o .after) (drop (o .told .used) s))
+        (eq→eqb (o .told .refusal) 0 (ready-accepted c x k (take (t .size) s) (t .lent) (and-l (fitLent c (t .lent)) (lendsFit c ts) u)))
+        (ready-served ts (o .after) (drop (o .told .used) s) (ready-receive c x k (take (t .size) s) (t .lent)) (and-r (fitLent c (t .lent)) (lendsFit c ts) u))
 
     -- so, from a legal start, where a run was cut does not matter
-    pub cuts-alike : (x : Line) → Ready c x → (s : List ℕ) (ts us : List Try) (one other : Lent) → T (roomy ts) → T (roomy us)
-        → Rests σ (offers σ χ ts x s) one → Rests σ (offers σ χ us x s) other → resting σ (offers σ χ ts x s) one ≡ resting σ (offers σ χ us x s) other
-    cuts-alike x k s ts us one other u v f g = cut-free σ χ x s ts us one other (ready-served ts x s k u) (ready-served us x s k v) f g
+    pub cuts-alike : (χ : Chip) (x : Line) → Ready c x → (s : List ℕ) (ts us : List Try) (one other : Lent) → T (lendsFit c ts) → T (lendsFit c us) → SearchesSee σ χ ts x s → SearchesSee σ χ us x s
+        → Rests σ (offers σ ts x s) one → Rests σ (offers σ us x s) other → resting σ (offers σ ts x s) one ≡ resting σ (offers σ us x s) other
+    cuts-alike χ x k s ts us one other u v = cut-free σ χ x s ts us one other (ready-served ts x s k u) (ready-served us x s k v)
 
     -- ---- the caller comes to rest
 
@@ -154,30 +151,30 @@ module _ (σ : Shape) (ok : σ .most ≤ 8 * σ .indexed) where
       ready-neat x k = ready-holding c (x .reader) (has-pages c x k) (k .legal) (bytesIn (x .receiver)) (omega (arith, few-in (x .receiver), few-holds c x k))
 
       -- with nothing left and nothing to use, further calls change nothing
-      idles : (ts : List Try) (x : Line) → Ready c x → T (roomy ts) → usedOf (findOf (bytesIn (x .receiver))) ≡ 0 → Rests σ (offers σ χ ts x []) lent
-      unfolding offers roomy replied replyOf neat
+      idles : (ts : List Try) (x : Line) → Ready c x → T (lendsFit c ts) → usedOf (findOf (bytesIn (x .receiver))) ≡ 0 → Rests σ (offers σ ts x []) lent
+      unfolding offers lendsFit replied replyOf neat
       idles [] x k v z = rests-now x k [] refl z
       idles (t ∷ ts) x k v z =
-          let o : receiveOf σ x [] (lending χ (t .room)) ≡ record { told = record { refusal = 0; used = 0; length = 0; room = t .room }; after = neat x } =
-          idle σ x [] (lending χ (t .room)) (k .legal .legal) (fit-ready c x k (lending χ (t .room)) (fit t (and-l (fitRoom (t .room)) (roomy ts) v))) (few-holds c x k) (fits-nil (x .receiver)) z
+          let o : receiveOf σ x [] (t .lent) ≡ record { told = record { refusal = 0; used = 0; length = 0; room = t .lent .room }; after = neat x } =
+          idle σ x [] (t .lent) (k .legal .legal) (fit-ready c x k (t .lent) (and-l (fitLent c (t .lent)) (lendsFit c ts) v)) (few-holds c x k) (fits-nil (x .receiver)) z
           in
-          rw (take-nil (t .size), o) (idles ts (neat x) (ready-neat x k) (and-r (fitRoom (t .room)) (roomy ts) v) (rw (in-holding (bytesIn (x .receiver))) z))
+          rw (take-nil (t .size), o) (idles ts (neat x) (ready-neat x k) (and-r (fitLent c (t .lent)) (lendsFit c ts) v) (rw (in-holding (bytesIn (x .receiver))) z))
 
       -- THE CALLER COMES TO REST within twice the run's bytes and the held count, however it cuts: each call that offers something takes or drops a byte
-      pub comes-to-rest : (ts : List Try) (x : Line) (s : List ℕ) → Ready c x → T (roomy ts) → T (eager ts) → 2 * length s + x .receiver .count ≤ length ts → Rests σ (offers σ χ ts x s) lent
-      unfolding offers roomy eager neat
+      pub comes-to-rest : (ts : List Try) (x : Line) (s : List ℕ) → Ready c x → T (lendsFit c ts) → T (eager ts) → 2 * length s + x .receiver .count ≤ length ts → Rests σ (offers σ ts x s) lent
+      unfolding offers lendsFit eager neat
       comes-to-rest [] x s k v w m =
           let none : length (bytesIn (x .receiver)) ≤ 0 = omega (arith, few-in (x .receiver)) in
           rests-now x k s (empty-run s (omega arith)) (omega (arith, used-in (bytesIn (x .receiver))))
       comes-to-rest (t ∷ ts) x s k v w m =
-          rests-replied (replyOf (o .told)) (offers σ χ ts (o .after) (drop (o .told .used) s)) lent
-          (go (decLe 1 (length (fitting (x .receiver) piece) + n)) (comes-to-rest ts (o .after) (drop (o .told .used) s) (ready-receive c x k piece (lending χ (t .room))) more (and-r (leb 1 (t .size)) (eager ts) w)))
+          rests-replied (replyOf (o .told)) (offers σ ts (o .after) (drop (o .told .used) s)) lent
+          (go (decLe 1 (length (fitting (x .receiver) piece) + n)) (comes-to-rest ts (o .after) (drop (o .told .used) s) (ready-receive c x k piece (t .lent)) more (and-r (leb 1 (t .size)) (eager ts) w)))
         where
           piece : List ℕ
           piece = take (t .size) s
 
           o : Handed
-          o = receiveOf σ x piece (lending χ (t .room))
+          o = receiveOf σ x piece (t .lent)
 
           run : List ℕ
           run = runOf (x .receiver) piece
@@ -185,37 +182,37 @@ module _ (σ : Shape) (ok : σ .most ≤ 8 * σ .indexed) where
           n : ℕ
           n = usedOf (findOf run)
 
-          more : T (roomy ts)
-          more = and-r (fitRoom (t .room)) (roomy ts) v
+          more : T (lendsFit c ts)
+          more = and-r (fitLent c (t .lent)) (lendsFit c ts) v
 
-          fits : T (fitLent c (lending χ (t .room)))
-          fits = fit t (and-l (fitRoom (t .room)) (roomy ts) v)
+          fits : T (fitLent c (t .lent))
+          fits = and-l (fitLent c (t .lent)) (lendsFit c ts) v
 
           e : o .told .refusal ≡ 0
-          e = ready-accepted c x k piece (lending χ (t .room)) fits
+          e = ready-accepted c x k piece (t .lent) fits
 
           took : o .told .used ≡ length (fitting (x .receiver) piece)
-          took = took-is σ x piece (lending χ (t .room)) e
+          took = took-is σ x piece (t .lent) e
 
           goal : Type 0
-          goal = Rests σ (offers σ χ ts (o .after) (drop (o .told .used) s)) lent
+          goal = Rests σ (offers σ ts (o .after) (drop (o .told .used) s)) lent
 
           -- no byte is left to offer, and none was used
           still : length (fitting (x .receiver) piece) ≡ 0 → n ≡ 0 → s ≡ [] → goal
           still a z p =
               let f : fitting (x .receiver) piece ≡ [] = empty-run (fitting (x .receiver) piece) a in
               let z′ : usedOf (findOf (bytesIn (x .receiver))) ≡ 0 = ap (λ (y : List ℕ). usedOf (findOf y)) (sym (run-same (x .receiver) piece f)) ∙ z in
-              let i = idle σ x piece (lending χ (t .room)) (k .legal .legal) (fit-ready c x k (lending χ (t .room)) fits) (few-holds c x k) f z′ in
+              let i = idle σ x piece (t .lent) (k .legal .legal) (fit-ready c x k (t .lent) fits) (few-holds c x k) f z′ in
               let d : drop (o .told .used) s ≡ [] = ap (λ (j : ℕ). drop j s) (took ∙ a) ∙ p in
-              subst (λ (y : Line). Rests σ (offers σ χ ts y (drop (o .told .used) s)) lent) (sym (ap (λ (y : Handed). y .after) i))
-              (subst (λ (y : List ℕ). Rests σ (offers σ χ ts (neat x) y) lent) (sym d) (idles ts (neat x) (ready-neat x k) more (rw (in-holding (bytesIn (x .receiver))) z′)))
+              subst (λ (y : Line). Rests σ (offers σ ts y (drop (o .told .used) s)) lent) (sym (ap (λ (y : Handed). y .after) i))
+              (subst (λ (y : List ℕ). Rests σ (offers σ ts (neat x) y) lent) (sym d) (idles ts (neat x) (ready-neat x k) more (rw (in-holding (bytesIn (x .receiver))) z′)))
 
           -- a byte is left, and the call neither takes nor drops one
           stuck : length (fitting (x .receiver) piece) ≡ 0 → n ≡ 0 → 1 ≤ length s → goal
           stuck a z h =
               let big : 1 ≤ length piece = omega (arith, length-take (t .size) s, leb→le 1 (t .size) (and-l (leb 1 (t .size)) (eager ts) w)) in
               let full : x .receiver .count ≡ 267 = none-fits σ (x .receiver) piece (k .few) big a in
-              absurd (omega (arith, full-drops σ x piece (lending χ (t .room)) (k .cells) e full, count-after σ x piece (lending χ (t .room)) e, length-held σ x piece (lending χ (t .room)) (k .cells) e))
+              absurd (omega (arith, full-drops σ x piece (t .lent) (k .cells) e full, count-after σ x piece (t .lent) e, length-held σ x piece (t .lent) (k .cells) e))
 
           rest : length (fitting (x .receiver) piece) ≡ 0 → n ≡ 0 → Dec (1 ≤ length s) → goal
           rest a z (yes h) = stuck a z h
@@ -228,5 +225,5 @@ module _ (σ : Shape) (ok : σ .most ≤ 8 * σ .indexed) where
               sym (length-append run left) ∙ ap (λ (y : List ℕ). length y) (run-left (x .receiver) (t .size) s) ∙ length-append (bytesIn (x .receiver)) s
               in
               let d : length (drop (o .told .used) s) ≡ length left = ap (λ (j : ℕ). length (drop j s)) took in
-              ih (omega (arith, count-after σ x piece (lending χ (t .room)) e, length-held σ x piece (lending χ (t .room)) (k .cells) e, few-in (x .receiver), used-in run))
+              ih (omega (arith, count-after σ x piece (t .lent) e, length-held σ x piece (t .lent) (k .cells) e, few-in (x .receiver), used-in run))
           go (no h) ih = rest (omega arith) (omega arith) (decLe 1 (length s))

@@ -2,8 +2,8 @@
 -- bytes as they are. After that, the replies in order, the end state and the held bytes must not depend on where a run was cut, as long as
 -- no call is refused and no line switch falls inside it."
 use mathlib.Core.Bool.{Bool}
-use mathlib.Core.Path.{_≡_, refl, sym, ap, _∙_}
-use mathlib.Core.Logic.{inl, inr}
+use mathlib.Core.Path.{_≡_, refl, sym, ap, _∙_, subst}
+use mathlib.Core.Logic.{inl, inr, _↔_}
 use mathlib.Core.List.{List, [], _∷_, _++_, append-assoc, append-nil}
 use Prim.Native.Nat.{ℕ, zero, suc, _+_, _-_, _≤_, _<_}
 use native.Mathlib.Omega.{arith}
@@ -16,15 +16,17 @@ use Rattle.protocol.specs.Numbers.{holds, longest}
 use Rattle.protocol.specs.Finder.{findOf, usedOf}
 use Rattle.protocol.specs.Reader.{Reader, capacity}
 use Rattle.protocol.specs.Search.{Chip}
-use Rattle.protocol.specs.Step.{stepOf}
+use Rattle.protocol.specs.Step.{nothing, hear, IsSearch, stepOf}
 use Rattle.protocol.specs.Call.{Shape, Lent, fitLent, legal, replyOf, carried, callOf}
 use Rattle.protocol.specs.Receiver.{bytesIn, holding, Line, line, Handed, fitting, runOf, handed, receiveOf}
-use Rattle.protocol.specs.Caller.{Try, Ran, replied, offers, served, Rests, resting, atRest, drained, lending}
+use Rattle.protocol.specs.Caller.{Try, Ran, replied, offers, served, SearchesSee, Rests, resting, atRest, drained}
 use Rattle.protocol.proofs.Laws.Logic.{and-l, and-r}
 use Rattle.protocol.proofs.Laws.Lists.{take-lay, lay-nothing}
 use Rattle.protocol.proofs.Laws.Answers.{call-legal}
+use Rattle.protocol.proofs.Laws.ChipFree.{chip-free}
 use Rattle.protocol.proofs.Laws.Finder.{used-in}
-use Rattle.protocol.proofs.Laws.Drain.{drained-rest, drained-more, step-rest}
+use Rattle.protocol.proofs.Laws.Growth.{Grows, settled, goes-on, grows, zero-silent}
+use Rattle.protocol.proofs.Laws.Drain.{drained-rest, others, settled-left, goes-on-left, drained-more, step-rest}
 use Rattle.protocol.proofs.Laws.Holding.{in-holding, all-in, few-held, length-run, reply-taken, receive-legal, Carried, accepted}
 use Rattle.protocol.proofs.Promises.ZeroUsed.{Waiting, empty-run, found-waits}
 
@@ -88,10 +90,10 @@ unfolding replied ends
 replied-ends χ [] d = refl
 replied-ends χ (b ∷ a) d = refl
 
--- with the same scores and thresholds at every call
 module _ (σ : Shape) (χ : Chip) where
-  -- one call, not refused
-  pub offered : (x : Line) (n : ℕ) (s : List ℕ) (lent : Lent) → lent .chip ≡ χ → receiveOf σ x (take n s) lent .told .refusal ≡ 0
+  -- one call, not refused, that lends these scores and thresholds if it deals with a Search
+  pub offered : (x : Line) (n : ℕ) (s : List ℕ) (lent : Lent) → (IsSearch (hear (x .reader .plain .address) (runOf (x .receiver) (take n s))) → lent .chip ≡ χ)
+      → receiveOf σ x (take n s) lent .told .refusal ≡ 0
       → drained χ (x .reader) (bytesIn (x .receiver) ++ s)
       ≡ replied (replyOf (receiveOf σ x (take n s) lent .told))
       (drained χ (receiveOf σ x (take n s) lent .after .reader) (bytesIn (receiveOf σ x (take n s) lent .after .receiver) ++ drop (receiveOf σ x (take n s) lent .told .used) s))
@@ -101,17 +103,17 @@ module _ (σ : Shape) (χ : Chip) where
       let c : List ℕ = fitting (x .receiver) (take n s) in
       let run : List ℕ = runOf (x .receiver) (take n s) in
       rw (accepted σ x (take n s) lent e .does, reply-taken x (take n s) lent, in-holding (drop (usedOf (findOf run)) run))
-      (rw same (ap (drained χ r) (sym (run-left (x .receiver) n s)) ∙ drained-more χ r run (drop (length c) s)))
+      (rw (chip-free (lent .chip) χ r (hear (r .plain .address) run) same) (ap (drained χ r) (sym (run-left (x .receiver) n s)) ∙ drained-more χ r run (drop (length c) s)))
 
-  offers-drain : (ts : List Try) (x : Line) (s : List ℕ) → T (served σ χ ts x s) → drained χ (x .reader) (bytesIn (x .receiver) ++ s) ≡ ends χ (offers σ χ ts x s)
-  unfolding offers served ends
-  offers-drain [] x s t = refl
-  offers-drain (c ∷ ts) x s t =
-      let o : Handed = receiveOf σ x (take (c .size) s) (lending χ (c .room)) in
-      let more : Bool = served σ χ ts (o .after) (drop (o .told .used) s) in
-      offered x (c .size) s (lending χ (c .room)) refl (eqb→eq (o .told .refusal) 0 (and-l (eqb (o .told .refusal) 0) more t))
-      ∙ ap (replied (replyOf (o .told))) (offers-drain ts (o .after) (drop (o .told .used) s) (and-r (eqb (o .told .refusal) 0) more t))
-      ∙ replied-ends χ (replyOf (o .told)) (offers σ χ ts (o .after) (drop (o .told .used) s))
+  offers-drain : (ts : List Try) (x : Line) (s : List ℕ) → T (served σ ts x s) → SearchesSee σ χ ts x s → drained χ (x .reader) (bytesIn (x .receiver) ++ s) ≡ ends χ (offers σ ts x s)
+  unfolding offers served SearchesSee ends
+  offers-drain [] x s t see = refl
+  offers-drain (c ∷ ts) x s t (see, sees) =
+      let o : Handed = receiveOf σ x (take (c .size) s) (c .lent) in
+      let more : Bool = served σ ts (o .after) (drop (o .told .used) s) in
+      offered x (c .size) s (c .lent) see (eqb→eq (o .told .refusal) 0 (and-l (eqb (o .told .refusal) 0) more t))
+      ∙ ap (replied (replyOf (o .told))) (offers-drain ts (o .after) (drop (o .told .used) s) (and-r (eqb (o .told .refusal) 0) more t) sees)
+      ∙ replied-ends χ (replyOf (o .told)) (offers σ ts (o .after) (drop (o .told .used) s))
 
   -- held bytes that stay as they are: none of them were used
   unused : (u : ℕ) (h : List ℕ) → u ≤ length h → drop u h ≡ h → u ≡ 0
@@ -135,17 +137,65 @@ module _ (σ : Shape) (χ : Chip) where
       refl
 
   -- what any caller comes to: document 01's call, again and again, on the held bytes and the run joined
-  pub rests-drained : (ts : List Try) (x : Line) (s : List ℕ) (lent : Lent) → T (served σ χ ts x s) → Rests σ (offers σ χ ts x s) lent
-      → resting σ (offers σ χ ts x s) lent ≡ drained χ (x .reader) (bytesIn (x .receiver) ++ s)
-  rests-drained ts x s lent t f = rests-ends (offers σ χ ts x s) lent f ∙ sym (offers-drain ts x s t)
+  pub rests-drained : (ts : List Try) (x : Line) (s : List ℕ) (lent : Lent) → T (served σ ts x s) → SearchesSee σ χ ts x s → Rests σ (offers σ ts x s) lent
+      → resting σ (offers σ ts x s) lent ≡ drained χ (x .reader) (bytesIn (x .receiver) ++ s)
+  rests-drained ts x s lent t see f = rests-ends (offers σ ts x s) lent f ∙ sym (offers-drain ts x s t see)
 
-  -- WHERE A RUN WAS CUT DOES NOT MATTER: two ways to offer it, no call refused, both through to rest; the same replies in order, the same reader,
-  -- the same held bytes, and the same cells
-  pub cut-free : (x : Line) (s : List ℕ) (ts us : List Try) (one other : Lent) → T (served σ χ ts x s) → T (served σ χ us x s)
-      → Rests σ (offers σ χ ts x s) one → Rests σ (offers σ χ us x s) other → resting σ (offers σ χ ts x s) one ≡ resting σ (offers σ χ us x s) other
-  cut-free x s ts us one other t u f g = rests-drained ts x s one t f ∙ sym (rests-drained us x s other u g)
+  -- WHERE A RUN WAS CUT DOES NOT MATTER: two ways to offer it, no call refused, every Search with the same scores and thresholds, both through to rest; the same
+  -- replies in order, the same reader, the same held bytes, and the same cells
+  pub cut-free : (x : Line) (s : List ℕ) (ts us : List Try) (one other : Lent) → T (served σ ts x s) → T (served σ us x s) → SearchesSee σ χ ts x s → SearchesSee σ χ us x s
+      → Rests σ (offers σ ts x s) one → Rests σ (offers σ us x s) other → resting σ (offers σ ts x s) one ≡ resting σ (offers σ us x s) other
+  cut-free x s ts us one other t u see saw f g = rests-drained ts x s one t see f ∙ sym (rests-drained us x s other u saw g)
+
+-- ---- a run without a Search
+
+-- of the packets that document 01's call finds in these bytes, one after the other, none is a Search, whatever its address
+pub data Searchless : List ℕ → Type 0 where
+  none-left : {s : List ℕ} → usedOf (findOf s) ≡ 0 → Searchless s
+  and-next : {s : List ℕ} → ((address : List ℕ) → IsSearch (hear address s) → ⊥) → Searchless (drop (usedOf (findOf s)) s) → Searchless s
+
+silent-none : (a s : List ℕ) → hear a s ≡ nothing → IsSearch (hear a s) → ⊥
+silent-none a s e i = elim (subst IsSearch e i) [ ]
+
+searchless-call : (s : List ℕ) → Searchless s → ((a : List ℕ) → IsSearch (hear a s) → ⊥) × Searchless (drop (usedOf (findOf s)) s)
+searchless-call s (none-left z) = (λ a. silent-none a s (zero-silent a s z), rw z (none-left z))
+searchless-call s (and-next d n) = (d, n)
+
+-- of a run s and the bytes t behind it: none in s, and none in all that the call on s leaves
+pub searchless-more : (s t : List ℕ) → Searchless (s ++ t) ↔ (((a : List ℕ) → IsSearch (hear a s) → ⊥) × Searchless (others s t))
+searchless-more s t = (λ n. from (searchless-call (s ++ t) n) (grows s t), λ n. to (n .0) (n .1) (grows s t))
+  where
+    from : ((a : List ℕ) → IsSearch (hear a (s ++ t)) → ⊥) × Searchless (drop (usedOf (findOf (s ++ t))) (s ++ t)) → Grows s t
+        → ((a : List ℕ) → IsSearch (hear a s) → ⊥) × Searchless (others s t)
+    from (d, n) (settled p q) = (λ a i. d a (subst IsSearch (sym (q a)) i), subst Searchless (settled-left s t p) n)
+    from (d, n) (goes-on p q k) = (λ a. silent-none a s (p a), and-next (λ a i. d a (subst IsSearch (sym (k a)) i)) (subst Searchless (goes-on-left s t q) n))
+
+    to : ((a : List ℕ) → IsSearch (hear a s) → ⊥) → Searchless (others s t) → Grows s t → Searchless (s ++ t)
+    to d n (settled p q) = and-next (λ a i. d a (subst IsSearch (q a) i)) (rw (settled-left s t p) n)
+    to d n (goes-on p q k) = let m = searchless-call (others s t) n in and-next (λ a i. m .0 a (subst IsSearch (k a) i)) (rw (goes-on-left s t q) (m .1))
 
 module _ (σ : Shape) where
+  -- then no call deals with one, so that each may lend what scores and thresholds it will
+  pub none-sees : (χ : Chip) (ts : List Try) (x : Line) (s : List ℕ) → Searchless (bytesIn (x .receiver) ++ s) → T (served σ ts x s) → SearchesSee σ χ ts x s
+  unfolding served SearchesSee
+  none-sees χ [] x s n t = tt
+  none-sees χ (c ∷ ts) x s n t =
+      let piece : List ℕ = take (c .size) s in
+      let o : Handed = receiveOf σ x piece (c .lent) in
+      let more : Bool = served σ ts (o .after) (drop (o .told .used) s) in
+      let e : o .told .refusal ≡ 0 = eqb→eq (o .told .refusal) 0 (and-l (eqb (o .told .refusal) 0) more t) in
+      let run : List ℕ = runOf (x .receiver) piece in
+      let left : List ℕ = drop (length (fitting (x .receiver) piece)) s in
+      let none = searchless-more run left .0 (rw (run-left (x .receiver) (c .size) s) n) in (
+        λ i. absurd (none .0 (x .reader .plain .address) i),
+        none-sees χ ts (o .after) (drop (o .told .used) s) (rw (bytes-after σ x piece (c .lent) e, took-is σ x piece (c .lent) e) (none .1)) (and-r (eqb (o .told .refusal) 0) more t),
+      )
+
+  -- where a run was cut does not matter, whatever scores and thresholds each call lends
+  pub cut-free-without-search : (x : Line) (s : List ℕ) → Searchless (bytesIn (x .receiver) ++ s) → (ts us : List Try) (one other : Lent) → T (served σ ts x s) → T (served σ us x s)
+      → Rests σ (offers σ ts x s) one → Rests σ (offers σ us x s) other → resting σ (offers σ ts x s) one ≡ resting σ (offers σ us x s) other
+  cut-free-without-search x s n ts us one other t u = let χ : Chip = one .chip in cut-free σ χ x s ts us one other t u (none-sees χ ts x s n t) (none-sees χ us x s n u)
+
   -- each step of the drain is that call: its bytes used, its reply and its reader after it
   pub drains-by-call : (r : Reader) (s : List ℕ) (lent : Lent) → T (legal σ r) → T (fitLent (capacity (r .guarded)) lent)
       → (callOf σ r s lent .told .used ≡ usedOf (findOf s)) × ((replyOf (callOf σ r s lent .told) ≡ stepOf (lent .chip) r s .reply) × (callOf σ r s lent .after ≡ stepOf (lent .chip) r s .after))

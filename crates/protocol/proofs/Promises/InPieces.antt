@@ -12,30 +12,32 @@ use lib.ListN.{length, take, drop, length-drop, replicate, drop-of-length-le}
 use lib.Seq.{length-take-le}
 use Rattle.protocol.specs.declared.Receiver.{Receiver}
 use Rattle.protocol.specs.Numbers.{dataPacket, lastPacket, highestSize, longest, holds}
-use Rattle.protocol.specs.Bytes.{lay, joined}
-use Rattle.protocol.specs.Packet.{packet, lengthOf, accepts, limit, isIdentifier}
+use Rattle.protocol.specs.Bytes.{same, lay, joined}
+use Rattle.protocol.specs.Packet.{packet, addressAt, lengthOf, accepts, limit, isIdentifier}
 use Rattle.protocol.specs.Finder.{findOf, usedOf}
 use Rattle.protocol.specs.Reader.{closed, Reader, sizeOf, capacity}
 use Rattle.protocol.specs.Search.{Chip}
+use Rattle.protocol.specs.Commands.{commands, rowOf, orderAs, orderOf}
 use Rattle.protocol.specs.Data.{acknowledge, packets}
-use Rattle.protocol.specs.Step.{stepOf}
+use Rattle.protocol.specs.Step.{nothing, hearAs, hearAt, hear, IsSearch, stepOf}
 use Rattle.protocol.specs.Call.{Lent, fitRoom, fitLent, replyOf, callOf, core, fitChip}
 use Rattle.protocol.specs.Records.{freshOf}
 use Rattle.protocol.specs.Dialogue.{received, on, finally, exchanges}
 use Rattle.protocol.specs.Receiver.{bytesIn, holding, line}
-use Rattle.protocol.specs.Caller.{Try, Ran, replied, offers, served, Rests, resting, atRest, drain, drained, lending}
+use Rattle.protocol.specs.Caller.{Try, Ran, replied, offers, served, SearchesSee, Rests, resting, atRest, drain, drained}
 use Rattle.protocol.proofs.Laws.Logic.{and-l, and-i}
 use Rattle.protocol.proofs.Laws.Finder.{length-packet, accepts-most}
 use Rattle.protocol.proofs.Laws.Sizes.{Size, sizes}
+use Rattle.protocol.proofs.Laws.Growth.{used-nil}
 use Rattle.protocol.proofs.Laws.Drain.{drained-more}
 use Rattle.protocol.proofs.Laws.History.{call-capacity}
 use Rattle.protocol.proofs.Laws.Holding.{accepted}
 use Rattle.protocol.proofs.Promises.Told.{Numbered, blank, WithBuffer}
 use Rattle.protocol.proofs.Promises.LegalMeans.{core-holds}
 use Rattle.protocol.proofs.Promises.StaysLegal.{Legal, stays-legal}
-use Rattle.protocol.proofs.Promises.ReadBack.{packet-reads}
+use Rattle.protocol.proofs.Promises.ReadBack.{ReadsAs, packet-reads}
 use Rattle.protocol.proofs.Promises.Download.{deliver}
-use Rattle.protocol.proofs.Promises.Cuts.{rests-drained, drains-by-call}
+use Rattle.protocol.proofs.Promises.Cuts.{rests-drained, Searchless, none-left, searchless-more, none-sees, drains-by-call}
 use Rattle.protocol.proofs.Promises.Caller.{spoken, replied-is}
 use Rattle.protocol.proofs.Promises.ComesToRest.{Ready, offers-ready}
 use Rattle.protocol.proofs.Promises.FirstDownload.{A, downPacket, sizePacket, full, withCode, Sendable, data-taken, answersTo, Talks, first-download, unasked, asked}
@@ -46,6 +48,24 @@ use Rattle.protocol.proofs.Promises.FirstDownload.{A, downPacket, sizeP
 abbrev pub UsedWhole : List (List ℕ) → Type 0
 UsedWhole [] = Unit {0}
 UsedWhole (p ∷ ps) = (usedOf (findOf p) ≡ length p) × UsedWhole ps
+
+-- a run that is used whole, and is no Search, whatever its address
+abbrev pub OtherPacket : List ℕ → Type 0
+OtherPacket p = (usedOf (findOf p) ≡ length p) × ((address : List ℕ) → IsSearch (hear address p) → ⊥)
+
+abbrev pub NoSearches : List (List ℕ) → Type 0
+NoSearches [] = Unit {0}
+NoSearches (p ∷ ps) = OtherPacket p × NoSearches ps
+
+used-whole : (sent : List (List ℕ)) → NoSearches sent → UsedWhole sent
+used-whole [] d = tt
+used-whole (p ∷ ps) (d, ds) = (d .0, used-whole ps ds)
+
+-- so there is none in all of them behind one another
+searchless-all : (sent : List (List ℕ)) → NoSearches sent → Searchless (joined sent)
+unfolding joined
+searchless-all [] d = none-left used-nil
+searchless-all (p ∷ ps) ((w, d), ds) = searchless-more p (joined ps) .1 (d, rw (drop-of-length-le p {i = usedOf (findOf p)} (omega arith)) (searchless-all ps ds))
 
 -- the answers, without silence
 abbrev pub spokenAll : List (List ℕ) → List (List ℕ)
@@ -62,11 +82,11 @@ pub record Comes (d : Ran) (answers : List (List ℕ)) (Left : Reader → Type 0
   pub reader : Left (d .after .reader)
   pub held : d .after .receiver ≡ vacant
 
--- the runs behind one another, offered to an empty receiver: however they are cut, with the same scores and thresholds at every call, as long as no call is
--- refused, and once the caller is at rest
+-- the runs behind one another, offered to an empty receiver: however they are cut, whatever each call lends, as long as no call is refused, and once the caller is
+-- at rest
 abbrev pub HoweverCut : Reader → List (List ℕ) → List (List ℕ) → (Reader → Type 0) → Type 0
-HoweverCut r sent answers Left = (χ : Chip) (ts : List Try) (room : List ℕ) → T (served core χ ts (line r vacant) (joined sent))
-    → Rests core (offers core χ ts (line r vacant) (joined sent)) (lending χ room) → Comes (resting core (offers core χ ts (line r vacant) (joined sent)) (lending χ room)) answers Left
+HoweverCut r sent answers Left = (ts : List Try) (last : Lent) → T (served core ts (line r vacant) (joined sent))
+    → Rests core (offers core ts (line r vacant) (joined sent)) last → Comes (resting core (offers core ts (line r vacant) (joined sent)) last) answers Left
 
 -- a reply room for each call
 abbrev room : List ℕ
@@ -74,7 +94,7 @@ room = replicate 700 0
 
 module _ (χ : Chip) (m : ℕ) (fit : T (fitChip m χ)) where
   abbrev pub lent : ℕ → Lent
-  lent k = lending χ room
+  lent k = record { chip = χ; room = room }
 
   pub fits : (k : ℕ) → T (fitLent m (lent k))
   unfolding fitRoom
@@ -101,44 +121,63 @@ module _ (χ : Chip) (m : ℕ) (fit : T (fitChip m χ)) where
       ∙ ap (replied (replyOf (callOf core r p given .told))) rest
       ∙ replied-is (replyOf (callOf core r p given .told)) _
 
--- what holds of the runs, one to a call, whatever scores and thresholds of the right lengths
-abbrev TalksBy : Reader → List (List ℕ) → List (List ℕ) → (Reader → Type 0) → Type 0
-TalksBy r sent answers Left =
-    (χ : Chip) (fit : T (fitChip (capacity (r .guarded)) χ)) → Talks (capacity (r .guarded)) (lent χ (capacity (r .guarded)) fit) (fits χ (capacity (r .guarded)) fit) r sent answers Left
+-- what holds of the runs one to a call, with these scores and thresholds, holds of them however they are cut, where each Search sees these
+module _ (r : Reader) (l : Legal core core-holds r) (sent answers : List (List ℕ)) (Left : Reader → Type 0) where
+  abbrev TalksBy : (χ : Chip) → T (fitChip (capacity (r .guarded)) χ) → Type 0
+  TalksBy χ fit = Talks (capacity (r .guarded)) (lent χ (capacity (r .guarded)) fit) (fits χ (capacity (r .guarded)) fit) r sent answers Left
 
-pub in-pieces : (r : Reader) → Legal core core-holds r → (sent answers : List (List ℕ)) (Left : Reader → Type 0) → TalksBy r sent answers Left → UsedWhole sent
-    → HoweverCut r sent (spokenAll answers) Left
-unfolding bytesIn capacity holds longest
-in-pieces r l sent answers Left talks w χ ts room v rests =
-    let c : ℕ = capacity (r .guarded) in
-    let d : Ran = offers core χ ts (line r vacant) (joined sent) in
-    let ready : Ready core core-holds c (d .after) = offers-ready core core-holds χ c ts (line r vacant) (joined sent) record { pages = refl; legal = l; cells = refl; few = omega arith } in
-    let last : T (fitLent (capacity (d .after .reader .guarded)) (lending χ room)) = accepted core (d .after) [] (lending χ room) (rests .accepted) .roomy in
-    let fit : T (fitChip c χ) = and-l (fitChip c χ) (fitRoom room) (subst (λ (n : ℕ). T (fitLent n (lending χ room))) (ready .pages) last) in
-    let t = talks χ fit in
-    let all = rests-drained core χ ts (line r vacant) (joined sent) (lending χ room) v rests ∙ drained-all χ c fit sent r refl l w in
-    record {
-      replies = ap (λ (d : Ran). d .replies) all ∙ ap spokenAll (t .answered);
-      reader = subst Left (sym (ap (λ (d : Ran). d .after .reader) all)) (t .leaves);
-      held = ap (λ (d : Ran). d .after .receiver) all;
-    }
+  pub in-pieces : UsedWhole sent → (χ : Chip) (fit : T (fitChip (capacity (r .guarded)) χ)) → TalksBy χ fit → (ts : List Try) (last : Lent) → T (served core ts (line r vacant) (joined sent))
+      → SearchesSee core χ ts (line r vacant) (joined sent) → Rests core (offers core ts (line r vacant) (joined sent)) last
+      → Comes (resting core (offers core ts (line r vacant) (joined sent)) last) (spokenAll answers) Left
+  unfolding bytesIn
+  in-pieces w χ fit talks ts last v see rests =
+      let all = rests-drained core χ ts (line r vacant) (joined sent) last v see rests ∙ drained-all χ (capacity (r .guarded)) fit sent r refl l w in
+      record {
+        replies = ap (λ (d : Ran). d .replies) all ∙ ap spokenAll (talks .answered);
+        reader = subst Left (sym (ap (λ (d : Ran). d .after .reader) all)) (talks .leaves);
+        held = ap (λ (d : Ran). d .after .receiver) all;
+      }
 
--- ---- a host's packets are used whole
+  -- and where none is a Search, whatever each call lends
+  pub however-cut : NoSearches sent → ((χ : Chip) (fit : T (fitChip (capacity (r .guarded)) χ)) → TalksBy χ fit) → HoweverCut r sent (spokenAll answers) Left
+  unfolding bytesIn capacity holds longest
+  however-cut none talks ts last v rests =
+      let c : ℕ = capacity (r .guarded) in
+      let d : Ran = offers core ts (line r vacant) (joined sent) in
+      let ready : Ready core core-holds c (d .after) = offers-ready core core-holds c ts (line r vacant) (joined sent) record { pages = refl; legal = l; cells = refl; few = omega arith } in
+      let roomy : T (fitLent (capacity (d .after .reader .guarded)) last) = accepted core (d .after) [] last (rests .accepted) .roomy in
+      let fit : T (fitChip c (last .chip)) = and-l (fitChip c (last .chip)) (fitRoom (last .room)) (subst (λ (n : ℕ). T (fitLent n last)) (ready .pages) roomy) in
+      in-pieces (used-whole sent none) (last .chip) fit (talks (last .chip) fit) ts last v (none-sees core (last .chip) ts (line r vacant) (joined sent) (searchless-all sent none) v) rests
+
+-- ---- a host's packets are used whole, and are no Search
 
 packet-whole : (i : ℕ) (c : List ℕ) → T (accepts i (lengthOf c)) → usedOf (findOf (packet A i c)) ≡ length (packet A i c)
 unfolding usedOf
 packet-whole i c ok = ap usedOf (packet-reads A i c refl ok .found) ∙ omega (arith, length-packet A i c refl)
 
-packets-whole : (k n : ℕ) (s : List ℕ) → Sendable n → length s ≡ k * n → UsedWhole (packets A k n s)
-unfolding packets
-packets-whole zero n s ok long = tt
-packets-whole (suc k) n s ok long =
-    let one : length (take n s) ≡ n = length-take-le n s (omega (arith, suc-mul k n)) in
-    (packet-whole (cond (eqb k 0) lastPacket dataPacket) (take n s) (rw one (go (eqb k 0))), packets-whole k n (drop n s) ok (length-drop n s ∙ omega (arith, suc-mul k n)))
+-- what it says to the reader of any address is nothing, or what its content is
+packet-other : (i : ℕ) (c : List ℕ) → T (accepts i (lengthOf c)) → (IsSearch (hearAs i true c) → ⊥) → (a : List ℕ) → IsSearch (hear a (packet A i c)) → ⊥
+unfolding hear hearAt
+packet-other i c ok d a =
+    let b : ReadsAs (packet A i c) A i c = packet-reads A i c refl ok in
+    rw (b .found, b .right, b .identifier, b .content) (go (same (addressAt (packet A i c) 0) a))
   where
-    go : (b : Bool) → T (accepts (cond b lastPacket dataPacket) (n + 2))
-    go true = data-taken lastPacket n (inr refl) ok
-    go false = data-taken dataPacket n (inl refl) ok
+    go : (x : Bool) → IsSearch (cond x (hearAs i true c) nothing) → ⊥
+    go true j = d j
+    go false j = elim j [ ]
+
+packet-passed : (i : ℕ) (c : List ℕ) → T (accepts i (lengthOf c)) → (IsSearch (hearAs i true c) → ⊥) → OtherPacket (packet A i c)
+packet-passed i c ok d = (packet-whole i c ok, packet-other i c ok d)
+
+packets-passed : (k n : ℕ) (s : List ℕ) → Sendable n → length s ≡ k * n → NoSearches (packets A k n s)
+unfolding packets hearAs
+packets-passed zero n s ok long = tt
+packets-passed (suc k) n s ok long =
+    (go (eqb k 0) (length-take-le n s (omega (arith, suc-mul k n))), packets-passed k n (drop n s) ok (length-drop n s ∙ omega (arith, suc-mul k n)))
+  where
+    go : (b : Bool) → length (take n s) ≡ n → OtherPacket (packet A (cond b lastPacket dataPacket) (take n s))
+    go true one = packet-passed lastPacket (take n s) (rw one (data-taken lastPacket n (inr refl) ok)) (λ j. elim j [ ])
+    go false one = packet-passed dataPacket (take n s) (rw one (data-taken dataPacket n (inl refl) ok)) (λ j. elim j [ ])
 
 -- a page is k packets of the z bytes of a size code
 size-sendable : (z : ℕ) → Size z → Sendable z
@@ -158,32 +197,41 @@ module _ (t i n c d : List ℕ) (l : Legal core core-holds (freshOf t i n c d)) 
   abbrev r : Reader
   r = freshOf t i n c d
 
+  -- DownChar and data packets; and a size code before them
+  down-passed : (k z : ℕ) → Sendable z → k * z ≡ 512 → NoSearches (downPacket b ∷ packets A k z s)
+  unfolding accepts limit isIdentifier longest hearAs orderOf orderAs rowOf commands
+  down-passed k z ok many = (packet-passed 0x01 (0x09 ∷ b ∷ []) tt (λ j. elim j [ ]), packets-passed k z s ok (long ∙ sym many))
+
+  size-passed : (v : ℕ) → OtherPacket (sizePacket v)
+  unfolding accepts limit isIdentifier longest hearAs orderOf orderAs rowOf commands
+  size-passed v = packet-passed 0x01 (0x0e ∷ 6 ∷ v ∷ []) tt (λ j. elim j [ ])
+
   -- four data packets of 128 bytes
   pub first-download-cut : HoweverCut r (downPacket b ∷ packets A 4 128 s) (acknowledge A 0x00 [] ∷ []) (WithBuffer b (full s) closed r)
-  unfolding accepts limit isIdentifier longest acknowledge packet capacity
+  unfolding acknowledge packet capacity
   first-download-cut =
-      in-pieces r l _ _ _ (λ χ fit. first-download (capacity (r .guarded)) (lent χ (capacity (r .guarded)) fit) (fits χ (capacity (r .guarded)) fit) t i n c d refl l b which s long)
-      (packet-whole 0x01 (0x09 ∷ b ∷ []) tt, packets-whole 4 128 s (lit≤ tt, lit≤ tt) (long ∙ omega arith))
+      however-cut r l _ _ _ (down-passed 4 128 (lit≤ tt, lit≤ tt) refl)
+      (λ χ fit. first-download (capacity (r .guarded)) (lent χ (capacity (r .guarded)) fit) (fits χ (capacity (r .guarded)) fit) t i n c d refl l b which s long)
 
   -- of another size, without asking
   pub unasked-cut : (z : ℕ) → Sendable z → z ≢ 128 → (k : ℕ) → suc k * z ≡ 512
       → HoweverCut r (downPacket b ∷ packets A (suc k) z s) (acknowledge A 0x00 [] ∷ acknowledge A 0x0e [] ∷ []) (WithBuffer b blank closed r)
-  unfolding accepts limit isIdentifier longest acknowledge packet capacity
+  unfolding acknowledge packet capacity
   unasked-cut z ok other k many =
       subst (λ (rest : List (List ℕ)). HoweverCut r (downPacket b ∷ packets A (suc k) z s) (acknowledge A 0x00 [] ∷ acknowledge A 0x0e [] ∷ rest) (WithBuffer b blank closed r)) (silent-all k)
-      (in-pieces r l _ _ _ (λ χ fit. unasked (capacity (r .guarded)) (lent χ (capacity (r .guarded)) fit) (fits χ (capacity (r .guarded)) fit) t i n c d refl l b which s long z ok other k many)
-      (packet-whole 0x01 (0x09 ∷ b ∷ []) tt, packets-whole (suc k) z s ok (long ∙ sym many)))
+      (however-cut r l _ _ _ (down-passed (suc k) z ok many)
+      (λ χ fit. unasked (capacity (r .guarded)) (lent χ (capacity (r .guarded)) fit) (fits χ (capacity (r .guarded)) fit) t i n c d refl l b which s long z ok other k many))
 
   -- and with a size code set first
   pub asked-cut : (v k z : ℕ) → v ≤ 3 → 512 / sizeOf v ≡ k → sizeOf v ≡ z
       → HoweverCut r (sizePacket v ∷ downPacket b ∷ packets A k z s) (acknowledge A 0x00 [] ∷ acknowledge A 0x00 [] ∷ []) (WithBuffer b (full s) closed (withCode v (r .guarded)))
-  unfolding accepts limit isIdentifier longest acknowledge packet capacity highestSize
+  unfolding acknowledge packet capacity highestSize
   asked-cut v k z few number each =
       let size : Size z = subst Size each (sizes v few) in
       subst (λ (rest : List (List ℕ)). HoweverCut r (sizePacket v ∷ downPacket b ∷ packets A k z s) (acknowledge A 0x00 [] ∷ acknowledge A 0x00 [] ∷ rest) (WithBuffer b (full s) closed (withCode v (r .guarded))))
       (silent-all k)
-      (in-pieces r l _ _ _ (λ χ fit. asked (capacity (r .guarded)) (lent χ (capacity (r .guarded)) fit) (fits χ (capacity (r .guarded)) fit) t i n c d refl l b which s long v k z few number each)
-      (packet-whole 0x01 (0x0e ∷ 6 ∷ v ∷ []) tt, (packet-whole 0x01 (0x09 ∷ b ∷ []) tt, packets-whole k z s (size-sendable z size) (long ∙ sym (size-whole z k size (rw each at number))))))
+      (however-cut r l _ _ _ (size-passed v, down-passed k z (size-sendable z size) (size-whole z k size (rw each at number)))
+      (λ χ fit. asked (capacity (r .guarded)) (lent χ (capacity (r .guarded)) fit) (fits χ (capacity (r .guarded)) fit) t i n c d refl l b which s long v k z few number each))
 
   -- eight packets of 64: without asking, and with code 1 set first
   pub unasked-64-cut : HoweverCut r (downPacket b ∷ packets A 8 64 s) (acknowledge A 0x00 [] ∷ acknowledge A 0x0e [] ∷ []) (WithBuffer b blank closed r)

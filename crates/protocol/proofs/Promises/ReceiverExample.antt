@@ -2,6 +2,7 @@
 use mathlib.Core.Path.{_≡_, refl}
 use mathlib.Core.List.{List, [], _∷_, _++_}
 use Prim.Native.Nat.{ℕ}
+use lib.ListN.{replicate}
 use Rattle.protocol.specs.Numbers.{highestSize, longest, holds}
 use Rattle.protocol.specs.Tests.{verdict, within, every, countBelow}
 use Rattle.protocol.specs.Bytes.{zeros, two, four, wordAt, total, same, lay, follow, joined}
@@ -35,19 +36,19 @@ pub answers : List (List ℕ)
 answers =
     toA (0x07 ∷ 0x00 ∷ 0x03 ∷ 0x00 ∷ 0x00 ∷ 0x0a ∷ []) ∷ toA (0x07 ∷ 0x00 ∷ 0x05 ∷ 0x00 ∷ 0x00 ∷ 0x00 ∷ 0x00 ∷ 0x0c ∷ []) ∷ []
 
-piece : ℕ → Try
-piece n = record { size = n; room = zeros 700 }
+-- ten scores of k, and five thresholds
+pub chip : ℕ → Chip
+chip k = record { scores = replicate 10 k; thresholds = zeros 5 }
 
--- ten scores and five thresholds
-pub chip : Chip
-chip = record { scores = zeros 10; thresholds = zeros 5 }
+piece : ℕ → ℕ → Try
+piece n k = record { size = n; lent = record { chip = chip k; room = zeros 700 } }
 
--- piece by piece: five bytes, all that is left, and none
+-- piece by piece: five bytes, all that is left, and none; new scores each time, which no Search sees
 pub tries : List Try
-tries = piece 5 ∷ piece 60 ∷ piece 0 ∷ []
+tries = piece 5 1 ∷ piece 60 2 ∷ piece 0 3 ∷ []
 
 -- both answers and one byte held, whole and piece by piece; the array after the pieces too
-pub at-work : ((drained chip fresh10 run .replies ≡ answers) × (bytesIn (drained chip fresh10 run .after .receiver) ≡ 0xef ∷ []))
-    × ((offers core chip tries (line fresh10 (holding [])) run .replies ≡ answers) × (offers core chip tries (line fresh10 (holding [])) run .after .receiver ≡ holding (0xef ∷ [])))
+pub at-work : ((drained (chip 0) fresh10 run .replies ≡ answers) × (bytesIn (drained (chip 0) fresh10 run .after .receiver) ≡ 0xef ∷ []))
+    × ((offers core tries (line fresh10 (holding [])) run .replies ≡ answers) × (offers core tries (line fresh10 (holding [])) run .after .receiver ≡ holding (0xef ∷ [])))
 unfolding highestSize longest verdict within every countBelow two four wordAt total same lay follow joined sumOf packet isIdentifier limit accepts marksAt later startOf allBut findFrom findOf usedOf bit stored setBit clearBit clearBits setBits clearFrom capacity sizeOf keyed locked bufferOf emptied loadedFrom storedOn isOneOf without withMark withTransfer withPassword withAddress withTuning withLibrary withNotepad withBuffer withoutPages fresh zeroed commands rowOf orderAs orderOf acknowledge packets dataPackets apply isBuffer inRange withParameter statusOf rule publicOf freeRule hearAs hearAt hear silence says carryAs carry carryFree obey heed ended rested fits takeAs takeIn answer stepOf wiped switched core fitLibrary fitBuffers fitLengths fitPlain fitTransfer fitOrigin fitOrigins sound legal fresh10 holds refusalOf callAs callOf refused replyOf fitRoom carried bytesIn holding fitting runOf receiveRefusal handed receiveAs receiveOf replied offers served resting atRest drain drained fitChip toA p1 p8 run answers piece chip tries
 at-work = ((refl, refl), (refl, refl))

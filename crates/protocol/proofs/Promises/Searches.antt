@@ -5,7 +5,7 @@ use mathlib.Core.Bool.{Bool, true, false, true≢false, _&&_, cond}
 use mathlib.Core.Path.{_≡_, refl, sym, ap, _∙_, subst}
 use mathlib.Core.Logic.{_⊎_, inl, inr}
 use mathlib.Core.List.{List, [], _∷_, _++_}
-use Prim.Native.Nat.{ℕ, zero, _+_, _-_, _≤_, _<_}
+use Prim.Native.Nat.{ℕ, zero, suc, _+_, _-_, _≤_, _<_}
 use native.Mathlib.Omega.{arith}
 use lib.Dec.{T, leb, lt→ltb, leb→le}
 use borrow.Author.Tests.{le-leb}
@@ -14,15 +14,16 @@ use Rattle.protocol.specs.Bytes.{two, joined, follow}
 use Rattle.protocol.specs.Packet.{packet}
 use Rattle.protocol.specs.Index.{bit, stored}
 use Rattle.protocol.specs.Reader.{Reader, capacity, locked, bufferOf, withFound, withLibrary, withNotepad, withBuffer, withoutPages}
-use Rattle.protocol.specs.Search.{eligible, pagesFrom, searchOf, matchCode, matchBytes}
+use Rattle.protocol.specs.Search.{Chip, eligible, pagesFrom, searchOf, matchCode, matchBytes}
 use Rattle.protocol.specs.Commands.{Barred, searchFor, store, loadChar, upChar, downChar, deletChar, empty, setSysPara, setPassword, setAddress, writeNotepad, readNotepad, templeteNum, readIndexTable, barred, command}
 use Rattle.protocol.specs.Data.{acknowledge}
 use Rattle.protocol.specs.Table.{isBuffer, second, rule, apply}
-use Rattle.protocol.specs.Step.{Heard, order, hear, Said, silence, says, carryAs, carryFree, rested, takeAs, answer, stepOf}
-use Rattle.protocol.specs.Call.{Shape, Lent, fitLent, legal, Ended, replyOf, refused, carried, callOf}
+use Rattle.protocol.specs.Step.{Heard, order, hear, IsSearch, Said, silence, says, carryAs, carryFree, rested, takeAs, answer, Outcome, stepOf}
+use Rattle.protocol.specs.Call.{Shape, fitChip, Lent, fitLent, legal, Ended, replyOf, refusalOf, refused, carried, callAs, callOf}
 use Rattle.protocol.proofs.Laws.Logic.{T→true, and-l, and-r, and-i}
 use Rattle.protocol.proofs.Laws.Lists.{take-lay}
 use Rattle.protocol.proofs.Laws.Best.{Best, best-of, cut-at, cut-in}
+use Rattle.protocol.proofs.Laws.ChipFree.{step-chip-free}
 use Rattle.protocol.proofs.Laws.Answers.{spared, obeys, answer-kinds, call-kinds}
 use Rattle.protocol.proofs.Promises.Told.{Gives, answered, word, pages, has, Numbered, buffer, numbered, buffer-is}
 
@@ -195,3 +196,14 @@ bit-kept σ r four s lent =
     (λ t u o.
     let a : Said = answer (lent .chip) r (hear (r .plain .address) s) in
     answer-keeps lent r four (hear (r .plain .address) s) (subst (λ (x : List ℕ). Other (hear (r .plain .address) s) (getD x 9 0xff)) (take-lay (a .reply) (lent .room)) o))
+
+-- ---- "Scores and thresholds are lent at each call and may be new each time": a call that deals with no Search does not look at them, but for their lengths
+
+pub unseen : (σ : Shape) (r : Reader) (s room : List ℕ) (χ ψ : Chip) → (IsSearch (hear (r .plain .address) s) → ⊥) → fitChip (capacity (r .guarded)) χ ≡ fitChip (capacity (r .guarded)) ψ
+    → callOf σ r s record { chip = χ; room = room } ≡ callOf σ r s record { chip = ψ; room = room }
+unfolding callOf callAs refusalOf
+unseen σ r s room χ ψ d e = rw e (go (refusalOf σ r record { chip = ψ; room = room }))
+  where
+    go : (k : ℕ) → callAs r s record { chip = χ; room = room } k ≡ callAs r s record { chip = ψ; room = room } k
+    go zero = ap (λ (o : Outcome). carried o room) (step-chip-free χ ψ r s (λ i. absurd (d i)))
+    go (suc k) = refl
