@@ -153,6 +153,10 @@ but-one (a ∷ s) m u v x y (suc j) d l = but-one s m u v x y j (λ e. d (ap suc
 pub part-left : (s t : List ℕ) (i n : ℕ) → i + n ≤ length s → part i n (s ++ t) ≡ part i n s
 part-left s t i n h = ap (take n) (drop-append-le i s t (omega arith)) ∙ take-append-le n (drop i s) t (omega (arith, length-drop i s))
 
+-- a part that begins at t, or behind its first bytes
+pub part-right : (s t : List ℕ) (i n : ℕ) → part (length s + i) n (s ++ t) ≡ part i n t
+part-right s t i n = ap (take n) (drop-append-add s t i)
+
 pub last-lay : (i : ℕ) (s d : List ℕ) → i + length s ≡ length d → lay i s d ≡ take i d ++ s
 unfolding lay
 last-lay i s d h =

@@ -11,7 +11,7 @@ use borrow.Author.Tests.{lt-ltb}
 use lib.ListN.{length, replicate, set, replicate-append-replicate}
 use lib.Seq.{set-append-left}
 use Rattle.protocol.specs.Numbers.{passwordFirst}
-use Rattle.protocol.specs.Bytes.{zeros, byteAt}
+use Rattle.protocol.specs.Bytes.{zeros, byteAt, part}
 use Rattle.protocol.specs.Tests.{countBelow, verdict}
 use Rattle.protocol.specs.Index.{bit, stored, setBits, bits, setBit, clearBit, clearBits}
 use Rattle.protocol.specs.BringOver.{bringOver}
@@ -23,7 +23,7 @@ use Rattle.protocol.specs.Step.{order, hear, stepOf, wiped, switched, He
 use Rattle.protocol.specs.Call.{Shape, core, fitBuffers, fitTransfer, legal, Typed, Ended, refused, carried, replyOf, callOf, switchRefusal, switchAs, switchOf, fitChip, fitRoom}
 use Rattle.protocol.specs.Dialogue.{Event, received, switch, on, finally, Exchange, exchanges, Act, history, live}
 use Rattle.protocol.proofs.Laws.Logic.{and-l, and-r, verdict-passed}
-use Rattle.protocol.proofs.Laws.Lists.{part-left}
+use Rattle.protocol.proofs.Laws.Lists.{part-left, part-right, part-zeros}
 use Rattle.protocol.proofs.Laws.Index.{Fine, length-over, stored-over, fine-over, clear-above, clear-to, byte-over, stored-past}
 use Rattle.protocol.proofs.Laws.Count.{count-over}
 use Rattle.protocol.proofs.Laws.Best.{best-ext}
@@ -345,11 +345,14 @@ grown k r =
       guarded = record { templates = g .templates ++ replicate (512 * k) 0; index = g .index; notepad = g .notepad; buffer1 = g .buffer1; buffer2 = g .buffer2; found = g .found };
     }
 
--- it is legal, if it was; its pages have their bytes, and those behind them are not stored
+-- it is legal, if it was; its pages have their bytes, and every bit is as it was, so that the count is the same; those behind them are zero and not stored
 pub record Grown (k : ℕ) (r : Reader) : Type 0 where
   pub legal : Legal core core-holds (grown k r)
   pub more : pages (grown k r) ≡ pages r + k
   pub same : (q : ℕ) → q < pages r → page (grown k r) q ≡ page r q
+  pub bits : (q : ℕ) → has (grown k r) q ≡ has r q
+  pub count : setBits (grown k r .guarded .index) ≡ setBits (r .guarded .index)
+  pub added : (q : ℕ) → pages r ≤ q → q < pages r + k → page (grown k r) q ≡ replicate 512 0
   pub vacant : (q : ℕ) → pages r ≤ q → has (grown k r) q ≡ false
 
 pub grows : (k : ℕ) (r : Reader) → Legal core core-holds r → pages r + k ≤ 1000 → Grown k r
@@ -380,5 +383,11 @@ grows k r l few =
           };
       more = c;
       same = λ q h. part-left t (replicate (512 * k) 0) (512 * q) 512 (omega arith);
+      bits = λ q. refl;
+      count = refl;
+      added = λ q m h.
+          let i : ℕ = 512 * (q - length t / 512) in
+          let e : 512 * q ≡ length t + i = omega (arith, long, m) in
+          ap (λ (j : ℕ). part j 512 (t ++ replicate (512 * k) 0)) e ∙ part-right t (replicate (512 * k) 0) i 512 ∙ part-zeros i 512 (512 * k) (omega (arith, h, m));
       vacant = λ q m. clear-above x (capacity (r .guarded)) (g .clear) q m;
     }

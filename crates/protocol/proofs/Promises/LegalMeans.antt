@@ -9,12 +9,12 @@ use lib.Dec.{T, leb→le, le→leb, ltb→lt, lt→ltb, lit≤}
 use borrow.Author.Tests.{eqb-false}
 use lib.ListN.{length, getD}
 use Rattle.protocol.specs.Numbers.{highestSize}
-use Rattle.protocol.specs.Bytes.{four, same}
+use Rattle.protocol.specs.Bytes.{Bytes, four, same}
 use Rattle.protocol.specs.Tests.{within}
 use Rattle.protocol.specs.Index.{bit, stored}
 use Rattle.protocol.specs.Reader.{Transfer, closed, opened, unfit, odd, Plain, fromPage, Buffer, Guarded, Reader, capacity, sizeOf, keyed, locked, bufferOf}
 use Rattle.protocol.specs.Records.{transferOf}
-use Rattle.protocol.specs.Call.{core, fitBuffers, fitPlain, fitTransfer, sound, fitLengths, legal}
+use Rattle.protocol.specs.Call.{core, fitBuffers, fitPlain, fitTransfer, sound, fitLengths, legal, Typed}
 use Rattle.protocol.proofs.Laws.Logic.{and-l, and-r, and-i, and-false, eq→eqb}
 use Rattle.protocol.proofs.Laws.Lists.{same-refl, same-eq}
 use Rattle.protocol.proofs.Laws.Index.{clear-above, clear-to}
@@ -250,3 +250,9 @@ module _ (r : Reader) where
   pub means-legal : Means r → T (legal core r)
   unfolding legal
   means-legal m = and-i (fitLengths core (r .guarded)) (sound r) (lengths-mean (r .guarded) .1 (m .lengths)) (settings-mean r (m .lengths) .1 (m .settings))
+
+-- ---- what the types of the code say by themselves, both ways: "the password and the address are kept as four bytes each", and a lent index is of bytes
+
+pub typed-means : (r : Reader) → Typed r ↔ ((length (r .plain .password) ≡ 4) × ((length (r .plain .address) ≡ 4) × ((i : ℕ) → getD (r .guarded .index) i 0 < 256)))
+unfolding Bytes
+typed-means r = (λ t. (t .password, (t .address, t .index)), λ h. record { password = h .0; address = h .1 .0; index = h .1 .1 })

@@ -10,12 +10,13 @@
 -- status bits 1 and 2 and the check sum of that reply. Status bit 1 from [8] shows as 0 while locked, so that the second half stays true."
 use mathlib.Core.Bool.{Bool, true, false, true≢false, cond}
 use mathlib.Core.Path.{_≡_, refl, sym, ap, _∙_, subst}
-use mathlib.Core.Logic.{_⊎_, inl, inr, _≢_}
+use mathlib.Core.Logic.{_⊎_, inl, inr, _≢_, _↔_}
 use mathlib.Core.List.{List, [], _∷_, _++_}
 use Prim.Native.Nat.{ℕ, _+_, _/_, _%_, _≤_, _<_}
 use native.Mathlib.Omega.{arith}
 use native.Mathlib.Decide.{decLt}
-use lib.Dec.{T, lit<, leb→le}
+use lib.Dec.{T, eqb, lit<, leb→le, eqb→eq}
+use borrow.Author.Tests.{ne-eqb, eqb-false}
 use lib.ListN.{length, drop, getD, length-append}
 use Rattle.protocol.specs.Numbers.{replyRoom}
 use Rattle.protocol.specs.Bytes.{two, lay, joined}
@@ -27,9 +28,9 @@ use Rattle.protocol.specs.Commands.{readSysPara, verifyPassword, handSha
 use Rattle.protocol.specs.Data.{acknowledge}
 use Rattle.protocol.specs.Table.{statusOf, parametersOf, freeRule, publicOf, Public}
 use Rattle.protocol.specs.Step.{Heard, nothing, order, piece, hear, Said, silence, says, carryFree, obey, heed, ended, rested, takeIn, answer, stepOf, wiped}
-use Rattle.protocol.specs.Call.{Shape, Lent, fitLent, fitPlain, sound, legal, Told, Ended, replyOf, refused, carried, callOf, fitChip, fitRoom}
+use Rattle.protocol.specs.Call.{Shape, Lent, fitLent, fitPlain, sound, legal, Told, Ended, replyOf, refused, carried, callOf, chipFits, fitChip, fitRoom}
 use Rattle.protocol.specs.Dialogue.{Event, received, switch, on, Dialogue, over, first, dialogue, kept, Paired}
-use Rattle.protocol.proofs.Laws.Logic.{T→true, and-l, and-r, and-i}
+use Rattle.protocol.proofs.Laws.Logic.{T→true, and-l, and-r, and-i, and-false}
 use Rattle.protocol.proofs.Laws.Lists.{by-four, length-lay, at-inside, at-behind, but-one, take-lay}
 use Rattle.protocol.proofs.Laws.Answers.{call-legal, call-unfit, call-short}
 use Rattle.protocol.proofs.Laws.Legal.{fit-closed}
@@ -242,16 +243,64 @@ module _ (r : Reader) (key : T (keyed (r .plain))) (z : r .plain .transfer ≡ c
 
 -- ---- the second half
 
--- how far two sequences may differ: at each call in scores and thresholds, of which there are as many as pages, and five
+-- scores and thresholds differ at will, as long as both have as many scores as pages and five thresholds, or neither has
+pub data AtWill (c : ℕ) (χ ψ : Chip) : Type 0 where
+  both-fit : length (χ .scores) ≡ c → length (χ .thresholds) ≡ 5 → length (ψ .scores) ≡ c → length (ψ .thresholds) ≡ 5 → AtWill c χ ψ
+  neither-fits : (length (χ .scores) ≢ c) ⊎ (length (χ .thresholds) ≢ 5) → (length (ψ .scores) ≢ c) ⊎ (length (ψ .thresholds) ≢ 5) → AtWill c χ ψ
+
+-- how far two sequences may differ, both ways: at each call in scores and thresholds, and in nothing else
 pub record Pairs (c : ℕ) (es fs : List Event) : Type 0 where
   pub none : Paired c [] []
-  pub call : (s room : List ℕ) (χ ψ : Chip) → length (χ .scores) ≡ c → length (ψ .scores) ≡ c → length (χ .thresholds) ≡ 5 → length (ψ .thresholds) ≡ 5 → Paired c es fs
-      → Paired c (received s record { chip = χ; room = room } ∷ es) (received s record { chip = ψ; room = room } ∷ fs)
-  pub switched : Paired c es fs → Paired c (switch ∷ es) (switch ∷ fs)
+  pub call : (s t : List ℕ) (l m : Lent) → Paired c (received s l ∷ es) (received t m ∷ fs)
+      ↔ ((s ≡ t) × ((l .room ≡ m .room) × (AtWill c (l .chip) (m .chip) × Paired c es fs)))
+  pub switched : Paired c (switch ∷ es) (switch ∷ fs) ↔ Paired c es fs
+  pub call-or-switch : (s : List ℕ) (l : Lent) → Paired c (received s l ∷ es) (switch ∷ fs) → ⊥
+  pub switch-or-call : (t : List ℕ) (m : Lent) → Paired c (switch ∷ es) (received t m ∷ fs) → ⊥
+  pub longer : (e : Event) → Paired c (e ∷ es) [] → ⊥
+  pub shorter : (f : Event) → Paired c [] (f ∷ fs) → ⊥
+
+-- a scores and b thresholds
+chip-fits : (c a b : ℕ) → chipFits c a b ≡ true → (a ≡ c) × (b ≡ 5)
+chip-fits c a b e = let t : T (chipFits c a b) = rw e tt in (eqb→eq a c (search (and-l)), eqb→eq b 5 (search (and-r)))
+
+chip-misfits : (c a b : ℕ) → (chipFits c a b ≡ false) ↔ ((a ≢ c) ⊎ (b ≢ 5))
+chip-misfits c a b = (go (eqb a c) (eqb b 5) refl refl, back)
+  where
+    go : (x y : Bool) → eqb a c ≡ x → eqb b 5 ≡ y → chipFits c a b ≡ false → (a ≢ c) ⊎ (b ≢ 5)
+    go false y e f h = inl (eqb-false a c e)
+    go true false e f h = inr (eqb-false b 5 f)
+    go true true e f h = absurd (true≢false (rw (e, f) at h))
+
+    back : (a ≢ c) ⊎ (b ≢ 5) → chipFits c a b ≡ false
+    back (inl n) = rw (ne-eqb a c n) refl
+    back (inr n) = and-false (eqb a c) (eqb b 5) (ne-eqb b 5 n)
+
+at-will : (c : ℕ) (χ ψ : Chip) → (fitChip c χ ≡ fitChip c ψ) ↔ AtWill c χ ψ
+unfolding fitChip
+at-will c χ ψ = (to (fitChip c ψ) refl, from)
+  where
+    to : (b : Bool) → fitChip c ψ ≡ b → fitChip c χ ≡ fitChip c ψ → AtWill c χ ψ
+    to true e h = let x = chip-fits c _ _ (h ∙ e) in let y = chip-fits c _ _ e in both-fit (x .0) (x .1) (y .0) (y .1)
+    to false e h = neither-fits (chip-misfits c _ _ .0 (h ∙ e)) (chip-misfits c _ _ .0 e)
+
+    from : AtWill c χ ψ → fitChip c χ ≡ fitChip c ψ
+    from (both-fit a b d e) = rw (a, b, d, e) refl
+    from (neither-fits a b) = chip-misfits c _ _ .1 a ∙ sym (chip-misfits c _ _ .1 b)
 
 pub pairs : (c : ℕ) (es fs : List Event) → Pairs c es fs
-unfolding fitChip
-pairs c es fs = record { none = tt; call = λ s room χ ψ a b d e more. (refl, (refl, (rw (a, b, d, e) refl, more))); switched = λ more. more }
+pairs c es fs =
+    record {
+      none = tt;
+      call = λ s t l m. (
+        λ h. (h .0, (h .1 .0, (at-will c (l .chip) (m .chip) .0 (h .1 .1 .0), h .1 .1 .1))),
+        λ h. (h .0, (h .1 .0, (at-will c (l .chip) (m .chip) .1 (h .1 .1 .0), h .1 .1 .1))),
+      );
+      switched = (λ h. h, λ h. h);
+      call-or-switch = λ s l h. h;
+      switch-or-call = λ t m h. h;
+      longer = λ e h. h;
+      shorter = λ f h. h;
+    }
 
 -- two dialogues that got back the same, over events that are paired, from readers of c pages with the contents g and h
 pub record Blind (c : ℕ) (g h : Guarded) (d e : Dialogue) : Type 0 where

@@ -1,5 +1,5 @@
 -- How the code's records and the lent memory are read: which field and which list is which part of the reader, of what a call, a line switch,
--- a receiver and the builder tell, and of what they leave.
+-- a receiver, the builder and bringing over tell, and of what they leave.
 use mathlib.Core.Path.{_≡_, refl}
 use mathlib.Core.List.{List, []}
 use Prim.Native.Nat.{ℕ}
@@ -10,7 +10,7 @@ use Rattle.protocol.specs.declared.Switched.{Switched}
 use Rattle.protocol.specs.declared.Built.{Built}
 use Rattle.protocol.specs.declared.Received.{Received}
 use Rattle.protocol.specs.declared.Emptied.{Emptied}
-use Rattle.protocol.specs.Records.{marksOf, transferBeside, originOf, readerOf, lentOf, endedOf, switchedOf, receivedOf, emptiedOf, madeOf}
+use Rattle.protocol.specs.Records.{marksOf, transferBeside, originOf, readerOf, lentOf, endedOf, switchedOf, receivedOf, emptiedOf, madeOf, broughtOf}
 
 -- settings; templates, index, notepad, buffers 1 and 2. A mark is set where its byte is 1. `transferBeside` is in Marks, `originOf` in Words
 pub reader-is : (s : Settings) (t i n b d : List ℕ) → readerOf s t i n b d
@@ -60,3 +60,7 @@ lent-is scores thresholds room = refl
 -- the builder
 pub build-is : (m : Built) (room : List ℕ) → madeOf m room ≡ record { refusal = m .refusal; length = m .length; room = room }
 build-is m room = refl
+
+-- bringing over: the refusal, and the index that was lent for it
+pub brought-is : (refusal : ℕ) (index : List ℕ) → broughtOf refusal index ≡ record { refusal = refusal; index = index }
+brought-is refusal index = refl

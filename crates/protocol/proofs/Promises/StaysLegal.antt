@@ -1,6 +1,7 @@
 -- A legal reader is legal after every call and line switch.
 use mathlib.Core.Bool.{Bool, true, false, cond}
 use mathlib.Core.Path.{_≡_, refl, ap, _∙_, subst}
+use mathlib.Core.Logic.{_↔_}
 use mathlib.Core.List.{List, [], _∷_}
 use Prim.Native.Nat.{ℕ, zero, suc, _+_, _*_, _/_, _≤_, _<_}
 use native.Mathlib.Nat.{add-mod-right}
@@ -172,6 +173,10 @@ module _ (σ : Shape) (ok : σ .most ≤ 8 * σ .indexed) where
   pub record Legal (r : Reader) : Type 0 where
     pub typed : Typed r
     pub legal : T (legal σ r)
+
+  -- it is these two, and no more. `typed-means`, and at `core` `legal-means` and `means-legal`, have them in plain numbers
+  pub legal-and-typed : (r : Reader) → Legal r ↔ (Typed r × T (legal σ r))
+  legal-and-typed r = (λ l. (l .typed, l .legal), λ h. record { typed = h .0; legal = h .1 })
 
   pub good : (r : Reader) → Legal r → Good σ ok r
   good r l = good-of σ ok r (l .typed) (l .legal)

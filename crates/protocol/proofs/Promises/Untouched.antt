@@ -56,7 +56,7 @@ module _ (σ : Shape) (ok : σ .most ≤ 8 * σ .indexed) (r : Reader) (l : Lega
   replaced = callOf σ (cleared .after) s′ lent′
 
   -- both are answered 00h; page p has the buffer's bytes and its bit, and is its origin; every other page keeps both; the other buffer is wiped where page p
-  -- was its origin; and all else stays
+  -- was its origin; and all else stays, status bit 1 too
   pub record Replaced (b p : ℕ) : Type 0 where
     pub first : Replies (acknowledge (r .plain .address) 0x00 []) s lent cleared
     pub next : Replies (acknowledge (r .plain .address) 0x00 []) s′ lent′ replaced
@@ -65,6 +65,7 @@ module _ (σ : Shape) (ok : σ .most ≤ 8 * σ .indexed) (r : Reader) (l : Lega
     pub bits : (q : ℕ) → has (replaced .after) q ≡ (eqb p q || has r q)
     pub settings : replaced .after .plain ≡ rested r .plain
     pub notepad : replaced .after .guarded .notepad ≡ r .guarded .notepad
+    pub found : replaced .after .guarded .found ≡ r .guarded .found
     pub chosen : buffer b (replaced .after .guarded) ≡ record { bytes = buffer b (rested r .guarded) .bytes; filled = true; origin = fromPage p }
     pub spare : Forgets p 1 (other b (rested r .guarded)) (other b (replaced .after .guarded))
 
@@ -82,6 +83,7 @@ module _ (σ : Shape) (ok : σ .most ≤ 8 * σ .indexed) (r : Reader) (l : Lega
         bits = λ q. w .bits q ∙ ap (λ (c : Bool). eqb p q || c) (d .bits q) ∙ bits q (ℕ-discrete p q);
         settings = w .quiet .settings ∙ ap (λ (x : Reader). x .plain) still ∙ d .quiet .settings;
         notepad = w .quiet .notepad ∙ ap (λ (x : Reader). x .guarded .notepad) still ∙ d .quiet .notepad ∙ spared r .notepad;
+        found = w .quiet .found ∙ ap (λ (x : Reader). x .guarded .found) still ∙ d .quiet .found ∙ spared r .found;
         chosen = w .chosen ∙ ap (λ (c : Buffer). record { bytes = c .bytes; filled = true; origin = fromPage p }) buffers;
         spare = subst (Forgets p 1 (other b (rested r .guarded))) (sym (w .spare ∙ ap (λ (x : Reader). other b (x .guarded)) still)) (forgot-other b);
       }
