@@ -43,6 +43,7 @@ pub mod ReceiverLock
 pub mod ReceiverCalls
 pub mod FromC
 pub mod LinesFromC
+pub mod CutsFromC
 pub mod LockFromC
 pub mod InPieces
 pub mod LongData

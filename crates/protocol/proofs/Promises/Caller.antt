@@ -16,7 +16,7 @@ use Rattle.protocol.specs.Step.{Heard, order, hear, IsSearch, a-search, 
 use Rattle.protocol.specs.Call.{Shape, Lent, fitLent, legal, Told, replyOf, callOf}
 use Rattle.protocol.specs.Dialogue.{Event, received, switch}
 use Rattle.protocol.specs.Receiver.{bytesIn, holding, Line, line, Handed, fitting, runOf, receiveOf, lineSwitchOf}
-use Rattle.protocol.specs.Caller.{Try, Ran, replied, offers, served, SearchesSee, resting, atRest, drained, onLine, finallyOn, Talk, endsAt, begins, talk}
+use Rattle.protocol.specs.Caller.{Try, Ran, replied, offers, served, SearchesSee, resting, atRest, drained, onLine, finallyOn, seen, Talk, endsAt, begins, talk}
 use Rattle.protocol.proofs.Laws.Logic.{and-l, and-r, and-i, eq→eqb}
 use Rattle.protocol.proofs.Laws.Drain.{drained-rest, drained-call}
 use Rattle.protocol.proofs.Promises.Cuts.{drains-by-call}
@@ -136,6 +136,21 @@ module _ (σ : Shape) where
   unfolding finallyOn
   finally-next [] x e = refl
   finally-next (d ∷ es) x e = finally-next es (onLine σ x d .after) e
+
+  -- what the host saw of a piece: the bytes that were held, what fits of the piece, and the reply that the receiver gave; of a line switch nothing
+  pub seen-none : (x : Line) → seen σ x [] ≡ []
+  unfolding seen
+  seen-none x = refl
+
+  pub seen-piece : (x : Line) (piece : List ℕ) (lent : Lent) (es : List Event) → seen σ x (received piece lent ∷ es)
+      ≡ (let o = receiveOf σ x piece lent in
+      record { run = take (x .receiver .count) (x .receiver .held) ++ take (267 - x .receiver .count) piece; reply = take (o .told .length) (o .told .room) } ∷ seen σ (o .after) es)
+  unfolding seen replyOf runOf bytesIn fitting holds longest
+  seen-piece x piece lent es = refl
+
+  pub seen-switch : (x : Line) (es : List Event) → seen σ x (switch ∷ es) ≡ seen σ (lineSwitchOf x .after) es
+  unfolding seen
+  seen-switch x es = refl
 
   -- what each of some events gets back
   unfoldable pub tells : Line → List Event → List Told

@@ -2,7 +2,7 @@
 -- return, and what lies in its settings and its memory after each.
 use mathlib.Core.Bool.{true}
 use mathlib.Core.Path.{_≡_, refl, sym, ap, _∙_, subst}
-use mathlib.Core.Logic.{_⊎_, _≢_}
+use mathlib.Core.Logic.{_⊎_, _≢_, _↔_}
 use mathlib.Core.List.{List, [], _∷_}
 use Prim.Native.Nat.{ℕ, zero, suc, _*_, _/_, _%_, _^_, _≤_}
 use native.Mathlib.Omega.{arith}
@@ -16,7 +16,7 @@ use Rattle.protocol.specs.Call.{core, Lent, Told, Ended, replyOf, callOf
 use Rattle.protocol.specs.Dialogue.{Event, received, switch, on, finally, Exchange, exchanges, Act, history, live}
 use Rattle.protocol.specs.Services.{countService}
 use Rattle.protocol.specs.Records.{marksOf, originOf, readerOf, lentOf, endedOf, switchedOf, calledAt, switchedAt}
-use Rattle.protocol.specs.Doors.{Memory, Vault, readerAt, readerIn, Entry, lastOf, eventsOf, ended, Steps, sees, saw}
+use Rattle.protocol.specs.Doors.{Memory, Vault, readerAt, readerIn, Entry, lastOf, eventsOf, toldOf, Until, ended, Steps, sees, saw}
 use borrow.Author.Tests.{eqb-true, ne-eqb}
 use Rattle.protocol.proofs.Laws.Lines.{Line, unless, Follows}
 use Rattle.protocol.proofs.Laws.History.{ever-capacity}
@@ -58,6 +58,45 @@ pub switch-door : (v : Vault) (s : Settings) (refusal : ℕ) (b d : List ℕ)
     ∷ [])
 unfolding on
 switch-door v s refusal b d q = (q (v .memory .templates) (v .memory .index) (v .memory .notepad), tt)
+
+-- ---- a sequence of calls, in the words of its entries
+
+-- each call is made on what the one before it left; what came back, and what lies there after the last
+pub record Sequence {S : Type 0} (v : S) (x y : Entry S) (xs : List (Entry S)) (mark : S → ℕ) : Type 0 where
+  pub last-none : lastOf v [] ≡ v
+  pub last-more : lastOf v (x ∷ xs) ≡ lastOf (x .after) xs
+  pub events : eventsOf (x ∷ xs) ≡ x .event ∷ eventsOf xs
+  pub told : toldOf (x ∷ xs) ≡ x .told ∷ toldOf xs
+  -- no call but the last leaves a mark of 1
+  pub until-none : Until mark []
+  pub until-one : Until mark (x ∷ [])
+  pub until-more : Until mark (x ∷ y ∷ xs) ↔ ((mark (x .after) ≢ 1) × Until mark (y ∷ xs))
+
+pub sequence : {S : Type 0} (v : S) (x y : Entry S) (xs : List (Entry S)) (mark : S → ℕ) → Sequence v x y xs mark
+sequence v x y xs mark =
+    record { last-none = refl; last-more = refl; events = refl; told = refl; until-none = tt; until-one = tt; until-more = (λ u. u, λ u. u) }
+
+-- a call of bystrodol_step in it, and a line switch: what each told, and the reader that it left; and what the host saw
+pub record StepsMean (v w : Vault) (t : Told) (run : List ℕ) (lent : Lent) (xs : List (Entry Vault)) : Type 0 where
+  pub none : Steps v []
+  pub call : Steps v (record { event = received run lent; told = t; after = w } ∷ xs)
+      ↔ (((t ≡ callOf core (readerIn v) run lent .told) × (readerIn w ≡ callOf core (readerIn v) run lent .after)) × Steps w xs)
+  pub switched : Steps v (record { event = switch; told = t; after = w } ∷ xs) ↔ (((t ≡ switchOf (readerIn v) .told) × (readerIn w ≡ switchOf (readerIn v) .after)) × Steps w xs)
+  pub saw-none : saw [] ≡ []
+  pub saw-call : saw (record { event = received run lent; told = t; after = w } ∷ xs) ≡ record { run = run; reply = take (t .length) (t .room) } ∷ saw xs
+  pub saw-switch : saw (record { event = switch; told = t; after = w } ∷ xs) ≡ saw xs
+
+pub steps-mean : (v w : Vault) (t : Told) (run : List ℕ) (lent : Lent) (xs : List (Entry Vault)) → StepsMean v w t run lent xs
+unfolding on
+steps-mean v w t run lent xs =
+    record {
+      none = tt;
+      call = (λ q. ((ap (λ (e : Ended). e .told) (q .0), ap (λ (e : Ended). e .after) (q .0)), q .1), λ q. (λ j. record { told = q .0 .0 j; after = q .0 .1 j }, q .1));
+      switched = (λ q. ((ap (λ (e : Ended). e .told) (q .0), ap (λ (e : Ended). e .after) (q .0)), q .1), λ q. (λ j. record { told = q .0 .0 j; after = q .0 .1 j }, q .1));
+      saw-none = refl;
+      saw-call = refl;
+      saw-switch = refl;
+    }
 
 -- ---- calls from C are the definitions' events
 

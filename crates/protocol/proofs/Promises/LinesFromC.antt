@@ -2,13 +2,14 @@
 -- return, and what lies in its line and its memory after each.
 use mathlib.Core.Bool.{true}
 use mathlib.Core.Path.{_≡_, refl, sym, ap, _∙_, subst}
-use mathlib.Core.Logic.{_⊎_}
-use mathlib.Core.List.{List, [], _∷_}
-use Prim.Native.Nat.{ℕ, zero, suc, _*_, _/_, _≤_}
+use mathlib.Core.Logic.{_⊎_, _↔_}
+use mathlib.Core.List.{List, [], _∷_, _++_}
+use Prim.Native.Nat.{ℕ, zero, suc, _-_, _*_, _/_, _≤_}
 use native.Mathlib.Omega.{arith}
 use lib.ListN.{length, take, replicate}
 use Rattle.protocol.specs.declared.Line.{Line}
 use Rattle.protocol.specs.declared.Taken.{Taken}
+use Rattle.protocol.specs.Numbers.{holds, longest}
 use Rattle.protocol.specs.Bytes.{Bytes}
 use Rattle.protocol.specs.Tests.{countBelow}
 use Rattle.protocol.specs.Reader.{fromPage, Reader, capacity}
@@ -63,6 +64,31 @@ pub empty-door : (v : LineVault) (x : Line) (refusal : ℕ) (b d : List ℕ)
 unfolding onLine
 empty-door v x refusal b d q = (q (v .memory .templates) (v .memory .index) (v .memory .notepad), tt)
 
+-- ---- a sequence of such calls, as `StepsMean` has it without a receiver; what the host saw of a call is of the bytes that were held and of what fits of the piece
+
+pub record ReceivesMean (v w : LineVault) (t : Told) (piece : List ℕ) (lent : Lent) (xs : List (Entry LineVault)) : Type 0 where
+  pub none : Receives v []
+  pub call : Receives v (record { event = received piece lent; told = t; after = w } ∷ xs)
+      ↔ (((t ≡ receiveOf core (lineIn v) piece lent .told) × (lineIn w ≡ receiveOf core (lineIn v) piece lent .after)) × Receives w xs)
+  pub switched : Receives v (record { event = switch; told = t; after = w } ∷ xs) ↔ (((t ≡ lineSwitchOf (lineIn v) .told) × (lineIn w ≡ lineSwitchOf (lineIn v) .after)) × Receives w xs)
+  pub saw-none : sawOn v [] ≡ []
+  pub saw-call : sawOn v (record { event = received piece lent; told = t; after = w } ∷ xs)
+      ≡ (let h = v .line .receiver in
+      record { run = take (h .count) (h .held) ++ take (267 - h .count) piece; reply = take (t .length) (t .room) } ∷ sawOn w xs)
+  pub saw-switch : sawOn v (record { event = switch; told = t; after = w } ∷ xs) ≡ sawOn w xs
+
+pub receives-mean : (v w : LineVault) (t : Told) (piece : List ℕ) (lent : Lent) (xs : List (Entry LineVault)) → ReceivesMean v w t piece lent xs
+unfolding onLine holds longest
+receives-mean v w t piece lent xs =
+    record {
+      none = tt;
+      call = (λ q. ((ap (λ (o : Handed). o .told) (q .0), ap (λ (o : Handed). o .after) (q .0)), q .1), λ q. (λ j. record { told = q .0 .0 j; after = q .0 .1 j }, q .1));
+      switched = (λ q. ((ap (λ (o : Handed). o .told) (q .0), ap (λ (o : Handed). o .after) (q .0)), q .1), λ q. (λ j. record { told = q .0 .0 j; after = q .0 .1 j }, q .1));
+      saw-none = refl;
+      saw-call = refl;
+      saw-switch = refl;
+    }
+
 -- ---- calls from C are the definitions' events
 
 pub receives-end : (xs : List (Entry LineVault)) (v : LineVault) → Receives v xs → lineIn (lastOf v xs) ≡ finallyOn core (lineIn v) (eventsOf xs)
@@ -95,7 +121,7 @@ abbrev pub LineEnds : LineVault → List ℕ → Told → LineVault → ℕ → 
 LineEnds v room t w zero = t .refusal ≡ 0
 LineEnds v room t w (suc n) = (t ≡ record { refusal = suc n; used = 0; length = 0; room = room }) × (w ≡ v)
 
-same-line : (v w : LineVault) → lineIn w ≡ lineIn v → w ≡ v
+pub same-line : (v w : LineVault) → lineIn w ≡ lineIn v → w ≡ v
 same-line v w e =
     let o = same-vault (w .line .settings) (v .line .settings) (w .memory) (v .memory) (ap (λ (x : receivers.Line). x .reader) e) in
     λ j. record { line = record { settings = o .0 j; receiver = e j .receiver }; memory = o .1 j }
