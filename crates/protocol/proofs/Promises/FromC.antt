@@ -27,6 +27,7 @@ use Rattle.protocol.proofs.Promises.StaysLegal.{Legal, ever-legal}
 use Rattle.protocol.proofs.Promises.Marks.{Marked, settled-marks, switch-clears}
 use Rattle.protocol.proofs.Promises.OneResult.{one-reader}
 use Rattle.protocol.proofs.Promises.ValidCount.{Tells, tells-none, tells-count, tells-ever}
+use Rattle.protocol.proofs.Promises.SizeCode.{Unset, code-kept}
 use Rattle.protocol.proofs.Promises.Faithful.{Faithful, Holds, ever-faithful}
 use Rattle.protocol.proofs.Promises.Untouched.{SawDeleted, Untouched, only-by-deletion}
 
@@ -261,3 +262,8 @@ module _ (v : Vault) (xs : List (Entry Vault)) (q : Steps v xs) where
       (λ b p.
       subst (λ (r : Reader). buffer b (r .guarded) .origin ≡ fromPage p → Holds core core-holds r b p) (sym (steps-end xs v q))
       (ever-faithful core core-holds (readerIn v) l f (eventsOf xs) b p))
+
+  -- ---- request [2]: "Stored settings keep their own code.", whatever bytes the settings are, unless a run asks for parameter 6 and is answered 00h
+
+  pub vault-code : Unset core (readerIn v) (eventsOf xs) → lastOf v xs .settings .size ≡ v .settings .size
+  vault-code u = ap (λ (r : Reader). r .plain .size) (steps-end xs v q) ∙ code-kept core (eventsOf xs) (readerIn v) u

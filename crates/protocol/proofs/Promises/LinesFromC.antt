@@ -29,10 +29,11 @@ use Rattle.protocol.proofs.Promises.Refused.{ChipLengths}
 use Rattle.protocol.proofs.Promises.StaysLegal.{Legal}
 use Rattle.protocol.proofs.Promises.Marks.{Marked, settled-marks}
 use Rattle.protocol.proofs.Promises.ValidCount.{Tells, tells-none, tells-ever}
+use Rattle.protocol.proofs.Promises.SizeCode.{Unset}
 use Rattle.protocol.proofs.Promises.Faithful.{Faithful, Holds}
 use Rattle.protocol.proofs.Promises.Untouched.{SawDeleted, Untouched}
 use Rattle.protocol.proofs.Promises.Receiver.{Hands, receive-refusals, never-refused}
-use Rattle.protocol.proofs.Promises.ReceiverCalls.{as-calls, ever-few, seen-is, line-legal, line-only-by-deletion, line-faithful}
+use Rattle.protocol.proofs.Promises.ReceiverCalls.{as-calls, ever-few, seen-is, line-legal, line-only-by-deletion, line-faithful, line-code}
 use Rattle.protocol.proofs.Promises.FromC.{same-vault, count-of, HeldPages, pages-held}
 
 -- ---- a contract is a step: what the header's names stand for
@@ -215,3 +216,8 @@ module _ (v : LineVault) (xs : List (Entry LineVault)) (q : Receives v xs) where
       (λ b p.
       subst (λ (r : Reader). buffer b (r .guarded) .origin ≡ fromPage p → Holds core core-holds r b p) reads
       (line-faithful core core-holds (lineIn v) (l .few) (l .reader) f (eventsOf xs) b p))
+
+  -- ---- request [2]: "Stored settings keep their own code.", unless a run that was held asks for parameter 6 and is answered 00h
+
+  pub line-vault-code : v .line .receiver .count ≤ 267 → Unset core (lineIn v .reader) (runs core (lineIn v) (eventsOf xs)) → lastOf v xs .line .settings .size ≡ v .line .settings .size
+  line-vault-code few u = ap (λ (r : Reader). r .plain .size) (sym reads) ∙ line-code core (lineIn v) few (eventsOf xs) u

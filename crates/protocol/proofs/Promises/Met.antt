@@ -6,7 +6,8 @@ use mathlib.Core.List.{List, [], _∷_}
 use Prim.Native.Nat.{ℕ, zero, suc, _*_, _/_, _%_, _^_, _≤_}
 use native.Mathlib.Omega.{arith}
 use lib.Dec.{T, lit≤, lit<}
-use lib.ListN.{replicate, length-replicate}
+use lib.ListN.{length, replicate, length-replicate}
+use Rattle.protocol.specs.declared.Settings.{Settings}
 use Rattle.protocol.specs.Numbers.{pageBytes, highestSize, longest, holds}
 use Rattle.protocol.specs.Bytes.{Bytes, part, zeros, four, same, lay}
 use Rattle.protocol.specs.Tests.{within, every}
@@ -15,7 +16,8 @@ use Rattle.protocol.specs.Reader.{closed, noOrigin, fromPage, Reader, ca
 use Rattle.protocol.specs.Search.{Chip, eligible, beats, bestOf, pagesFrom, searchOf}
 use Rattle.protocol.specs.Step.{ended, rested}
 use Rattle.protocol.specs.Call.{core, fitLibrary, fitBuffers, fitChip, fitLengths, fitPlain, fitTransfer, fitOrigin, fitOrigins, sound, legal}
-use Rattle.protocol.specs.Records.{originOf, freshOf}
+use Rattle.protocol.specs.Records.{transferOf, fitMark, fitMarks, transferBeside, originOf, freshOf}
+use Rattle.protocol.specs.Doors.{Vault}
 use Rattle.protocol.specs.Receiver.{holding, line}
 use Rattle.protocol.proofs.Laws.Index.{byte-zeros, bit-zero, fine-zeros}
 use Rattle.protocol.proofs.Laws.Origins.{no-page, same-page}
@@ -26,6 +28,8 @@ use Rattle.protocol.proofs.Promises.StaysLegal.{Legal}
 use Rattle.protocol.proofs.Promises.BroughtOver.{before, before-holds}
 use Rattle.protocol.proofs.Promises.Faithful.{Faithful, faithful-start}
 use Rattle.protocol.proofs.Promises.ComesToRest.{Ready}
+use Rattle.protocol.proofs.Promises.FromC.{LegalVault}
+use Rattle.protocol.proofs.Promises.LockFromC.{SameOpen}
 
 -- P9's reader with every page stored and both buffers filled, the first from page 3, and status bit 1 set
 pub full10 : Reader
@@ -49,6 +53,69 @@ pub premises-met : Met keyed10 full10
 unfolding keyed10 fresh10 full10 fresh zeroed withPassword emptied loadedFrom four same within every bit stored clearFrom capacity keyed locked bufferOf core fitLibrary fitBuffers fitLengths fitPlain fitTransfer fitOrigin fitOrigins sound legal highestSize
 premises-met = record { one = tt; other = tt; locks = tt; keys = tt; still = refl; settings = refl; pages = refl; bit-clear = refl; bit-set = refl }
 
+-- ---- the same as C has them: the bytes of two settings records, and two memories of ten pages
+
+-- these marks and this first origin; the password is 00000005
+settings10 : ℕ → ℕ → Settings
+settings10 mark origin =
+    record {
+      password = 0 ∷ 0 ∷ 0 ∷ 5 ∷ [];
+      address = 0xff ∷ 0xff ∷ 0xff ∷ 0xff ∷ [];
+      level = 3;
+      size = 2;
+      baud = 6;
+      transfer = 0;
+      sensor = 0;
+      got = 0;
+      verified = 0;
+      filled1 = mark;
+      filled2 = mark;
+      found = mark;
+      origin1 = origin;
+      origin2 = 0xffff;
+    }
+
+pub emptyVault : Vault
+emptyVault =
+    record {
+      settings = settings10 0 0xffff;
+      memory = record { templates = replicate 5120 0; index = replicate 128 0; notepad = replicate 512 0; buffer1 = replicate 512 0; buffer2 = replicate 512 0 };
+    }
+
+pub fullVault : Vault
+fullVault =
+    record {
+      settings = settings10 1 3;
+      memory = record { templates = replicate 5120 0x11; index = 0xff ∷ 0x03 ∷ replicate 126 0; notepad = replicate 512 0x22; buffer1 = replicate 512 0x11; buffer2 = replicate 512 0x44 };
+    }
+
+pub record MetFromC (v w : Vault) : Type 0 where
+  pub one : LegalVault v
+  pub other : LegalVault w
+  pub key : v .settings .password ≡ 0 ∷ 0 ∷ 0 ∷ 5 ∷ []
+  pub clear : v .settings .verified ≡ 0
+  pub settings : SameOpen (v .settings) (w .settings)
+  pub pages : length (v .memory .templates) ≡ length (w .memory .templates)
+  pub marks : (v .settings .filled1 ≡ 0) × (w .settings .filled1 ≡ 1)
+
+full-bytes : (n : ℕ) → Bytes (0xff ∷ 0x03 ∷ replicate n 0)
+unfolding Bytes
+full-bytes n zero = lit< tt
+full-bytes n (suc zero) = lit< tt
+full-bytes n (suc (suc i)) = fine-zeros n .bytes i
+
+pub from-c-met : MetFromC emptyVault fullVault
+unfolding settings10 emptyVault fullVault keyed10 fresh10 full10 fresh zeroed withPassword emptied loadedFrom four transferBeside fitMarks fitMark transferOf originOf core
+from-c-met =
+    record {
+      one = record { typed = record { password = refl; address = refl; index = fine-zeros 128 .bytes }; legal = premises-met .one };
+      other = record { typed = record { password = refl; address = refl; index = full-bytes 126 }; legal = premises-met .other };
+      key = refl;
+      clear = refl;
+      settings = record { password = refl; address = refl; level = refl; size = refl; baud = refl; transfer = refl; sensor = refl; got = refl; verified = refl };
+      pages = refl;
+      marks = (refl, refl);
+    }
 -- of request [5]'s by the full reader without a password: it is not locked, and each of its pages is stored
 pub open10 : Reader
 open10 = reader (fresh10 .plain) (full10 .guarded)
