@@ -19,6 +19,7 @@ use Rattle.protocol.specs.Reader.{Marks, Transfer, closed, opened, unfit
 use Rattle.protocol.specs.Call.{Ended}
 use Rattle.protocol.specs.Receiver.{Handed}
 use Rattle.protocol.specs.Records.{fitMarks, isSet, markOf, marksOf, transferOf, transferBeside, originOf, readerOf, endedOf, switchedOf, receivedOf, emptiedOf, madeOf, broughtOf}
+use Rattle.protocol.proofs.Promises.Records.{reader-is}
 use Rattle.protocol.proofs.Laws.Marks.{mark-is, fit-verified, fit-filled1, fit-filled2, fit-found, beside-fit, beside-odd}
 
 -- a transfer's two numbers
@@ -110,7 +111,8 @@ pub record OneReader (s z : Settings) (t i n b c t′ i′ n′ b′ c′ : List
   pub buffer2 : c ≡ c′
 
 pub one-reader : (s z : Settings) (t i n b c t′ i′ n′ b′ c′ : List ℕ) → readerOf s t i n b c ≡ readerOf z t′ i′ n′ b′ c′ → OneReader s z t i n b c t′ i′ n′ b′ c′
-one-reader s z t i n b c t′ i′ n′ b′ c′ e =
+one-reader s z t i n b c t′ i′ n′ b′ c′ same =
+    let e = sym (reader-is s t i n b c) ∙ same ∙ reader-is z t′ i′ n′ b′ c′ in
     let m : _≡_ {A = ℕ × ℕ} (s .transfer, s .got) (z .transfer, z .got) =
     sym (beside-numbered (marksOf s) (s .transfer) (s .got)) ∙ ap (λ (r : Reader). numbers (r .plain .transfer)) e ∙ beside-numbered (marksOf z) (z .transfer) (z .got)
     in
