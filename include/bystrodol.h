@@ -84,6 +84,9 @@
  *     level and address, as they were stored, are read without the password, so they are no place for a secret. A host that took this
  *     21h for the sign of a lock must send another command, such as TempleteNum, which a locked reader of every version answers 21h. A
  *     board looks at password and verified mark in the settings.
+ *     In versions 0.1 to 0.9 the byte at offset 267 of a receiver was padding; today it is the field spare. Sizes, offsets and functions
+ *     are those of 0.9, and any byte may lie there, so nothing is brought over. An initialiser that lists a receiver's fields in order
+ *     has one more.
  */
 #ifndef BYSTRODOL_H
 #define BYSTRODOL_H
@@ -94,9 +97,9 @@
 /* The version of this header and of the archives. Another major number, or, while that is 0, another minor one, may need a
  * change of the caller. */
 #define BYSTRODOL_VERSION_MAJOR 0
-#define BYSTRODOL_VERSION_MINOR 9
+#define BYSTRODOL_VERSION_MINOR 10
 #define BYSTRODOL_VERSION_PATCH 0
-#define BYSTRODOL_VERSION "0.9.0"
+#define BYSTRODOL_VERSION "0.10.0"
 
 /* ---- lengths, in bytes */
 
@@ -269,7 +272,7 @@ struct bystrodol_settings {
 /*
  * A receiver, 270 bytes: the bytes that came and are not dealt with yet, at the front of held. There is no padding in it.
  *
- * All zeros is a receiver that holds nothing. Any bytes may lie in held; a count above 267 is refused with 3, until the line
+ * All zeros is a receiver that holds nothing. Any bytes may lie in held and in spare; a count above 267 is refused with 3, until the line
  * switch or an empty receiver. After each call and line switch that is not refused, every byte of held from the count on is 0,
  * whatever it was before: no byte of a packet stays behind in it once the packet is dealt with. The piece and the reply room
  * are the caller's to clear.

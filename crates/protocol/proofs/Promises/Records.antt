@@ -8,9 +8,10 @@ use Rattle.protocol.specs.declared.Settings.{Settings}
 use Rattle.protocol.specs.declared.Called.{Called}
 use Rattle.protocol.specs.declared.Switched.{Switched}
 use Rattle.protocol.specs.declared.Built.{Built}
+use Rattle.protocol.specs.declared.Line.{Line}
 use Rattle.protocol.specs.declared.Received.{Received}
 use Rattle.protocol.specs.declared.Emptied.{Emptied}
-use Rattle.protocol.specs.Records.{marksOf, transferBeside, originOf, readerOf, lentOf, endedOf, switchedOf, receivedOf, emptiedOf, madeOf, broughtOf}
+use Rattle.protocol.specs.Records.{marksOf, transferBeside, originOf, readerOf, lineOf, lentOf, endedOf, switchedOf, receivedOf, emptiedOf, madeOf, broughtOf}
 
 -- settings; templates, index, notepad, buffers 1 and 2. A mark is set where its byte is 1. `transferBeside` is in Marks, `originOf` in Words
 pub reader-is : (s : Settings) (t i n b d : List ℕ) → readerOf s t i n b d
@@ -29,6 +30,10 @@ pub reader-is : (s : Settings) (t i n b d : List ℕ) → readerOf s t i n b d
       guarded = record { templates = t; index = i; notepad = n; buffer1 = record { bytes = b; filled = eqb (s .filled1) 1; origin = originOf (s .origin1) }; buffer2 = record { bytes = d; filled = eqb (s .filled2) 1; origin = originOf (s .origin2) }; found = eqb (s .found) 1 };
     }
 reader-is s t i n b d = refl
+
+-- a line: its settings, and its receiver as it lies
+pub line-is : (x : Line) (t i n b d : List ℕ) → lineOf x t i n b d ≡ record { reader = readerOf (x .settings) t i n b d; receiver = x .receiver }
+line-is x t i n b d = refl
 
 -- a call: what it returned, and the lent memory and the reply room after it
 pub call-is : (c : Called) (t i n b d room : List ℕ) → endedOf c t i n b d room
