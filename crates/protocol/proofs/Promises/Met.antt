@@ -116,6 +116,7 @@ from-c-met =
       pages = refl;
       marks = (refl, refl);
     }
+
 -- of request [5]'s by the full reader without a password: it is not locked, and each of its pages is stored
 pub open10 : Reader
 open10 = reader (fresh10 .plain) (full10 .guarded)
