@@ -42,16 +42,16 @@ Served [] = Unit {0}
 Served (x ∷ xs) = (x .told .refusal ≡ 0) × Served xs
 
 -- a call whose held bytes, and behind them what fits of the piece, say a Search to the reader lends these scores and thresholds
-abbrev pub LendsIfSearch : Chip → LineVault → Event → Type 0
-LendsIfSearch χ v (received piece lent) =
+abbrev pub LendsToSearch : Chip → LineVault → Event → Type 0
+LendsToSearch χ v (received piece lent) =
     let h = v .line .receiver in
     (b start count : ℕ) → hear (v .line .settings .address) (take (h .count) (h .held) ++ take (267 - h .count) piece) ≡ order (command (barred (searchFor b start count)))
     → (lent .chip .scores ≡ χ .scores) × (lent .chip .thresholds ≡ χ .thresholds)
-LendsIfSearch χ v switch = Unit {0}
+LendsToSearch χ v switch = Unit {0}
 
 abbrev pub SearchesLent : Chip → LineVault → List (Entry LineVault) → Type 0
 SearchesLent χ v [] = Unit {0}
-SearchesLent χ v (x ∷ xs) = LendsIfSearch χ v (x .event) × SearchesLent χ (x .after) xs
+SearchesLent χ v (x ∷ xs) = LendsToSearch χ v (x .event) × SearchesLent χ (x .after) xs
 
 -- the replies in order; silence is no reply
 abbrev pub repliesOf : List (Entry LineVault) → List (List ℕ)
@@ -94,7 +94,7 @@ same χ (x ∷ xs) v s q o e l = go (x .event) (q .0) (o .0) (l .0) (same χ xs 
     rest : List ℕ
     rest = drop (x .told .used) s
 
-    go : (a : Event) → back (x .told) (x .after) ≡ onLine core (lineIn v) a → FrontOf s a → LendsIfSearch χ v a → Same (x .after) rest χ xs
+    go : (a : Event) → back (x .told) (x .after) ≡ onLine core (lineIn v) a → FrontOf s a → LendsToSearch χ v a → Same (x .after) rest χ xs
         → Same v s χ (record { event = a; told = x .told; after = x .after } ∷ xs)
     go switch p f m i = absurd f
     go (received piece lent) p f m i =
@@ -126,14 +126,14 @@ cells (x ∷ xs) v z q s o e = cells xs (x .after) (go (x .event) (q .0) (o .0))
         ap (λ (h : Handed). length (h .after .receiver .held)) (p ∙ c .does)
         ∙ holding-sized (drop u run) (omega (arith, length-drop u run, few-held (v .line .receiver) piece (c .few)))
 
-record Ends (χ : Chip) (v : LineVault) (s : List ℕ) (xs : List (Entry LineVault)) (z : Entry LineVault) (lent : Lent) : Type 0 where
+record LoopEnds (χ : Chip) (v : LineVault) (s : List ℕ) (xs : List (Entry LineVault)) (z : Entry LineVault) (lent : Lent) : Type 0 where
   serves : T (served core (triesOf xs) (lineIn v) s)
   sees : SearchesSee core χ (triesOf xs) (lineIn v) s
   rests : Rests core (offers core (triesOf xs) (lineIn v) s) lent
   rested : resting core (offers core (triesOf xs) (lineIn v) s) lent ≡ record { replies = repliesOf xs; after = lineIn (z .after); left = [] }
   silent : z .told .length ≡ 0
 
-ends : (χ : Chip) (v : LineVault) → length (v .line .receiver .held) ≡ 267 → (s : List ℕ) (xs : List (Entry LineVault)) (z : Entry LineVault) → (k : Loop χ v s xs z) → Ends χ v s xs z (k .lent)
+ends : (χ : Chip) (v : LineVault) → length (v .line .receiver .held) ≡ 267 → (s : List ℕ) (xs : List (Entry LineVault)) (z : Entry LineVault) → (k : Loop χ v s xs z) → LoopEnds χ v s xs z (k .lent)
 unfolding onLine resting
 ends χ v long s xs z k =
     let c = same χ xs v s (k .calls) (k .offered) (k .served) (k .searches) in

@@ -63,7 +63,7 @@ switch-door v s refusal b d q = (q (v .memory .templates) (v .memory .index) (v 
 -- ---- a sequence of calls, in the words of its entries
 
 -- each call is made on what the one before it left; what came back, and what lies there after the last
-pub record Sequence {S : Type 0} (v : S) (x y : Entry S) (xs : List (Entry S)) (mark : S → ℕ) : Type 0 where
+pub record Entries {S : Type 0} (v : S) (x y : Entry S) (xs : List (Entry S)) (mark : S → ℕ) : Type 0 where
   pub last-none : lastOf v [] ≡ v
   pub last-more : lastOf v (x ∷ xs) ≡ lastOf (x .after) xs
   pub events : eventsOf (x ∷ xs) ≡ x .event ∷ eventsOf xs
@@ -73,8 +73,8 @@ pub record Sequence {S : Type 0} (v : S) (x y : Entry S) (xs : List (Entry S)) (
   pub until-one : Until mark (x ∷ [])
   pub until-more : Until mark (x ∷ y ∷ xs) ↔ ((mark (x .after) ≢ 1) × Until mark (y ∷ xs))
 
-pub sequence : {S : Type 0} (v : S) (x y : Entry S) (xs : List (Entry S)) (mark : S → ℕ) → Sequence v x y xs mark
-sequence v x y xs mark =
+pub entries : {S : Type 0} (v : S) (x y : Entry S) (xs : List (Entry S)) (mark : S → ℕ) → Entries v x y xs mark
+entries v x y xs mark =
     record { last-none = refl; last-more = refl; events = refl; told = refl; until-none = tt; until-one = tt; until-more = (λ u. u, λ u. u) }
 
 -- a call of bystrodol_step in it, and a line switch: what each told, and the reader that it left; and what the host saw

@@ -36,8 +36,8 @@ use Rattle.protocol.proofs.Promises.FromC.{same-vault, LegalVault, vaul
 -- ---- "its copy with only the verified mark changed"
 
 -- these settings with this verified mark
-abbrev pub marked : ℕ → Settings → Settings
-marked k s =
+abbrev pub withVerified : ℕ → Settings → Settings
+withVerified k s =
     record {
       password = s .password;
       address = s .address;
@@ -55,14 +55,14 @@ marked k s =
       origin2 = s .origin2;
     }
 
-remarked : (s : Settings) (m : Memory) → Marked s → (k : ℕ) → k ≤ 1 → readerAt (marked k s) m ≡ mark (eqb k 1) (readerAt s m)
+remarked : (s : Settings) (m : Memory) → Marked s → (k : ℕ) → k ≤ 1 → readerAt (withVerified k s) m ≡ mark (eqb k 1) (readerAt s m)
 remarked s m h k l =
-    rw (beside-marked (marked k s) record { verified = l; filled1 = h .filled1; filled2 = h .filled2; found = h .found }, beside-marked s h) refl
+    rw (beside-marked (withVerified k s) record { verified = l; filled1 = h .filled1; filled2 = h .filled2; found = h .found }, beside-marked s h) refl
 
 -- ---- the first half
 
 -- the call answered 21h at the front of the reply room; settings and memory are as they were
-pub record Barred (s : Settings) (lent : Lent) (m : Memory) (t : Told) (s′ : Settings) (m′ : Memory) : Type 0 where
+pub record BarsFromC (s : Settings) (lent : Lent) (m : Memory) (t : Told) (s′ : Settings) (m′ : Memory) : Type 0 where
   pub reply : take (t .length) (t .room) ≡ acknowledge (s .address) 0x21 []
   pub room : t .room ≡ lay 0 (acknowledge (s .address) 0x21 []) (lent .room)
   pub settings : s′ ≡ s
@@ -71,14 +71,14 @@ pub record Barred (s : Settings) (lent : Lent) (m : Memory) (t : Told) (s′ : S
 -- both calls got back the same, but for status bits 1 and 2 and the check sum where the run asks for ReadSysPara; and end alike but for the mark
 pub record SameButMark (a run : List ℕ) (t u : Told) (s z : Settings) (m n : Memory) : Type 0 where
   pub told : (t ≡ u) ⊎ (AsksParameters a run × ButStatus t u)
-  pub settings : (k : ℕ) → marked k s ≡ marked k z
+  pub settings : (k : ℕ) → withVerified k s ≡ withVerified k z
   pub memory : m ≡ n
 
 -- of the settings s and the memory m: the locked one's call told t and left s₁ and m₁, its verified copy's told u and left s₂ and m₂
 pub record HalfFromC (s : Settings) (m : Memory) (run : List ℕ) (lent : Lent) (t : Told) (s₁ : Settings) (m₁ : Memory) (u : Told) (s₂ : Settings) (m₂ : Memory) : Type 0 where
   pub refusal : t .refusal ≡ u .refusal
   pub used : t .used ≡ u .used
-  pub answers : Barred s lent m t s₁ m₁ ⊎ SameButMark (s .address) run t u s₁ s₂ m₁ m₂
+  pub answers : BarsFromC s lent m t s₁ m₁ ⊎ SameButMark (s .address) run t u s₁ s₂ m₁ m₂
 
 half-bytes : (s : Settings) (m : Memory) (run : List ℕ) (lent : Lent) (t : Told) (s₁ : Settings) (m₁ : Memory) (u : Told) (s₂ : Settings) (m₂ : Memory) → Marked s₁ → Marked s₂
     → FirstHalf (readerAt s m) run lent record { told = t; after = readerAt s₁ m₁ } record { told = u; after = readerAt s₂ m₂ } → HalfFromC s m run lent t s₁ m₁ u s₂ m₂
@@ -86,16 +86,16 @@ unfolding replyOf
 half-bytes s m run lent t s₁ m₁ u s₂ m₂ h k f = record { refusal = f .refusal; used = f .used; answers = go (f .answers) }
   where
     go : Bars (readerAt s m) lent record { told = t; after = readerAt s₁ m₁ } ⊎ Alike (s .address) run record { told = t; after = readerAt s₁ m₁ } record { told = u; after = readerAt s₂ m₂ }
-        → Barred s lent m t s₁ m₁ ⊎ SameButMark (s .address) run t u s₁ s₂ m₁ m₂
+        → BarsFromC s lent m t s₁ m₁ ⊎ SameButMark (s .address) run t u s₁ s₂ m₁ m₂
     go (inl b) = let o = same-vault s₁ s m₁ m (b .after) in inl record { reply = b .reply; room = b .room; settings = o .0; memory = o .1 }
     go (inr a) =
-        let o = same-vault (marked 0 s₁) (marked 0 s₂) m₁ m₂ (remarked s₁ m₁ h 0 (omega arith) ∙ a .after false ∙ sym (remarked s₂ m₂ k 0 (omega arith))) in
-        inr record { told = a .told; settings = λ k. ap (marked k) (o .0); memory = o .1 }
+        let o = same-vault (withVerified 0 s₁) (withVerified 0 s₂) m₁ m₂ (remarked s₁ m₁ h 0 (omega arith) ∙ a .after false ∙ sym (remarked s₂ m₂ k 0 (omega arith))) in
+        inr record { told = a .told; settings = λ k. ap (withVerified k) (o .0); memory = o .1 }
 
 module _ (s : Settings) (m : Memory) where
   -- the vault, and its copy with only the verified mark changed
   abbrev pub vault : ℕ → Vault
-  vault k = record { settings = marked k s; memory = m }
+  vault k = record { settings = withVerified k s; memory = m }
 
   module _ (l : LegalVault (vault 0)) (key : s .password ≢ 0 ∷ 0 ∷ 0 ∷ 0 ∷ []) (none : s .transfer ≡ 0) where
     at : Reader
@@ -105,12 +105,12 @@ module _ (s : Settings) (m : Memory) where
     unfolding at
     keys = words.kept .keyed-means (at .plain) .1 key
 
-    fit : Marked (marked 0 s)
+    fit : Marked (withVerified 0 s)
     fit = vault-marks (vault 0) l
 
     still : at .plain .transfer ≡ closed
     unfolding at transferOf
-    still = beside-marked (marked 0 s) fit ∙ go (s .transfer) (s .got) none (subst (LegalTransfer (at .plain) (at .guarded)) (beside-marked (marked 0 s) fit) (legal-means at (l .legal) .settings .transfer))
+    still = beside-marked (withVerified 0 s) fit ∙ go (s .transfer) (s .got) none (subst (LegalTransfer (at .plain) (at .guarded)) (beside-marked (withVerified 0 s) fit) (legal-means at (l .legal) .settings .transfer))
       where
         go : (w k : ℕ) → w ≡ 0 → LegalTransfer (at .plain) (at .guarded) (transferOf w k) → transferOf w k ≡ closed
         go zero zero e t = refl
@@ -119,7 +119,7 @@ module _ (s : Settings) (m : Memory) where
 
     copy : readerIn (vault 1) ≡ mark true at
     unfolding at
-    copy = remarked (marked 0 s) m fit 1 (omega arith)
+    copy = remarked (withVerified 0 s) m fit 1 (omega arith)
 
     copy-legal : LegalVault (vault 1)
     unfolding at
@@ -132,21 +132,21 @@ module _ (s : Settings) (m : Memory) where
     -- "On any received run, the locked one answers 21h and changes nothing, or both answer the same bytes and end alike but for that mark."
     pub vault-first-half : (run : List ℕ) (lent : Lent) (t u : Told) (w z : Vault) → Steps (vault 0) (record { event = received run lent; told = t; after = w } ∷ [])
         → Steps (vault 1) (record { event = received run lent; told = u; after = z } ∷ [])
-        → HalfFromC (marked 0 s) m run lent t (w .settings) (w .memory) u (z .settings) (z .memory)
+        → HalfFromC (withVerified 0 s) m run lent t (w .settings) (w .memory) u (z .settings) (z .memory)
     unfolding at on
     vault-first-half run lent t u w z p q =
         let o = vault-marks w (vault-legal (vault 0) (record { event = received run lent; told = t; after = w } ∷ []) p l) in
         let k = vault-marks z (vault-legal (vault 1) (record { event = received run lent; told = u; after = z } ∷ []) q copy-legal) in
-        half-bytes (marked 0 s) m run lent t (w .settings) (w .memory) u (z .settings) (z .memory) o k
+        half-bytes (withVerified 0 s) m run lent t (w .settings) (w .memory) u (z .settings) (z .memory) o k
         (subst (λ (e : Ended). FirstHalf at run lent e record { told = u; after = readerIn z }) (sym (p .0))
         (subst (λ (e : Ended). FirstHalf at run lent (callOf core at run lent) e) (sym (q .0 ∙ ap (λ (r : Reader). callOf core r run lent) copy)) (first-half at keys still core (l .legal) run lent)))
 
     -- the same with a receiver, on what is held then, `run`; and the two hold the same bytes after it
     pub line-vault-first-half : (h : Receiver) → h .count ≤ 267 → (piece : List ℕ) (lent : Lent) (t u : Told) (w z : LineVault)
-        → Receives record { line = record { settings = marked 0 s; receiver = h }; memory = m } (record { event = received piece lent; told = t; after = w } ∷ [])
-        → Receives record { line = record { settings = marked 1 s; receiver = h }; memory = m } (record { event = received piece lent; told = u; after = z } ∷ [])
+        → Receives record { line = record { settings = withVerified 0 s; receiver = h }; memory = m } (record { event = received piece lent; told = t; after = w } ∷ [])
+        → Receives record { line = record { settings = withVerified 1 s; receiver = h }; memory = m } (record { event = received piece lent; told = u; after = z } ∷ [])
         → (let run = take (h .count) (h .held) ++ take (267 - h .count) piece in
-        HalfFromC (marked 0 s) m run lent t (w .line .settings) (w .memory) u (z .line .settings) (z .memory) × (w .line .receiver ≡ z .line .receiver))
+        HalfFromC (withVerified 0 s) m run lent t (w .line .settings) (w .memory) u (z .line .settings) (z .memory) × (w .line .receiver ≡ z .line .receiver))
     unfolding at onLine runOf bytesIn fitting holds longest
     line-vault-first-half h few piece lent t u w z p q =
         let o = line-marks w (line-vault-legal _ (record { event = received piece lent; told = t; after = w } ∷ []) p record { reader = l; few = few }) in
@@ -157,7 +157,7 @@ module _ (s : Settings) (m : Memory) where
         (subst (λ (e : Handed). ReceiverHalf at run lent (receiveOf core (line at h) piece lent) e) (sym (q .0 ∙ ap (λ (r : Reader). receiveOf core (line r h) piece lent) copy))
         (receiver-first-half core at keys still (l .legal) h piece lent))
         in
-        (half-bytes (marked 0 s) m run lent t (w .line .settings) (w .memory) u (z .line .settings) (z .memory) o k (half .half), half .receiver)
+        (half-bytes (withVerified 0 s) m run lent t (w .line .settings) (w .memory) u (z .line .settings) (z .memory) o k (half .half), half .receiver)
 
 -- ---- the second half
 
@@ -199,22 +199,22 @@ plain-open s z h k e =
     }
 
 -- a line switch is among the events
-abbrev pub Switches : List Event → Type 0
-Switches [] = ⊥
-Switches (received run lent ∷ es) = Switches es
-Switches (switch ∷ es) = Unit {0}
+abbrev pub HasSwitch : List Event → Type 0
+HasSwitch [] = ⊥
+HasSwitch (received run lent ∷ es) = HasSwitch es
+HasSwitch (switch ∷ es) = Unit {0}
 
 -- "these contents stay as they were, save that a line switch wipes the two buffers and clears their filled marks", makes their origins none and clears the found mark
 pub record Stay (es : List Event) (s : Settings) (m : Memory) (s′ : Settings) (m′ : Memory) : Type 0 where
   pub templates : m′ .templates ≡ m .templates
   pub index : m′ .index ≡ m .index
   pub notepad : m′ .notepad ≡ m .notepad
-  pub buffers : (Switches es → ⊥) → (m′ .buffer1 ≡ m .buffer1) × (m′ .buffer2 ≡ m .buffer2)
-  pub marks : (Switches es → ⊥) → (s′ .filled1 ≡ s .filled1) × ((s′ .filled2 ≡ s .filled2) × (s′ .found ≡ s .found))
-  pub origins : (Switches es → ⊥) → (s′ .origin1 ≡ s .origin1) × (s′ .origin2 ≡ s .origin2)
-  pub wiped-buffers : Switches es → (m′ .buffer1 ≡ replicate 512 0) × (m′ .buffer2 ≡ replicate 512 0)
-  pub wiped-marks : Switches es → (s′ .filled1 ≡ 0) × ((s′ .filled2 ≡ 0) × (s′ .found ≡ 0))
-  pub wiped-origins : Switches es → (s′ .origin1 ≡ 65535) × (s′ .origin2 ≡ 65535)
+  pub buffers : (HasSwitch es → ⊥) → (m′ .buffer1 ≡ m .buffer1) × (m′ .buffer2 ≡ m .buffer2)
+  pub marks : (HasSwitch es → ⊥) → (s′ .filled1 ≡ s .filled1) × ((s′ .filled2 ≡ s .filled2) × (s′ .found ≡ s .found))
+  pub origins : (HasSwitch es → ⊥) → (s′ .origin1 ≡ s .origin1) × (s′ .origin2 ≡ s .origin2)
+  pub wiped-buffers : HasSwitch es → (m′ .buffer1 ≡ replicate 512 0) × (m′ .buffer2 ≡ replicate 512 0)
+  pub wiped-marks : HasSwitch es → (s′ .filled1 ≡ 0) × ((s′ .filled2 ≡ 0) × (s′ .found ≡ 0))
+  pub wiped-origins : HasSwitch es → (s′ .origin1 ≡ 65535) × (s′ .origin2 ≡ 65535)
 
 kept-wiped : (es : List Event) (g : Guarded) → kept (wiped g) es ≡ wiped g
 unfolding kept wiped
@@ -222,13 +222,13 @@ kept-wiped [] g = refl
 kept-wiped (received run lent ∷ es) g = kept-wiped es g
 kept-wiped (switch ∷ es) g = kept-wiped es g
 
-kept-still : (es : List Event) (g : Guarded) → (Switches es → ⊥) → kept g es ≡ g
+kept-still : (es : List Event) (g : Guarded) → (HasSwitch es → ⊥) → kept g es ≡ g
 unfolding kept
 kept-still [] g n = refl
 kept-still (received run lent ∷ es) g n = kept-still es g n
 kept-still (switch ∷ es) g n = absurd (n tt)
 
-kept-switched : (es : List Event) (g : Guarded) → Switches es → kept g es ≡ wiped g
+kept-switched : (es : List Event) (g : Guarded) → HasSwitch es → kept g es ≡ wiped g
 unfolding kept
 kept-switched [] g y = absurd y
 kept-switched (received run lent ∷ es) g y = kept-switched es g y
