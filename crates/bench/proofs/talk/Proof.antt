@@ -29,11 +29,8 @@ begun c = search
 unfoldable pieced : tie.After-answer Inv-loop μ-loop → tie.After-read Inv-loop μ-loop
 pieced c = search
 
-empty-requires : tie.Need-empty-requires Inv-loop μ-loop
-empty-requires c κs = search needs
-
-fresh-requires : tie.Need-fresh-requires Inv-loop μ-loop
-fresh-requires c κs = search needs
+start-requires : tie.Need-start-requires Inv-loop μ-loop
+start-requires c κs = search needs
 
 loop-holds : tie.Need-loop-holds Inv-loop μ-loop
 loop-holds c = (search kept-all, (refl, refl))
@@ -179,8 +176,7 @@ talk-spec =
     (tie.spec
     Inv-loop
     μ-loop
-    empty-requires
-    fresh-requires
+    start-requires
     loop-holds
     read-requires
     same-length
