@@ -1,8 +1,7 @@
 -- What the program starts with: "starts fresh with 64 zeroed pages".
 use mathlib.Core.Path.{_≡_}
 use mathlib.Core.List.{List}
-use Prim.Native.Nat.{_*_}
-use Prim.Native.Nat.{ℕ}
+use Prim.Native.Nat.{ℕ, _*_}
 use Rattle.protocol.specs.Numbers.{pageBytes, benchPages, indexBytes, notepadBytes}
 use Rattle.protocol.specs.Bytes.{zeros}
 

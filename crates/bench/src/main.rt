@@ -33,13 +33,7 @@ struct Line {
 }
 
 // The line that the program starts with. It is lent the memory so that its contract can speak of the whole reader.
-fn start(
-    templates: &[u8],
-    index: &[u8],
-    notepad: &[u8],
-    buffer1: &[u8],
-    buffer2: &[u8],
-) -> Line
+fn start(templates: &[u8], index: &[u8], notepad: &[u8], buffer1: &[u8], buffer2: &[u8]) -> Line
     requires { ⌜ Zeroed (now templates) (now index) (now notepad) (now buffer1) (now buffer2) ⌝ }
     ensures { λ r. ⌜ line (readerOf (r .settings) (now (templates .entry)) (now (index .entry)) (now (notepad .entry)) (now (buffer1 .entry)) (now (buffer2 .entry))) (r .receiver) ≡ started ⌝ }
 {
@@ -137,18 +131,16 @@ fn talk(
 )
     requires { ⌜ Zeroed (now templates) (now index) (now notepad) (now buffer1) (now buffer2) ⌝ }
 {
-    let begun = start(templates, index, notepad, buffer1, buffer2);
-    let mut held = begun.receiver;
-    let mut current = begun.settings;
+    let mut line = start(templates, index, notepad, buffer1, buffer2);
     let mut turns = u64::MAX;
     while turns > 0 {
         let n = read(piece);
         if n == 0 {
             return;
         }
-        let a = answer(
-            held,
-            current,
+        line = answer(
+            line.receiver,
+            line.settings,
             templates,
             index,
             notepad,
@@ -157,11 +149,9 @@ fn talk(
             &piece[..n],
             reply,
         );
-        if !a.is_open {
+        if !line.is_open {
             return;
         }
-        held = a.receiver;
-        current = a.settings;
         turns -= 1;
     }
 }

@@ -9,11 +9,11 @@ use Rattle.bench.proofs.talk.Statement.{statement}
 use Rattle.bench.proofs.talk.Tie as tie
 
 abbrev Inv-loop : tie.InvT-loop
-Inv-loop templates₀ index₀ notepad₀ buffer1₀ buffer2₀ piece₀ reply₀ held₀ current₀ turns₀ templates index notepad buffer1 buffer2 piece reply held current turns =
-    Kept (readerOf current₀ templates₀ index₀ notepad₀ buffer1₀ buffer2₀) (readerOf current templates index notepad buffer1 buffer2) × ((length piece ≡ length piece₀) × (length reply ≡ length reply₀))
+Inv-loop templates₀ index₀ notepad₀ buffer1₀ buffer2₀ piece₀ reply₀ line₀ turns₀ templates index notepad buffer1 buffer2 piece reply line turns =
+    Kept (readerOf (line₀ .settings) templates₀ index₀ notepad₀ buffer1₀ buffer2₀) (readerOf (line .settings) templates index notepad buffer1 buffer2) × ((length piece ≡ length piece₀) × (length reply ≡ length reply₀))
 
 abbrev μ-loop : tie.MeasureT-loop
-μ-loop templates₀ index₀ notepad₀ buffer1₀ buffer2₀ piece₀ reply₀ held₀ current₀ turns₀ templates index notepad buffer1 buffer2 piece reply held current turns =
+μ-loop templates₀ index₀ notepad₀ buffer1₀ buffer2₀ piece₀ reply₀ line₀ turns₀ templates index notepad buffer1 buffer2 piece reply line turns =
     turns
 
 -- from behind the answer back to it, and to the loop's test
