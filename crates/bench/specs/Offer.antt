@@ -5,7 +5,7 @@ use mathlib.Core.List.{List, _++_}
 use Prim.Native.Nat.{ℕ, _+_, _-_, _*_, _≤_, _<_}
 use lib.Dec.{eqb}
 use lib.ListN.{length}
-use Rattle.protocol.specs.Numbers.{holds}
+use Rattle.protocol.specs.Numbers.{holds, benchPages, levels}
 use Rattle.protocol.specs.Bytes.{zeros}
 use Rattle.protocol.specs.Call.{core, Lent}
 use Rattle.protocol.specs.Receiver.{bytesIn, Line, Handed, receiveOf}
@@ -14,10 +14,10 @@ use Rattle.protocol.specs.Records.{chipOf}
 
 -- what the program lends for want of a chip: a score of 0 for each of its 64 pages, and five thresholds of 0
 abbrev pub noScores : List ℕ
-noScores = zeros 64
+noScores = zeros benchPages
 
 abbrev pub noThresholds : List ℕ
-noThresholds = zeros 5
+noThresholds = zeros levels
 
 -- the last call: it took nothing, and left the held count as it was before
 abbrev pub isLast : ℕ → ℕ → ℕ → Bool

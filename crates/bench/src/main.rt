@@ -7,7 +7,9 @@ ghost use mathlib.Core.Path.{_≡_};
 ghost use lib.ListN.{length};
 ghost use Rattle.protocol.specs.Receiver.{line};
 ghost use Rattle.protocol.specs.Records.{readerOf};
+ghost use Rattle.protocol.specs.Bench.{started};
 ghost use Rattle.bench.specs.Offer.{Drained};
+ghost use Rattle.bench.specs.Start.{Zeroed};
 use libc::STDERR_FILENO;
 use libc::STDIN_FILENO;
 use libc::STDOUT_FILENO;
@@ -28,6 +30,18 @@ struct Line {
     receiver: Receiver,
     settings: Settings,
     is_open: bool,
+}
+
+// The line that the program starts with. It is lent the memory so that its contract can speak of the whole reader.
+fn start(templates: &[u8], index: &[u8], notepad: &[u8], buffer1: &[u8], buffer2: &[u8]) -> Line
+    requires { ⌜ Zeroed (now templates) (now index) (now notepad) (now buffer1) (now buffer2) ⌝ }
+    ensures { λ r. ⌜ line (readerOf (r .settings) (now (templates .entry)) (now (index .entry)) (now (notepad .entry)) (now (buffer1 .entry)) (now (buffer2 .entry))) (r .receiver) ≡ started ⌝ }
+{
+    Line {
+        receiver: receiver::empty(),
+        settings: settings::fresh(),
+        is_open: true,
+    }
 }
 
 // Offers a piece up to the last call, and writes each reply. A refusal and a failed write close the line.
@@ -114,18 +128,19 @@ fn talk(
     buffer2: &mut [u8],
     piece: &mut [u8],
     reply: &mut [u8],
-) {
-    let mut held = receiver::empty();
-    let mut current = settings::fresh();
+)
+    requires { ⌜ Zeroed (now templates) (now index) (now notepad) (now buffer1) (now buffer2) ⌝ }
+{
+    let mut line = start(templates, index, notepad, buffer1, buffer2);
     let mut turns = u64::MAX;
     while turns > 0 {
         let n = read(piece);
         if n == 0 {
             return;
         }
-        let a = answer(
-            held,
-            current,
+        line = answer(
+            line.receiver,
+            line.settings,
             templates,
             index,
             notepad,
@@ -134,11 +149,9 @@ fn talk(
             &piece[..n],
             reply,
         );
-        if !a.is_open {
+        if !line.is_open {
             return;
         }
-        held = a.receiver;
-        current = a.settings;
         turns -= 1;
     }
 }

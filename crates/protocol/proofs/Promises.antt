@@ -51,4 +51,5 @@ pub mod LongLimits
 pub mod ReceiverExample
 pub mod Met
 pub mod Examples
+pub mod Bench
 pub mod Services

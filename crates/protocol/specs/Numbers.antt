@@ -43,6 +43,10 @@ replyRoom = 700
 abbrev pub levels : ℕ
 levels = 5
 
+-- the pages of the bench program
+abbrev pub benchPages : ℕ
+benchPages = 64
+
 -- a password, and an address
 abbrev pub fourBytes : ℕ
 fourBytes = 4

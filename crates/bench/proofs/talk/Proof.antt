@@ -9,11 +9,11 @@ use Rattle.bench.proofs.talk.Statement.{statement}
 use Rattle.bench.proofs.talk.Tie as tie
 
 abbrev Inv-loop : tie.InvT-loop
-Inv-loop templates₀ index₀ notepad₀ buffer1₀ buffer2₀ piece₀ reply₀ held₀ current₀ turns₀ templates index notepad buffer1 buffer2 piece reply held current turns =
-    Kept (readerOf current₀ templates₀ index₀ notepad₀ buffer1₀ buffer2₀) (readerOf current templates index notepad buffer1 buffer2) × ((length piece ≡ length piece₀) × (length reply ≡ length reply₀))
+Inv-loop templates₀ index₀ notepad₀ buffer1₀ buffer2₀ piece₀ reply₀ line₀ turns₀ templates index notepad buffer1 buffer2 piece reply line turns =
+    Kept (readerOf (line₀ .settings) templates₀ index₀ notepad₀ buffer1₀ buffer2₀) (readerOf (line .settings) templates index notepad buffer1 buffer2) × ((length piece ≡ length piece₀) × (length reply ≡ length reply₀))
 
 abbrev μ-loop : tie.MeasureT-loop
-μ-loop templates₀ index₀ notepad₀ buffer1₀ buffer2₀ piece₀ reply₀ held₀ current₀ turns₀ templates index notepad buffer1 buffer2 piece reply held current turns =
+μ-loop templates₀ index₀ notepad₀ buffer1₀ buffer2₀ piece₀ reply₀ line₀ turns₀ templates index notepad buffer1 buffer2 piece reply line turns =
     turns
 
 -- from behind the answer back to it, and to the loop's test
@@ -29,11 +29,8 @@ begun c = search
 unfoldable pieced : tie.After-answer Inv-loop μ-loop → tie.After-read Inv-loop μ-loop
 pieced c = search
 
-empty-requires : tie.Need-empty-requires Inv-loop μ-loop
-empty-requires c κs = search needs
-
-fresh-requires : tie.Need-fresh-requires Inv-loop μ-loop
-fresh-requires c κs = search needs
+start-requires : tie.Need-start-requires Inv-loop μ-loop
+start-requires c κs = search needs
 
 loop-holds : tie.Need-loop-holds Inv-loop μ-loop
 loop-holds c = (search kept-all, (refl, refl))
@@ -179,8 +176,7 @@ talk-spec =
     (tie.spec
     Inv-loop
     μ-loop
-    empty-requires
-    fresh-requires
+    start-requires
     loop-holds
     read-requires
     same-length

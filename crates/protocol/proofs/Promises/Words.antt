@@ -8,7 +8,7 @@ use native.Mathlib.Omega.{arith}
 use lib.Dec.{T, eqb, T-not, not-T}
 use borrow.Author.Tests.{eqb-true, eq-eqb, ne-eqb}
 use lib.ListN.{length, getD, take, replicate}
-use Rattle.protocol.specs.Numbers.{pageBytes, leastPages, mostPages, indexBytes, indexPageBytes, oldIndexBytes, addedBytes, notepadBytes, noteBytes, replyRoom, fourBytes, levels, lowestLevel, highestLevel, lowestBaud, highestBaud, highestSize, baudParameter, levelParameter, sizeParameter, verifiedStatus, foundStatus, firstMark, secondMark, headBytes, frameBytes, commandPacket, dataPacket, acknowledgePacket, lastPacket, shortest, longest, longestOther, holds, done, badPacket, notFound, badPage, nothingThere, nothingToSend, transferFailed, badRange, wrongPassword, unknownCommand, badParameter, badValue, badNotePage, passwordFirst, pageTaken, badLength, badRoom, badSetting, badContent, noCount, noPage}
+use Rattle.protocol.specs.Numbers.{pageBytes, leastPages, mostPages, indexBytes, indexPageBytes, oldIndexBytes, addedBytes, notepadBytes, noteBytes, replyRoom, fourBytes, levels, benchPages, lowestLevel, highestLevel, lowestBaud, highestBaud, highestSize, baudParameter, levelParameter, sizeParameter, verifiedStatus, foundStatus, firstMark, secondMark, headBytes, frameBytes, commandPacket, dataPacket, acknowledgePacket, lastPacket, shortest, longest, longestOther, holds, done, badPacket, notFound, badPage, nothingThere, nothingToSend, transferFailed, badRange, wrongPassword, unknownCommand, badParameter, badValue, badNotePage, passwordFirst, pageTaken, badLength, badRoom, badSetting, badContent, noCount, noPage}
 use Rattle.protocol.specs.Bytes.{Bytes, two, four, same, lay, joined}
 use Rattle.protocol.specs.Tests.{countBelow}
 use Rattle.protocol.specs.Index.{bit, stored, setBits}
@@ -25,10 +25,10 @@ use Rattle.protocol.proofs.Laws.Count.{set-weights}
 
 pub record Numbers : Type 0 where
   -- a page, C from 1 to 1000, the index and the part of it that ReadIndexTable gives, the notepad and its page, the reply room, an address; by request [8]
-  -- the thresholds
+  -- the thresholds; and the bench program's pages
   pub memory :
-      (pageBytes ∷ leastPages ∷ mostPages ∷ indexBytes ∷ indexPageBytes ∷ notepadBytes ∷ noteBytes ∷ replyRoom ∷ fourBytes ∷ levels ∷ [])
-      ≡ (512 ∷ 1 ∷ 1000 ∷ 128 ∷ 32 ∷ 512 ∷ 32 ∷ 700 ∷ 4 ∷ 5 ∷ [])
+      (pageBytes ∷ leastPages ∷ mostPages ∷ indexBytes ∷ indexPageBytes ∷ notepadBytes ∷ noteBytes ∷ replyRoom ∷ fourBytes ∷ levels ∷ benchPages ∷ [])
+      ≡ (512 ∷ 1 ∷ 1000 ∷ 128 ∷ 32 ∷ 512 ∷ 32 ∷ 700 ∷ 4 ∷ 5 ∷ 64 ∷ [])
   -- request [6]: an index stored before it, and the zero bytes that bring it over
   pub added : (oldIndexBytes ∷ addedBytes ∷ []) ≡ (32 ∷ 96 ∷ [])
   -- level 1 to 5, baud factor 1 to 12, size code up to 3
