@@ -32,8 +32,8 @@
  *     them at once: so such a memory always has its settings, and a later version's fresh settings never take their place.
  *   A loop. Read what the port has, a piece of any length, and offer it until a call takes nothing and leaves the held count:
  *     then, if it was not refused, all is taken, nothing was answered, and there is nothing left to do. How the bytes were cut
- *     makes no difference, if scores and thresholds are the same at every call. MEMORY stands for the arguments from templates to
- *     thresholds_length; piece is not NULL here.
+ *     makes no difference, if every call that deals with a Search lends the same scores and thresholds. MEMORY stands for the
+ *     arguments from templates to thresholds_length; piece is not NULL here.
  *         do {
  *             held = line.receiver.count;
  *             r = bystrodol_receive(&line, MEMORY, piece, length, reply, sizeof reply);
@@ -43,9 +43,10 @@
  *     among them. The next call writes over them, so send ends only when they have left or are copied. A refused call ends
  *     the loop, too. If r.refusal is not 0, stop: the same call will be refused again.
  *   Scores. The sensor chip gives a score for each page, stored or not, and a threshold for each security level. They are lent at every
- *     call, whatever its packet, and may be new each time; no call writes them. A Search sees those of the call that deals with it. The
- *     core cannot tell what the chip compared, nor when: scores of the other buffer, or of pages as they were, are answered as if they
- *     were right. So make them anew when a buffer or a page has changed, before the next call.
+ *     call, whatever its packet, and may be new each time; no call writes them. A Search sees those of the call that deals with it. Any
+ *     other call looks at their lengths alone. The core cannot tell what the chip compared, nor when: scores of the other buffer, or of
+ *     pages as they were, are answered as if they were right. So make them anew when a buffer or a page has changed, before the next
+ *     call.
  *     A board without a chip that wants Search to find nothing lends scores of 0 and thresholds of 65535. If it lends zeros for both,
  *     every stored page matches with score 0, and a Search finds the lowest stored page of its range: then 00h of Search identifies
  *     nobody, and neither board nor host may take it for that.

@@ -119,7 +119,7 @@ module _ (x₀ : Line) (piece : List ℕ) (x : Line) (from : ℕ) (k : Offering 
       let whole : o ≡ receiveOf core x (take (length s) s) lent = here ∙ ap (λ (y : List ℕ). receiveOf core x y lent) (sym all) in
       let next : drained χ (x .reader) (bytesIn (x .receiver) ++ s) .after ≡ drained χ (o .after .reader) (bytesIn (o .after .receiver) ++ drop (o .told .used) s) .after =
       subst (λ (y : Handed). drained χ (x .reader) (bytesIn (x .receiver) ++ s) .after ≡ drained χ (y .after .reader) (bytesIn (y .after .receiver) ++ drop (y .told .used) s) .after) (sym whole)
-      (ap (λ (d : Ran). d .after) (offered core χ x (length s) s lent refl (subst (λ (y : Handed). y .told .refusal ≡ 0) whole e)) ∙ after-replied _ _)
+      (ap (λ (d : Ran). d .after) (offered core χ x (length s) s lent (λ i. refl) (subst (λ (y : Handed). y .told .refusal ≡ 0) whole e)) ∙ after-replied _ _)
       in
       record {
         inside = omega (arith, f .taken, k .inside, length-take (length piece - from) (drop from piece), length-drop from piece);

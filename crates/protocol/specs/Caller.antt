@@ -46,8 +46,8 @@ served σ (t ∷ ts) x s =
     let o = receiveOf σ x (take (t .size) s) (t .lent) in
     eqb (o .told .refusal) 0 && served σ ts (o .after) (drop (o .told .used) s)
 
--- by request [8] "scores and thresholds are lent at each call and may be new each time", and a Search sees those of the call that deals with it: each of these
--- calls that deals with a Search lends these
+-- Scores and thresholds are "lent at each call and may be new each time" (request [8]), and a Search sees those of the call that deals with it. Here each call that
+-- deals with a Search lends these
 unfoldable pub SearchesSee : Shape → Chip → List Try → Line → List ℕ → Type 0
 SearchesSee σ χ [] x s = Unit {0}
 SearchesSee σ χ (t ∷ ts) x s =

@@ -118,7 +118,7 @@ module _ (σ : Shape) (ok : σ .most ≤ 8 * σ .indexed) where
         (eq→eqb (o .told .refusal) 0 (ready-accepted c x k (take (t .size) s) (t .lent) (and-l (fitLent c (t .lent)) (lendsFit c ts) u)))
         (ready-served ts (o .after) (drop (o .told .used) s) (ready-receive c x k (take (t .size) s) (t .lent)) (and-r (fitLent c (t .lent)) (lendsFit c ts) u))
 
-    -- so, from a legal start, where a run was cut does not matter
+    -- so, from a legal start, where a run was cut does not matter, if each Search sees the same scores and thresholds
     pub cuts-alike : (χ : Chip) (x : Line) → Ready c x → (s : List ℕ) (ts us : List Try) (one other : Lent) → T (lendsFit c ts) → T (lendsFit c us) → SearchesSee σ χ ts x s → SearchesSee σ χ us x s
         → Rests σ (offers σ ts x s) one → Rests σ (offers σ us x s) other → resting σ (offers σ ts x s) one ≡ resting σ (offers σ us x s) other
     cuts-alike χ x k s ts us one other u v = cut-free σ χ x s ts us one other (ready-served ts x s k u) (ready-served us x s k v)
