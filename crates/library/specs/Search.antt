@@ -1,13 +1,17 @@
 -- What the search finds in any lent index and scores.
-use mathlib.Core.Bool.{_&&_, cond}
+use mathlib.Core.Bool.{false, _&&_, cond}
 use mathlib.Core.List.{List}
-use Prim.Native.Nat.{ℕ, _≤_}
-use lib.Dec.{leb}
+use Prim.Native.Nat.{ℕ, _-_, _≤_}
+use lib.Dec.{ltb, leb}
 use lib.ListN.{length}
 use Rattle.protocol.specs.declared.Match.{Match}
 use Rattle.protocol.specs.Numbers.{mostPages}
 use Rattle.protocol.specs.Index.{bits}
-use Rattle.protocol.specs.Search.{scoreAt, nobody, eligible, bestOf, pagesFrom}
+use Rattle.protocol.specs.Search.{scoreAt, hit, nobody, eligible, bestOf, pagesFrom}
+
+-- a page, with one less than the least score that is better; found where that least is above the threshold
+unfoldable pub matchOf : ℕ → ℕ → ℕ → Match
+matchOf threshold least page = cond (ltb threshold least) (hit page (least - 1)) record { found = false; page = page; score = 0 }
 
 -- the best of the pages from p to before p + n, cut at the last score; none where there are more scores than a library has pages, or the index has bits for fewer
 unfoldable pub bestIn : List ℕ → List ℕ → ℕ → ℕ → ℕ → Match

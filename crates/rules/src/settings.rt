@@ -193,16 +193,7 @@ fn is_plain_fit(s: Settings) -> bool
 fn has_fit_marks(s: Settings) -> bool
     ensures { λ r. ⌜ r ≡ fitMarks (marksOf s) ⌝ }
 {
-    if 1 < s.verified {
-        return false;
-    }
-    if 1 < s.filled1 {
-        return false;
-    }
-    if 1 < s.filled2 {
-        return false;
-    }
-    s.found < 2
+    (s.verified < 2) & (s.filled1 < 2) & (s.filled2 < 2) & (s.found < 2)
 }
 
 // Whether the transfer is legal. The filled mark of its buffer is looked at last, and never on a locked reader.

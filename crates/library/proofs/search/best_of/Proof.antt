@@ -7,10 +7,10 @@ use Rattle.library.proofs.search.best_of.Statement.{statement}
 use Rattle.library.proofs.search.best_of.Tie as tie
 
 abbrev Inv-loop : tie.InvT-loop
-Inv-loop index scores threshold start end best₀ least₀ p₀ best least p = Searched index scores threshold start end best least p
+Inv-loop index scores threshold start end least₀ page₀ p₀ least page p = Searched index scores threshold start end least page p
 
 abbrev μ-loop : tie.MeasureT-loop
-μ-loop index scores threshold start end best₀ least₀ p₀ best least p = end - p
+μ-loop index scores threshold start end least₀ page₀ p₀ least page p = end - p
 
 loop-holds : tie.Need-loop-holds Inv-loop μ-loop
 loop-holds c = search none-yet
@@ -21,17 +21,17 @@ mul-score c = search needs
 shared-slice-read-score : tie.Need-shared-slice-read-score Inv-loop μ-loop
 shared-slice-read-score c = search needs
 
-cast-wide : tie.Need-cast-wide Inv-loop μ-loop
-cast-wide c = search score-fits
+cast-score : tie.Need-cast-score Inv-loop μ-loop
+cast-score c = search score-fits
 
 bit-at-requires : tie.Need-bit-at-requires Inv-loop μ-loop
 bit-at-requires c κs = search needs
 
-cast-page : tie.Need-cast-page Inv-loop μ-loop
-cast-page c = search needs
-
 add-least : tie.Need-add-least Inv-loop μ-loop
 add-least c = search more-fits
+
+cast-page : tie.Need-cast-page Inv-loop μ-loop
+cast-page c = search needs
 
 add-p : tie.Need-add-p Inv-loop μ-loop
 add-p c = search needs
@@ -41,6 +41,9 @@ loop-less c = search needs
 
 loop-again : tie.Need-loop-again Inv-loop μ-loop
 loop-again c = ⊎-elim (λ w. search better) (⊎-elim (λ w. search not-there) (λ w. search no-better)) (c .if1 .came)
+
+match-of-requires : tie.Need-match-of-requires Inv-loop μ-loop
+match-of-requires c κs = search
 
 returns : tie.Need-returns Inv-loop μ-loop
 returns c = search all-searched
@@ -54,11 +57,12 @@ best-of-spec =
     loop-holds
     mul-score
     shared-slice-read-score
-    cast-wide
+    cast-score
     bit-at-requires
-    cast-page
     add-least
+    cast-page
     add-p
     loop-less
     loop-again
+    match-of-requires
     returns)
