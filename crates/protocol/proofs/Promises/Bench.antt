@@ -6,7 +6,7 @@ use mathlib.Core.List.{List, [], _∷_}
 use Prim.Native.Nat.{ℕ, _*_, _/_}
 use native.Mathlib.Omega.{arith}
 use lib.Dec.{T, lit≤}
-use lib.ListN.{length, replicate, take, drop, length-replicate}
+use lib.ListN.{replicate, take, drop, length-replicate}
 use Rattle.protocol.specs.Numbers.{longest, holds}
 use Rattle.protocol.specs.Tests.{verdict, countBelow}
 use Rattle.protocol.specs.Bytes.{joined, zeros, two, four, wordAt, total, same, lay, follow}
@@ -19,14 +19,15 @@ use Rattle.protocol.specs.Commands.{commands, rowOf, orderAs, orderOf}
 use Rattle.protocol.specs.Data.{acknowledge}
 use Rattle.protocol.specs.Table.{apply, rule, publicOf, freeRule}
 use Rattle.protocol.specs.Step.{hearAs, hearAt, hear, carryAs, carry, carryFree, obey, heed, ended, rested, answer, stepOf}
-use Rattle.protocol.specs.Call.{core, fitChip}
+use Rattle.protocol.specs.Call.{core, Lent}
 use Rattle.protocol.specs.Receiver.{bytesIn, holding, line}
-use Rattle.protocol.specs.Caller.{Try, Ran, replied, offers, served, Rests, resting, atRest, drain, drained, lending}
+use Rattle.protocol.specs.Caller.{Try, Ran, replied, offers, served, Rests, resting, atRest, drain, drained}
 use Rattle.protocol.specs.Bench.{started}
 use Rattle.protocol.specs.Records.{originOf, freshOf}
 use Rattle.protocol.proofs.Promises.LegalMeans.{core-holds}
-use Rattle.protocol.proofs.Promises.Cuts.{rests-drained}
-use Rattle.protocol.proofs.Promises.ComesToRest.{Ready, roomy, ready-served}
+use Rattle.protocol.proofs.Promises.Cuts.{Searchless, rests-drained, none-sees}
+use Rattle.protocol.proofs.Promises.InPieces.{searchless-all, packet-passed}
+use Rattle.protocol.proofs.Promises.ComesToRest.{Ready, lendsFit, ready-served}
 use Rattle.protocol.proofs.Promises.Met.{new-vault}
 
 -- ---- "starts fresh with 64 zeroed pages": 32768 bytes of templates; and nothing held
@@ -86,11 +87,16 @@ pub record Writes (d : Ran) : Type 0 where
   pub raw : joined (d .replies) ≡ output
   pub after : d .after ≡ started
 
--- however the input is cut, with a score for each page, five thresholds and a reply room of 700 bytes at each call, once the caller is at rest
-pub bench-writes : (χ : Chip) → length (χ .scores) ≡ 64 → length (χ .thresholds) ≡ 5 → (ts : List Try) → T (roomy ts) → (room : List ℕ)
-    → Rests core (offers core χ ts started input) (lending χ room) → Writes (resting core (offers core χ ts started input) (lending χ room))
-unfolding started zeroed emptied bytesIn holding originOf fitChip joined
-bench-writes χ a b ts u room rests =
-    let v : T (served core χ ts started input) = ready-served core core-holds 64 χ (rw (a, b) tt) ts started input started-ready u in
-    let all = rests-drained core χ ts started input (lending χ room) v rests ∙ drained-both χ (replicate (512 * 64) 0) (replicate 512 0) (replicate 512 0) (replicate 512 0) in
+-- neither of them is a Search
+no-search : Searchless input
+unfolding accepts limit isIdentifier longest hearAs orderOf orderAs rowOf commands packet sumOf total two joined four
+no-search = searchless-all (packet (four 0xffffffff) 0x01 (0x40 ∷ []) ∷ packet (four 0xffffffff) 0x01 (0x1d ∷ []) ∷ []) (packet-passed 0x01 (0x40 ∷ []) tt (λ j. elim j [ ]), (packet-passed 0x01 (0x1d ∷ []) tt (λ j. elim j [ ]), tt))
+
+-- however the input is cut, with 64 scores, five thresholds and a reply room of 700 bytes at each call, whatever the scores are, once the caller is at rest
+pub bench-writes : (ts : List Try) → T (lendsFit 64 ts) → (last : Lent) → Rests core (offers core ts started input) last → Writes (resting core (offers core ts started input) last)
+unfolding started zeroed emptied bytesIn holding originOf joined
+bench-writes ts u last rests =
+    let χ : Chip = last .chip in
+    let v : T (served core ts started input) = ready-served core core-holds 64 ts started input started-ready u in
+    let all = rests-drained core χ ts started input last v (none-sees core χ ts started input no-search v) rests ∙ drained-both χ (replicate (512 * 64) 0) (replicate 512 0) (replicate 512 0) (replicate 512 0) in
     rw all record { replies = refl; raw = refl; after = refl }

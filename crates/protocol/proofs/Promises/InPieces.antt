@@ -62,7 +62,7 @@ used-whole [] d = tt
 used-whole (p ∷ ps) (d, ds) = (d .0, used-whole ps ds)
 
 -- so there is none in all of them behind one another
-searchless-all : (sent : List (List ℕ)) → NoSearches sent → Searchless (joined sent)
+pub searchless-all : (sent : List (List ℕ)) → NoSearches sent → Searchless (joined sent)
 unfolding joined
 searchless-all [] d = none-left used-nil
 searchless-all (p ∷ ps) ((w, d), ds) = searchless-more p (joined ps) .1 (d, rw (drop-of-length-le p {i = usedOf (findOf p)} (omega arith)) (searchless-all ps ds))
@@ -166,7 +166,7 @@ packet-other i c ok d a =
     go true j = d j
     go false j = elim j [ ]
 
-packet-passed : (i : ℕ) (c : List ℕ) → T (accepts i (lengthOf c)) → (IsSearch (hearAs i true c) → ⊥) → OtherPacket (packet A i c)
+pub packet-passed : (i : ℕ) (c : List ℕ) → T (accepts i (lengthOf c)) → (IsSearch (hearAs i true c) → ⊥) → OtherPacket (packet A i c)
 packet-passed i c ok d = (packet-whole i c ok, packet-other i c ok d)
 
 packets-passed : (k n : ℕ) (s : List ℕ) → Sendable n → length s ≡ k * n → NoSearches (packets A k n s)
