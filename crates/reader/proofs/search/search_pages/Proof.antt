@@ -117,7 +117,7 @@ returns-4 c =
     let f = (let p : tie.After-matched = search in p .matched .ensures) in
     let j = (let s : tie.Start = search start in s .pre) in
     record {
-      said = λ t m b d e. searched _ t _ m b d _ _ _ _ _ _ _ k e _ o g u _ _ _ _ f w y fl (j .1 .1 .1 .1 .1) v r (j .0) (j .1 .0);
+      said = λ t m b d e. searched _ t _ m b d _ _ _ _ _ _ _ k e _ o g u _ _ _ _ f w y fl (search) v r (j .0) (j .1 .0);
       ready = search (ready-listed, size-found);
     }
 
