@@ -9,7 +9,7 @@ use Rattle.protocol.specs.Numbers.{pageBytes, leastPages, mostPages, ind
 use Rattle.protocol.specs.Bytes.{Bytes, lay}
 use Rattle.protocol.specs.Tests.{verdict, within}
 use Rattle.protocol.specs.Index.{stored, clearFrom}
-use Rattle.protocol.specs.Reader.{Transfer, closed, opened, unfit, odd, Plain, Origin, noOrigin, fromPage, Guarded, Reader, capacity, sizeOf, locked, bufferOf}
+use Rattle.protocol.specs.Reader.{Transfer, closed, opened, unfit, Plain, Origin, noOrigin, fromPage, Guarded, Reader, capacity, sizeOf, locked, bufferOf}
 use Rattle.protocol.specs.Search.{Chip}
 use Rattle.protocol.specs.Step.{Outcome, stepOf, switched}
 
@@ -61,8 +61,7 @@ fitPlain p = within lowestLevel (p .level) highestLevel && leb (p .size) highest
 unfoldable pub fitTransfer : Plain → Guarded → Transfer → Bool
 fitTransfer p g closed = true
 fitTransfer p g (opened w got) = eqb (got % sizeOf (p .size)) 0 && ltb got pageBytes && not (bufferOf w g .filled) && not (locked p)
-fitTransfer p g (unfit b k) = false
-fitTransfer p g (odd b k m) = false
+fitTransfer p g (unfit b k m) = false
 
 -- an origin is a page below C that is stored, and its buffer is filled; of c pages, an index, and the buffer's mark
 unfoldable pub fitOrigin : ℕ → List ℕ → Bool → Origin → Bool

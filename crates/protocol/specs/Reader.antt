@@ -17,10 +17,8 @@ pub record Marks : Type 0 where
 pub data Transfer : Type 0 where
   closed : Transfer
   opened : Bool → ℕ → Transfer
-  -- two numbers of a settings record that name no buffer
-  unfit : ℕ → ℕ → Transfer
-  -- any two numbers beside marks of which one is neither 0 nor 1; no legal reader has them, and no byte of the record is lost
-  odd : ℕ → ℕ → Marks → Transfer
+  -- what a settings record has that no legal reader has: two numbers that name no buffer, or a mark that is neither 0 nor 1; its bytes as they lie
+  unfit : ℕ → ℕ → Marks → Transfer
 
 -- the settings, but for the filled marks, the origins and status bit 1
 pub record Plain : Type 0 where

@@ -1,7 +1,7 @@
 -- From the code's records and lent memory to the reader and the outcomes of the definitions. Different records give different readers.
-use mathlib.Core.Bool.{Bool, true, false, _&&_, cond}
+use mathlib.Core.Bool.{Bool, false, _&&_, cond}
 use mathlib.Core.List.{List, []}
-use Prim.Native.Nat.{ℕ, zero, suc}
+use Prim.Native.Nat.{ℕ}
 use lib.Dec.{eqb, ltb}
 use Rattle.protocol.specs.declared.Settings.{Settings}
 use Rattle.protocol.specs.declared.Called.{Called}
@@ -15,19 +15,12 @@ use Rattle.protocol.specs.declared.Emptied.{Emptied}
 use Rattle.protocol.specs.Numbers.{noPage}
 use Rattle.protocol.specs.Packet.{Made}
 use Rattle.protocol.specs.BringOver.{Brought}
-use Rattle.protocol.specs.Reader.{Marks, Transfer, closed, opened, unfit, odd, Plain, Origin, noOrigin, fromPage, Buffer, Reader, settings, fresh, contents, reader}
+use Rattle.protocol.specs.Reader.{Marks, Transfer, closed, opened, unfit, Plain, Origin, noOrigin, fromPage, Buffer, Reader, settings, fresh, contents, reader}
 use Rattle.protocol.specs.Search.{Chip}
+use Rattle.protocol.specs.Table.{isBuffer, second}
 use Rattle.protocol.specs.Call.{Lent, Ended}
 use Rattle.protocol.specs.Receiver.{line, Handed}
 use Rattle.protocol.specs.Receiver as receivers
-
--- the transfer of the settings' two numbers: the buffer's, and the bytes got so far; none is 0 and 0
-unfoldable pub transferOf : ℕ → ℕ → Transfer
-transferOf zero zero = closed
-transferOf zero (suc k) = unfit zero (suc k)
-transferOf (suc zero) k = opened false k
-transferOf (suc (suc zero)) k = opened true k
-transferOf (suc (suc (suc b))) k = unfit (suc (suc (suc b))) k
 
 -- ---- marks: 0 is clear and 1 is set; any other byte is a setting that is not legal
 
@@ -46,15 +39,16 @@ markOf on = cond on 1 0
 abbrev pub marksOf : Settings → Marks
 marksOf s = record { verified = s .verified; filled1 = s .filled1; filled2 = s .filled2; found = s .found }
 
--- the transfer of a record with these marks: where one is not fit, it is odd, which refusal 3 finds
-unfoldable pub transferBeside : Marks → ℕ → ℕ → Transfer
-transferBeside m b k = cond (fitMarks m) (transferOf b k) (odd b k m)
+-- the transfer of a record's two numbers: buffer 1 or 2 and the bytes got so far, or none, which is 0 and 0; other numbers, and any beside a mark that is not
+-- fit, are kept as they lie, which refusal 3 finds
+unfoldable pub transferOf : Marks → ℕ → ℕ → Transfer
+transferOf m b k = cond (fitMarks m && isBuffer b) (opened (second b) k) (cond (fitMarks m && eqb b 0 && eqb k 0) closed (unfit b k m))
 
 -- ---- a reader
 
 abbrev pub plainOf : Settings → Plain
 plainOf s =
-    settings (s .password) (s .address) (s .level) (s .size) (s .baud) (s .sensor) (isSet (s .verified)) (transferBeside (marksOf s) (s .transfer) (s .got))
+    settings (s .password) (s .address) (s .level) (s .size) (s .baud) (s .sensor) (isSet (s .verified)) (transferOf (marksOf s) (s .transfer) (s .got))
 
 -- the origin of a settings' number: FFFFh is none
 unfoldable pub originOf : ℕ → Origin

@@ -11,7 +11,7 @@ use Rattle.protocol.specs.Bytes.{same, lay, follow}
 use Rattle.protocol.specs.Tests.{verdict}
 use Rattle.protocol.specs.Packet.{addressAt, identifierAt, contentAt, rightAt}
 use Rattle.protocol.specs.Finder.{findOf, usedOf}
-use Rattle.protocol.specs.Reader.{Transfer, closed, opened, unfit, odd, Plain, Buffer, Guarded, Reader, sizeOf, locked, bufferOf, emptied, withMark, withTransfer, withBuffer, contents, reader}
+use Rattle.protocol.specs.Reader.{Transfer, closed, opened, unfit, Plain, Buffer, Guarded, Reader, sizeOf, locked, bufferOf, emptied, withMark, withTransfer, withBuffer, contents, reader}
 use Rattle.protocol.specs.Commands.{Command, free, barred, Order, damaged, unknown, misfit, command, orderOf, searchFor}
 use Rattle.protocol.specs.Data.{acknowledge}
 use Rattle.protocol.specs.Search.{Chip}
@@ -88,8 +88,7 @@ heed χ r (command c) = obey χ r c
 unfoldable pub ended : Reader → Transfer → Reader
 ended r closed = r
 ended r (opened w k) = reader (withTransfer closed (r .plain)) (withBuffer w emptied (r .guarded))
-ended r (unfit b k) = r
-ended r (odd b k m) = r
+ended r (unfit b k m) = r
 
 unfoldable pub rested : Reader → Reader
 rested r = ended r (r .plain .transfer)
@@ -116,8 +115,7 @@ takeAs r w got content true true =
 unfoldable pub takeIn : Reader → Bool → Bool → List ℕ → Transfer → Said
 takeIn r last right content closed = silence r
 takeIn r last right content (opened w got) = takeAs r w got content (fits (r .plain) got last right content) last
-takeIn r last right content (unfit b k) = silence r
-takeIn r last right content (odd b k m) = silence r
+takeIn r last right content (unfit b k m) = silence r
 
 -- 5. nothing for us: silent, nothing changes; 6. identifier 1 ends an open transfer, then the order; 7. identifier 2 or 8
 unfoldable pub answer : Chip → Reader → Heard → Said

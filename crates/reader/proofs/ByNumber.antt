@@ -1,5 +1,5 @@
 -- The buffers by number: what one that is changed, wiped or marked makes of the reader, and the tests before it.
-use mathlib.Core.Path.{_≡_, refl, sym, ap, _∙_}
+use mathlib.Core.Path.{_≡_, refl, ap}
 use mathlib.Core.Bool.{Bool, true, false, not, _||_, cond}
 use mathlib.Core.Logic.{_⊎_, inl, inr, ⊎-elim}
 use mathlib.Core.List.{List, _∷_}
@@ -11,17 +11,17 @@ use Rattle.protocol.specs.declared.Settings.{Settings}
 use Rattle.protocol.specs.Numbers.{pageBytes, noPage, badPacket, badPage}
 use Rattle.protocol.specs.Tests.{Test, verdict}
 use Rattle.protocol.specs.Bytes.{zeros, follow}
-use Rattle.protocol.specs.Reader.{opened, Guarded, capacity, emptied, withBuffer, contents, reader}
+use Rattle.protocol.specs.Reader.{Marks, Transfer, Guarded, capacity, emptied, withBuffer, contents, reader}
 use Rattle.protocol.specs.Reader as readers
 use Rattle.protocol.specs.Table.{isBuffer, Effect}
 use Rattle.protocol.specs.Step.{says, carry, carryAs}
 use Rattle.protocol.proofs.Laws.Logic.{not-true, not-false}
-use Rattle.protocol.proofs.Laws.Marks.{fit-mark, fit-filled1, fit-filled2, beside-fit}
-use Rattle.protocol.specs.Records.{fitMark, isSet, marksOf, transferOf, transferBeside, originOf, plainOf, buffer, readerOf}
+use Rattle.protocol.proofs.Laws.Marks.{fit-mark, fit-marks, fit-verified, fit-filled1, fit-filled2, fit-found}
+use Rattle.protocol.specs.Records.{fitMark, fitMarks, isSet, marksOf, transferOf, originOf, plainOf, buffer, readerOf}
 use Rattle.reader.specs.declared.answers.Answer.{Answer}
 use Rattle.reader.specs.Answers.{codeAlone, sent, saidOf}
-use Rattle.rules.specs.Settings.{withTransfer, Marked}
-use Rattle.rules.proofs.Marks.{filled-fit}
+use Rattle.rules.specs.Settings.{withTransfer, Legal}
+use Rattle.rules.proofs.Marks.{beside}
 use Rattle.reader.specs.Buffers.{chosenOf, Buffers, buffers, changed, withFill, withHeld}
 use Rattle.reader.proofs.Laws.{chosen-long}
 
@@ -37,10 +37,6 @@ one-or-two n e = ⊎-elim (λ h. inl (eqb-true n 1 h)) (λ h. inr (eqb-true n 2 
 
 pub not-none : (n : ℕ) → isBuffer n ≡ true → eqb n 0 ≡ false
 not-none n e = ⊎-elim (λ h. rw h refl) (λ h. rw h refl) (one-or-two n e)
-
-pub opened-at : (n k : ℕ) → isBuffer n ≡ true → transferOf n k ≡ opened (eqb n 2) k
-unfolding transferOf
-opened-at n k e = ⊎-elim (λ h. rw h refl) (λ h. rw h refl) (one-or-two n e)
 
 -- ---- one of them changed
 
@@ -117,13 +113,13 @@ pick : (w : Bool) (a b : ℕ) → fitMark a ≡ true → fitMark b ≡ true → 
 pick true a b e f = e
 pick false a b e f = f
 
-pub held-fit : (k on a : ℕ) (s : Settings) → Marked s → fitMark on ≡ true → Marked (withHeld k on a s)
-held-fit k on a s e f =
-    filled-fit s e (cond (eqb k 2) (s .filled1) on) (cond (eqb k 2) on (s .filled2)) (pick (eqb k 2) (s .filled1) on (fit-filled1 (marksOf s) e) f)
-    (pick (eqb k 2) on (s .filled2) f (fit-filled2 (marksOf s) e))
+pub held-fit : (k on a : ℕ) (s : Settings) → Legal s → fitMark on ≡ true → fitMarks (marksOf (withHeld k on a s)) ≡ true
+held-fit k on a s l f =
+    fit-marks (s .verified) (cond (eqb k 2) (s .filled1) on) (cond (eqb k 2) on (s .filled2)) (s .found) (fit-verified (marksOf s) (l .marks))
+    (pick (eqb k 2) (s .filled1) on (fit-filled1 (marksOf s) (l .marks)) f) (pick (eqb k 2) on (s .filled2) f (fit-filled2 (marksOf s) (l .marks))) (fit-found (marksOf s) (l .marks))
 
-pub beside-held : (k on a : ℕ) (s : Settings) (w j : ℕ) → Marked s → fitMark on ≡ true → transferBeside (marksOf (withHeld k on a s)) w j ≡ transferBeside (marksOf s) w j
-beside-held k on a s w j e f = beside-fit (marksOf (withHeld k on a s)) w j (held-fit k on a s e f) ∙ sym (beside-fit (marksOf s) w j e)
+pub beside-held : (k on a : ℕ) (s : Settings) → Legal s → fitMark on ≡ true → transferOf (marksOf (withHeld k on a s)) (s .transfer) (s .got) ≡ transferOf (marksOf s) (s .transfer) (s .got)
+beside-held k on a s l f = beside s l (withHeld k on a s) (held-fit k on a s l f)
 
 -- one of them wiped
 pub emptied-one : (k : ℕ) (s : Settings) (t i n b c x y : List ℕ) → buffers x y ≡ changed k (λ (z : List ℕ). zeros (length z)) b c → length b ≡ pageBytes
@@ -134,12 +130,13 @@ emptied-one k s t i n b c x y e l m =
     rw all at (changed-held k (λ (z : List ℕ). zeros (length z)) s t i n b c x y e 0 noPage)
 
 -- and the transfer moved
-pub wiped : (k w j : ℕ) (s o q : Settings) (t i n b c x y : List ℕ) → q ≡ withTransfer w j o → o ≡ withHeld k 0 noPage s → Marked s
+pub wiped : (k w j : ℕ) (v : Transfer) → ((m : Marks) → fitMarks m ≡ true → transferOf m w j ≡ v) → (s o q : Settings) (t i n b c x y : List ℕ)
+    → q ≡ withTransfer w j o → o ≡ withHeld k 0 noPage s → Legal s
     → buffers x y ≡ changed k (λ (z : List ℕ). zeros (length z)) b c → length b ≡ pageBytes → length c ≡ pageBytes
-    → readerOf q t i n x y ≡ reader (readers.withTransfer (transferOf w j) (plainOf s)) (withBuffer (eqb k 2) emptied (readerOf s t i n b c .guarded))
+    → readerOf q t i n x y ≡ reader (readers.withTransfer v (plainOf s)) (withBuffer (eqb k 2) emptied (readerOf s t i n b c .guarded))
 unfolding readers.withTransfer
-wiped k w j s o q t i n b c x y f g d e l m =
-    rw (f, g, beside-fit (marksOf (withHeld k 0 noPage s)) w j (held-fit k 0 noPage s d (fit-mark false))) (ap (λ (z : Guarded). reader (readers.withTransfer (transferOf w j) (plainOf s)) z) (emptied-one k s t i n b c x y e l m))
+wiped k w j v h s o q t i n b c x y f g d e l m =
+    rw (f, g, h (marksOf (withHeld k 0 noPage s)) (held-fit k 0 noPage s d (fit-mark false))) (ap (λ (z : Guarded). reader (readers.withTransfer v (plainOf s)) z) (emptied-one k s t i n b c x y e l m))
 
 -- ---- the tests that a command with a buffer starts with
 

@@ -109,8 +109,7 @@ fit-says s t i n b c k h e m =
       notepad = eqb→eq (length n) (core .noted) (search (and-l, and-r) depth 9);
       buffer1 = eqb→eq (length b) pageBytes (search (and-l, and-r) depth 9);
       buffer2 = eqb→eq (length c) pageBytes (search (and-l, and-r) depth 9);
-      size = m .size;
-      marks = m .marks;
+      legal = m;
     }
 
 -- refusal 3 as the code asks for it: the settings first

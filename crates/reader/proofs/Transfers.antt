@@ -1,43 +1,41 @@
 -- An open transfer, by the settings' two numbers: ended, and what a data packet does to it.
-use mathlib.Core.Path.{_≡_, refl, sym, ap, _∙_}
+use mathlib.Core.Path.{_≡_, refl, sym}
 use mathlib.Core.Bool.{Bool, true, false, true≢false, _&&_, cond}
 use mathlib.Core.List.{List}
-use Prim.Native.Nat.{ℕ, zero, suc, _+_, _≤_}
+use Prim.Native.Nat.{ℕ, _+_, _≤_}
 use native.Mathlib.Omega.{arith}
 use lib.Dec.{eqb, ltb}
 use lib.ListN.{length}
 use borrow.Author.Tests.{eqb-true, ltb-true}
 use Rattle.protocol.specs.Numbers.{pageBytes, transferFailed}
-use Rattle.protocol.specs.Reader.{Transfer, Plain, Reader, sizeOf}
-use Rattle.protocol.specs.Step.{silence, says, ended, fits, takeAs, takeIn}
-use Rattle.protocol.specs.Records.{transferOf}
+use Rattle.protocol.specs.declared.Settings.{Settings}
+use Rattle.protocol.specs.Reader.{Transfer, closed, opened, Plain, Reader, sizeOf}
+use Rattle.protocol.specs.Step.{says, ended, fits, takeAs, takeIn}
+use Rattle.protocol.specs.Records.{marksOf, plainOf}
+use Rattle.protocol.proofs.Laws.Marks.{none-beside}
+use Rattle.rules.specs.Settings.{Legal}
 use Rattle.rules.proofs.Transfers.{transfer-at}
 
--- ---- none
+-- ---- as legal settings have it
 
-pub ended-none : (r : Reader) (w k : ℕ) → w ≡ 0 → ended r (transferOf w k) ≡ r
-unfolding ended transferOf
-ended-none r w zero e = rw e
-ended-none r w (suc k) e = rw e
+module _ (s : Settings) (l : Legal s) where
+  pub none-open : s .transfer ≡ 0 → plainOf s .transfer ≡ closed
+  none-open z = none-beside (marksOf s) (l .marks) (s .transfer) (s .got) z (l .none z)
 
-pub take-none : (r : Reader) (l s : Bool) (c : List ℕ) (w k : ℕ) → w ≡ 0 → takeIn r l s c (transferOf w k) ≡ silence r
-unfolding takeIn transferOf
-take-none r l s c w zero e = rw e
-take-none r l s c w (suc k) e = rw e
+  pub open-into : (s .transfer ≡ 0 → ⊥) → plainOf s .transfer ≡ opened (eqb (s .transfer) 2) (s .got)
+  open-into n = transfer-at (marksOf s) (l .marks) (s .transfer) (s .got) n (l .which)
 
 -- ---- into a buffer
 
 -- an open transfer takes a data packet, which fits or not
-pub take-open : (r : Reader) (l s : Bool) (c : List ℕ) (w k : ℕ) (f : Bool) → (w ≡ 0 → ⊥) → w ≤ 2 → f ≡ fits (r .plain) k l s c
-    → takeIn r l s c (transferOf w k) ≡ takeAs r (eqb w 2) k c f l
-unfolding takeIn
-take-open r l s c w k f n h e = ap (takeIn r l s c) (transfer-at w k n h) ∙ ap (λ (t : Bool). takeAs r (eqb w 2) k c t l) (sym e)
+module _ (r : Reader) (l s : Bool) (c : List ℕ) (t : Transfer) (w : Bool) (k : ℕ) (e : t ≡ opened w k) where
+  pub take-open : (f : Bool) → f ≡ fits (r .plain) k l s c → takeIn r l s c t ≡ takeAs r w k c f l
+  unfolding takeIn
+  take-open f g = rw (e, g) refl
 
-pub take-failed : (r : Reader) (l s : Bool) (c : List ℕ) (w k : ℕ) → (w ≡ 0 → ⊥) → w ≤ 2 → fits (r .plain) k l s c ≡ false
-    → takeIn r l s c (transferOf w k) ≡ says (ended r (transferOf w k)) transferFailed
-unfolding takeAs
-take-failed r l s c w k n h e =
-    take-open r l s c w k false n h (sym e) ∙ ap (λ (t : Transfer). says (ended r t) transferFailed) (sym (transfer-at w k n h))
+  pub take-failed : fits (r .plain) k l s c ≡ false → takeIn r l s c t ≡ says (ended r t) transferFailed
+  unfolding takeIn takeAs
+  take-failed f = rw (e, f) refl
 
 both-left : (a b : Bool) → (a && b) ≡ true → a ≡ true
 both-left true b e = refl

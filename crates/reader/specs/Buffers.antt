@@ -8,7 +8,7 @@ use Rattle.protocol.specs.declared.Settings.{Settings}
 use Rattle.protocol.specs.Tests.{among}
 use Rattle.protocol.specs.Reader.{Reader, bufferOf, without, withBuffer, withoutPages, reader}
 use Rattle.protocol.specs.Records.{readerOf}
-use Rattle.rules.specs.Settings.{withFilled, withOrigins, Marked}
+use Rattle.rules.specs.Settings.{withFilled, withOrigins, Legal}
 
 -- the bytes of one
 abbrev pub chosenOf : ℕ → List ℕ → List ℕ → List ℕ
@@ -40,7 +40,7 @@ withHeld n on o s = withOrigins (cond (eqb n 2) (s .origin1) o) (cond (eqb n 2) 
 pub record ForgotOne (k p n : ℕ) (q s : Settings) (x y b c : List ℕ) : Type 0 where
   pub after : (t i m : List ℕ) → readerOf q t i m x y
       ≡ (let r : Reader = readerOf s t i m b c in reader (r .plain) (withBuffer (eqb k 2) (without (among p n) (bufferOf (eqb k 2) (r .guarded))) (r .guarded)))
-  pub marks : Marked q
+  pub legal : Legal q
 
 pub record Forgot (p n : ℕ) (q s : Settings) (x y b c : List ℕ) : Type 0 where
   pub after : (t i m : List ℕ) → readerOf q t i m x y ≡ (let r : Reader = readerOf s t i m b c in reader (r .plain) (withoutPages (among p n) (r .guarded)))

@@ -4,15 +4,15 @@ use mathlib.Core.List.{List}
 use mathlib.Core.Path.{_≡_}
 use Prim.Native.Nat.{ℕ, _+_, _/_, _≤_}
 use lib.ListN.{length}
-use Rattle.protocol.specs.Numbers.{pageBytes, replyRoom, headBytes, shortest, highestSize}
+use Rattle.protocol.specs.Numbers.{pageBytes, replyRoom, headBytes, shortest}
 use Rattle.protocol.specs.Reader.{sizeOf}
 use Rattle.protocol.specs.Step.{Said}
 use Rattle.protocol.specs.Call.{core, libraryFits, buffersFit, chipFits, Ended, carried}
 use Rattle.protocol.specs.declared.Settings.{Settings}
 use Rattle.protocol.specs.declared.Called.{Called}
 use Rattle.protocol.specs.declared.Switched.{Switched}
-use Rattle.rules.specs.Settings.{Marked, Legal}
-use Rattle.reader.specs.Commands.{Fit, CommandNeeds}
+use Rattle.rules.specs.Settings.{Legal}
+use Rattle.reader.specs.Commands.{Fit}
 
 -- a whole packet at p, with length field n, lies within its run
 pub record Lies (s : List ℕ) (p n : ℕ) : Type 0 where
@@ -20,16 +20,10 @@ pub record Lies (s : List ℕ) (p n : ℕ) : Type 0 where
   pub low : shortest ≤ n
   pub high : n ≤ 65535
 
--- what `act` needs: a legal reader, and a packet's content
-pub record ActNeeds (s : Settings) (t i n b c scores x : List ℕ) : Type 0 where
-  pub commands : CommandNeeds s t i n b c scores x
-  pub legal : Legal s
-
--- what `hear_packet` needs: a legal reader, a score for each page, a whole packet in its run, and a reply room
+-- what `hear_packet` needs: fit memory and legal settings, a score for each page, a whole packet in its run, and a reply room
 pub record HearNeeds (s : Settings) (t i n b c scores x : List ℕ) (at len : ℕ) (y : List ℕ) : Type 0 where
   pub fit : Fit s t i n b c
   pub scored : length scores ≡ length t / pageBytes
-  pub legal : Legal s
   pub whole : Lies x at len
   pub room : replyRoom ≤ length y
 
@@ -37,12 +31,10 @@ pub record HearNeeds (s : Settings) (t i n b c scores x : List ℕ) (at len : �
 pub record Placing (s : Settings) (b c x : List ℕ) : Type 0 where
   pub buffer1 : length b ≡ pageBytes
   pub buffer2 : length c ≡ pageBytes
-  pub size : s .size ≤ highestSize
+  pub legal : Legal s
   pub opened : s .transfer ≡ 0 → ⊥
-  pub which : s .transfer ≤ 2
   pub room : s .got + length x ≤ pageBytes
   pub long : length x ≡ sizeOf (s .size)
-  pub marks : Marked s
 
 abbrev pub called : ℕ → ℕ → ℕ → Settings → Called
 called refusal used length s = record { settings = s; refusal = refusal; used = used; length = length }

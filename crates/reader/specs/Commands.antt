@@ -4,7 +4,7 @@ use mathlib.Core.Path.{_≡_}
 use Prim.Native.Nat.{ℕ, _*_, _/_, _≤_}
 use lib.ListN.{length}
 use Rattle.protocol.specs.declared.Settings.{Settings}
-use Rattle.protocol.specs.Numbers.{pageBytes, mostPages, highestSize}
+use Rattle.protocol.specs.Numbers.{pageBytes, mostPages}
 use Rattle.protocol.specs.Packet.{lengthOf}
 use Rattle.protocol.specs.Call.{core}
 use Rattle.protocol.specs.Search.{Chip}
@@ -13,7 +13,7 @@ use Rattle.protocol.specs.Table.{rule, freeRule, publicOf}
 use Rattle.protocol.specs.Step.{Said, carry, carryFree}
 use Rattle.protocol.specs.Records.{plainOf, readerOf, chipOf}
 use Rattle.rules.specs.Commands.{Admitted}
-use Rattle.rules.specs.Settings.{Marked}
+use Rattle.rules.specs.Settings.{Legal}
 use Rattle.reader.specs.declared.answers.Answer.{Answer}
 use Rattle.reader.specs.Answers.{saidOf, Ready}
 
@@ -25,17 +25,16 @@ pub record Fit (s : Settings) (t i n b c : List ℕ) : Type 0 where
   pub notepad : length n ≡ core .noted
   pub buffer1 : length b ≡ pageBytes
   pub buffer2 : length c ≡ pageBytes
-  pub size : s .size ≤ highestSize
-  pub marks : Marked s
+  pub legal : Legal s
 
--- what `command` needs: fit memory, a score for each page, and a content of a code at least, no longer than a length field says
+-- what `act` and `command` need: fit memory and legal settings, a score for each page, and a content of a code at least, no longer than a length field says
 pub record CommandNeeds (s : Settings) (t i n b c scores x : List ℕ) : Type 0 where
   pub fit : Fit s t i n b c
   pub scored : length scores ≡ length t / pageBytes
   pub some : 1 ≤ length x
   pub high : length x ≤ 65535
 
--- what `row` needs: fit memory, a score for each page, and a code that the gate lets pass
+-- what `row` needs: fit memory and legal settings, a score for each page, and a code that the gate lets pass
 pub record RowNeeds (code : ℕ) (s : Settings) (t i n b c scores x : List ℕ) : Type 0 where
   pub fit : Fit s t i n b c
   pub scored : length scores ≡ length t / pageBytes

@@ -10,7 +10,7 @@ ghost use Rattle.protocol.specs.Commands.{upChar, downChar};
 ghost use Rattle.library.specs.Lent.{readPage};
 ghost use Rattle.reader.specs.Buffers.{chosenOf, buffers, changed, withFill, withHeld};
 ghost use Rattle.reader.specs.Commands.{Obeyed, ObeyedBuffers};
-ghost use Rattle.rules.specs.Settings.{Marked};
+ghost use Rattle.rules.specs.Settings.{Legal};
 use crate::answers;
 use crate::answers::Answer;
 use library::pages;
@@ -119,7 +119,7 @@ pub(crate) fn up_char(settings: Settings, n: u8) -> Answer
 
 // DownChar (buffer).
 pub(crate) fn down_char(settings: Settings, buffer1: &mut [u8], buffer2: &mut [u8], n: u8) -> Answer
-    requires { ⌜ (length (now buffer1) ≡ pageBytes) × ((length (now buffer2) ≡ pageBytes) × ((settings .size ≤ highestSize) × Marked settings)) ⌝ }
+    requires { ⌜ (length (now buffer1) ≡ pageBytes) × ((length (now buffer2) ≡ pageBytes) × Legal settings) ⌝ }
     ensures { λ r. ⌜ ObeyedBuffers r settings (downChar n) (now (buffer1 .entry)) (now (buffer2 .entry)) (now (buffer1 .exit)) (now (buffer2 .exit)) ⌝ }
 {
     let known = is_buffer(n);

@@ -12,7 +12,8 @@ ghost use Rattle.protocol.specs.Call.{core, callOf, switchOf};
 ghost use Rattle.protocol.specs.Records.{readerOf, chipOf, lentOf, endedOf, switchedOf};
 ghost use Rattle.reader.specs.Answers.{saidOf, Ready};
 ghost use Rattle.rules.specs.Settings.{soundOf};
-ghost use Rattle.reader.specs.Calls.{Lies, ActNeeds, HearNeeds, called, switched, lengthsFit, carriedOf};
+ghost use Rattle.reader.specs.Commands.{CommandNeeds};
+ghost use Rattle.reader.specs.Calls.{Lies, HearNeeds, called, switched, lengthsFit, carriedOf};
 use crate::answers;
 use crate::answers::Answer;
 use crate::bytes;
@@ -45,7 +46,7 @@ pub(crate) fn act(
     identifier: u8,
     right: bool,
 ) -> Answer
-    requires { ⌜ ActNeeds settings (now templates) (now index) (now notepad) (now buffer1) (now buffer2) (now scores) (now content) ⌝ }
+    requires { ⌜ CommandNeeds settings (now templates) (now index) (now notepad) (now buffer1) (now buffer2) (now scores) (now content) ⌝ }
     ensures { λ r. ⌜ (saidOf r (now (templates .exit)) (now (index .exit)) (now (notepad .exit)) (now (buffer1 .exit)) (now (buffer2 .exit)) ≡ answer (chipOf (now (scores .entry)) (now (thresholds .entry))) (readerOf settings (now (templates .entry)) (now (index .entry)) (now (notepad .entry)) (now (buffer1 .entry)) (now (buffer2 .entry))) (hearAs identifier right (now (content .entry)))) × Ready r ⌝ }
 {
     if identifier == numbers::COMMAND_PACKET {

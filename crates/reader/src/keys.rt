@@ -5,7 +5,7 @@ ghost use lib.ListN.{length, drop};
 ghost use Rattle.protocol.specs.Numbers.{fourBytes, highestSize};
 ghost use Rattle.protocol.specs.Commands.{verifyPassword, setPassword, setAddress};
 ghost use Rattle.reader.specs.Commands.{Obeyed, Freed};
-ghost use Rattle.rules.specs.Settings.{Marked};
+ghost use Rattle.rules.specs.Settings.{Legal};
 use crate::answers;
 use crate::answers::Answer;
 use crate::bytes;
@@ -15,7 +15,7 @@ use rules::settings;
 
 // SetPwd.
 pub(crate) fn set_password(settings: Settings, content: &[u8]) -> Answer
-    requires { ⌜ (length (now content) ≡ 1 + fourBytes) × ((settings .size ≤ highestSize) × Marked settings) ⌝ }
+    requires { ⌜ (length (now content) ≡ 1 + fourBytes) × Legal settings ⌝ }
     ensures { λ r. ⌜ Obeyed r settings (setPassword (drop 1 (now (content .entry)))) ⌝ }
 {
     let p = bytes::four_at(content, 1);
@@ -24,7 +24,7 @@ pub(crate) fn set_password(settings: Settings, content: &[u8]) -> Answer
 
 // VfyPwd. All four bytes are compared.
 pub(crate) fn verify_password(settings: Settings, content: &[u8]) -> Answer
-    requires { ⌜ (length (now content) ≡ 1 + fourBytes) × ((settings .size ≤ highestSize) × Marked settings) ⌝ }
+    requires { ⌜ (length (now content) ≡ 1 + fourBytes) × Legal settings ⌝ }
     ensures { λ r. ⌜ Freed r settings (verifyPassword (drop 1 (now (content .entry)))) ⌝ }
 {
     let p = bytes::four_at(content, 1);

@@ -2,10 +2,10 @@
 ghost use mathlib.Core.Path.{_≡_};
 ghost use Prim.Native.Nat.{_≤_, _<_};
 ghost use lib.ListN.{length};
-ghost use Rattle.protocol.specs.Numbers.{indexBytes, mostPages, highestSize};
+ghost use Rattle.protocol.specs.Numbers.{indexBytes, mostPages};
 ghost use Rattle.protocol.specs.Commands.{searchFor};
 ghost use Rattle.reader.specs.Commands.{ObeyedSearch};
-ghost use Rattle.rules.specs.Settings.{Marked};
+ghost use Rattle.rules.specs.Settings.{Legal};
 use crate::answers;
 use crate::answers::Answer;
 use crate::buffers;
@@ -25,7 +25,7 @@ pub(crate) fn search_pages(
     start: usize,
     count: usize,
 ) -> Answer
-    requires { ⌜ (length (now index) ≡ indexBytes) × ((length (now scores) ≤ mostPages) × ((settings .size ≤ highestSize) × ((start < 65536) × ((count < 65536) × Marked settings)))) ⌝ }
+    requires { ⌜ (length (now index) ≡ indexBytes) × ((length (now scores) ≤ mostPages) × ((start < 65536) × ((count < 65536) × Legal settings))) ⌝ }
     ensures { λ r. ⌜ ObeyedSearch r settings (searchFor n start count) (now (index .entry)) (now (scores .entry)) (now (thresholds .entry)) ⌝ }
 {
     let known = buffers::is_buffer(n);

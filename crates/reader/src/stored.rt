@@ -9,7 +9,7 @@ ghost use Rattle.protocol.specs.Index.{setBit};
 ghost use Rattle.protocol.specs.Commands.{store, loadChar, deletChar, empty, templeteNum, readIndexTable};
 ghost use Rattle.reader.specs.Buffers.{chosenOf};
 ghost use Rattle.reader.specs.Commands.{ObeyedCopy, ObeyedIndex};
-ghost use Rattle.rules.specs.Settings.{Marked};
+ghost use Rattle.rules.specs.Settings.{Legal};
 use crate::answers;
 use crate::answers::Answer;
 use crate::buffers;
@@ -49,7 +49,7 @@ pub(crate) fn store_page<'a>(
     n: u8,
     page: usize,
 ) -> Answer
-    requires { ⌜ (length (now b) ≡ pageBytes) × ((length (now c) ≡ pageBytes) × ((settings .size ≤ highestSize) × ((length (now templates) / pageBytes ≤ mostPages) × Marked settings))) ⌝ }
+    requires { ⌜ (length (now b) ≡ pageBytes) × ((length (now c) ≡ pageBytes) × ((length (now templates) / pageBytes ≤ mostPages) × Legal settings)) ⌝ }
     ensures { λ r. ⌜ ObeyedCopy r settings (store n page) (now (templates .entry)) (now (index .entry)) (now (b .entry)) (now (c .entry)) (now (templates .exit)) (now (index .exit)) (now (b .entry)) (now (c .entry)) ⌝ }
 {
     let known = buffers::is_buffer(n);
@@ -81,7 +81,7 @@ pub(crate) fn load_page(
     n: u8,
     page: usize,
 ) -> Answer
-    requires { ⌜ (length (now buffer1) ≡ pageBytes) × ((length (now buffer2) ≡ pageBytes) × ((settings .size ≤ highestSize) × ((length (now templates) / pageBytes ≤ mostPages) × Marked settings))) ⌝ }
+    requires { ⌜ (length (now buffer1) ≡ pageBytes) × ((length (now buffer2) ≡ pageBytes) × ((length (now templates) / pageBytes ≤ mostPages) × Legal settings)) ⌝ }
     ensures { λ r. ⌜ ObeyedCopy r settings (loadChar n page) (now (templates .entry)) (now (index .entry)) (now (buffer1 .entry)) (now (buffer2 .entry)) (now (templates .entry)) (now (index .entry)) (now (buffer1 .exit)) (now (buffer2 .exit)) ⌝ }
 {
     let known = buffers::is_buffer(n);
@@ -109,7 +109,7 @@ pub(crate) fn delete_pages(
     page: usize,
     n: usize,
 ) -> Answer
-    requires { ⌜ (length (now buffer1) ≡ pageBytes) × ((length (now buffer2) ≡ pageBytes) × ((settings .size ≤ highestSize) × ((page < 65536) × ((n < 65536) × Marked settings)))) ⌝ }
+    requires { ⌜ (length (now buffer1) ≡ pageBytes) × ((length (now buffer2) ≡ pageBytes) × ((page < 65536) × ((n < 65536) × Legal settings))) ⌝ }
     ensures { λ r. ⌜ ObeyedCopy r settings (deletChar page n) (now (templates .entry)) (now (index .entry)) (now (buffer1 .entry)) (now (buffer2 .entry)) (now (templates .exit)) (now (index .exit)) (now (buffer1 .exit)) (now (buffer2 .exit)) ⌝ }
 {
     let there = pages::is_span(page as u16, n as u16, templates.len() / numbers::PAGE);
@@ -130,7 +130,7 @@ pub(crate) fn empty_all(
     buffer1: &mut [u8],
     buffer2: &mut [u8],
 ) -> Answer
-    requires { ⌜ (length (now buffer1) ≡ pageBytes) × ((length (now buffer2) ≡ pageBytes) × ((settings .size ≤ highestSize) × ((length (now templates) / pageBytes ≤ mostPages) × Marked settings))) ⌝ }
+    requires { ⌜ (length (now buffer1) ≡ pageBytes) × ((length (now buffer2) ≡ pageBytes) × ((length (now templates) / pageBytes ≤ mostPages) × Legal settings)) ⌝ }
     ensures { λ r. ⌜ ObeyedCopy r settings empty (now (templates .entry)) (now (index .entry)) (now (buffer1 .entry)) (now (buffer2 .entry)) (now (templates .exit)) (now (index .exit)) (now (buffer1 .exit)) (now (buffer2 .exit)) ⌝ }
 {
     let pages = templates.len() / numbers::PAGE;

@@ -2,15 +2,15 @@
 ghost use mathlib.Core.Path.{_≡_};
 ghost use mathlib.Core.Bool.{true};
 ghost use mathlib.Core.List.{List};
-ghost use Prim.Native.Nat.{ℕ, _≤_};
+ghost use Prim.Native.Nat.{ℕ};
 ghost use lib.Dec.{eqb};
 ghost use lib.ListN.{length};
-ghost use Rattle.protocol.specs.Numbers.{pageBytes, highestSize};
-ghost use Rattle.protocol.specs.Step.{ended, takeAs, takeIn};
-ghost use Rattle.protocol.specs.Records.{transferOf, readerOf};
+ghost use Rattle.protocol.specs.Numbers.{pageBytes};
+ghost use Rattle.protocol.specs.Step.{rested, takeAs, takeIn};
+ghost use Rattle.protocol.specs.Records.{plainOf, readerOf};
 ghost use Rattle.reader.specs.Answers.{saidOf, Ready};
 ghost use Rattle.reader.specs.Calls.{Placing};
-ghost use Rattle.rules.specs.Settings.{Marked};
+ghost use Rattle.rules.specs.Settings.{Legal};
 use crate::answers;
 use crate::answers::Answer;
 use crate::buffers;
@@ -21,8 +21,8 @@ use rules::settings;
 
 // Ends an open transfer: its buffer is zeroed.
 pub(crate) fn end_transfer(settings: Settings, buffer1: &mut [u8], buffer2: &mut [u8]) -> Settings
-    requires { ⌜ (length (now buffer1) ≡ pageBytes) × ((length (now buffer2) ≡ pageBytes) × ((settings .transfer ≤ 2) × Marked settings)) ⌝ }
-    ensures { λ r. ⌜ ((t i m : List ℕ) → readerOf r t i m (now (buffer1 .exit)) (now (buffer2 .exit)) ≡ ended (readerOf settings t i m (now (buffer1 .entry)) (now (buffer2 .entry))) (transferOf (settings .transfer) (settings .got))) × ((r .size ≡ settings .size) × Marked r) ⌝ }
+    requires { ⌜ (length (now buffer1) ≡ pageBytes) × ((length (now buffer2) ≡ pageBytes) × Legal settings) ⌝ }
+    ensures { λ r. ⌜ ((t i m : List ℕ) → readerOf r t i m (now (buffer1 .exit)) (now (buffer2 .exit)) ≡ rested (readerOf settings t i m (now (buffer1 .entry)) (now (buffer2 .entry)))) × Legal r ⌝ }
 {
     let n = settings.transfer;
     if n == 0 {
@@ -63,8 +63,8 @@ pub(crate) fn take_part(
     right: bool,
     last: bool,
 ) -> Answer
-    requires { ⌜ (length (now buffer1) ≡ pageBytes) × ((length (now buffer2) ≡ pageBytes) × ((settings .transfer ≤ 2) × ((settings .size ≤ highestSize) × ((settings .transfer ≡ 0 → settings .got ≡ 0) × Marked settings)))) ⌝ }
-    ensures { λ r. ⌜ ((t i m : List ℕ) → saidOf r t i m (now (buffer1 .exit)) (now (buffer2 .exit)) ≡ takeIn (readerOf settings t i m (now (buffer1 .entry)) (now (buffer2 .entry))) last right (now (content .entry)) (transferOf (settings .transfer) (settings .got))) × Ready r ⌝ }
+    requires { ⌜ (length (now buffer1) ≡ pageBytes) × ((length (now buffer2) ≡ pageBytes) × Legal settings) ⌝ }
+    ensures { λ r. ⌜ ((t i m : List ℕ) → saidOf r t i m (now (buffer1 .exit)) (now (buffer2 .exit)) ≡ takeIn (readerOf settings t i m (now (buffer1 .entry)) (now (buffer2 .entry))) last right (now (content .entry)) (plainOf settings .transfer)) × Ready r ⌝ }
 {
     if settings.transfer == 0 {
         return answers::silent(settings);

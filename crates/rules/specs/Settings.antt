@@ -64,13 +64,9 @@ pub record SizeOf (code r : ℕ) : Type 0 where
   pub low : 1 ≤ r
   pub high : r ≤ pageBytes
 
--- each mark is 0 or 1
-abbrev pub Marked : Settings → Type 0
-Marked s = fitMarks (marksOf s) ≡ true
-
 -- ---- legal settings
 
--- of the lent memory only the filled marks count, and they are settings; a mark that is not fit makes the transfer odd
+-- of the lent memory only the filled marks count, and they are settings; a mark that is not fit makes the transfer unfit
 unfoldable pub legalOf : Settings → Bool
 legalOf s =
     let r : Reader = readerOf s [] [] [] [] [] in
@@ -89,4 +85,4 @@ pub record Legal (s : Settings) : Type 0 where
   pub size : s .size ≤ highestSize
   pub which : s .transfer ≤ 2
   pub none : s .transfer ≡ 0 → s .got ≡ 0
-  pub marks : Marked s
+  pub marks : fitMarks (marksOf s) ≡ true

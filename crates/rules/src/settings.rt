@@ -1,6 +1,6 @@
 // The settings record: fresh, with one thing changed, locked, and legal.
 ghost use mathlib.Core.Path.{_≡_};
-ghost use mathlib.Core.Bool.{cond};
+ghost use mathlib.Core.Bool.{true, cond};
 ghost use mathlib.Core.List.{List, []};
 ghost use Prim.Native.Nat.{ℕ, _≤_};
 ghost use lib.Dec.{eqb};
@@ -196,10 +196,10 @@ fn has_fit_marks(s: Settings) -> bool
     (s.verified < 2) & (s.filled1 < 2) & (s.filled2 < 2) & (s.found < 2)
 }
 
-// Whether the transfer is legal. The filled mark of its buffer is looked at last, and never on a locked reader.
+// Whether the transfer beside fit marks is legal. The filled mark of its buffer is looked at last, and never on a locked reader.
 fn is_transfer_fit(s: Settings) -> bool
-    requires { ⌜ s .size ≤ highestSize ⌝ }
-    ensures { λ r. ⌜ r ≡ fitTransfer (plainOf s) (readerOf s [] [] [] [] [] .guarded) (transferOf (s .transfer) (s .got)) ⌝ }
+    requires { ⌜ (s .size ≤ highestSize) × (fitMarks (marksOf s) ≡ true) ⌝ }
+    ensures { λ r. ⌜ r ≡ fitTransfer (plainOf s) (readerOf s [] [] [] [] [] .guarded) (transferOf (marksOf s) (s .transfer) (s .got)) ⌝ }
 {
     let got = s.got as usize;
     let w = s.transfer;

@@ -7,7 +7,7 @@ use Prim.Native.Nat.{ℕ, zero, suc, _-_}
 use lib.Dec.{T}
 use Rattle.protocol.specs.Numbers.{badLength, badRoom, badPacket, transferFailed, unknownCommand, passwordFirst}
 use Rattle.protocol.specs.Tests.{verdict}
-use Rattle.protocol.specs.Reader.{Transfer, closed, opened, unfit, odd, Reader, capacity, keyed, locked, withTransfer, withBuffer}
+use Rattle.protocol.specs.Reader.{Transfer, closed, opened, unfit, Reader, capacity, keyed, locked, withTransfer, withBuffer}
 use Rattle.protocol.specs.Commands.{Free, Barred, free, barred, damaged, unknown, misfit, command}
 use Rattle.protocol.specs.Search.{Chip}
 use Rattle.protocol.specs.Table.{rule, freeRule, publicOf}
@@ -34,8 +34,7 @@ spared r = go (r .plain .transfer)
     go : (t : Transfer) → Spared r (ended r t)
     go closed = record { index = refl; templates = refl; notepad = refl; found = refl; address = refl; size = refl; lock = refl }
     go (opened w got) = record { index = refl; templates = refl; notepad = refl; found = refl; address = refl; size = refl; lock = refl }
-    go (unfit b k) = record { index = refl; templates = refl; notepad = refl; found = refl; address = refl; size = refl; lock = refl }
-    go (odd b k m) = record { index = refl; templates = refl; notepad = refl; found = refl; address = refl; size = refl; lock = refl }
+    go (unfit b k m) = record { index = refl; templates = refl; notepad = refl; found = refl; address = refl; size = refl; lock = refl }
 
 -- ---- an answer, by its kind
 
@@ -59,8 +58,7 @@ module _ (P : Said → Type 0) (χ : Chip) (r : Reader) where
       → (t : Transfer) → r .plain .transfer ≡ t → P (takeIn r last right content t)
   unfolding takeIn takeAs rested
   take-kinds last right content k closed e = k .silent
-  take-kinds last right content k (unfit b j) e = k .silent
-  take-kinds last right content k (odd b j m) e = k .silent
+  take-kinds last right content k (unfit b j m) e = k .silent
   take-kinds last right content k (opened w got) e = go (fits (r .plain) got last right content) refl
     where
       go : (b : Bool) → fits (r .plain) got last right content ≡ b → P (takeAs r w got content b last)

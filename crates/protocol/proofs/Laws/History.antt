@@ -15,7 +15,7 @@ use Rattle.protocol.specs.Bytes.{two, zeros, same, lay, follow}
 use Rattle.protocol.specs.Packet.{packet, addressAt, identifierAt, rightAt, contentAt}
 use Rattle.protocol.specs.Finder.{findOf}
 use Rattle.protocol.specs.Index.{stored, setBit, clearBits}
-use Rattle.protocol.specs.Reader.{Transfer, closed, opened, unfit, odd, Reader, capacity, bufferOf, emptied, withLibrary, withNotepad, withBuffer, withoutPages, withFound}
+use Rattle.protocol.specs.Reader.{Transfer, closed, opened, unfit, Reader, capacity, bufferOf, emptied, withLibrary, withNotepad, withBuffer, withoutPages, withFound}
 use Rattle.protocol.specs.Commands.{Barred, searchFor, store, loadChar, upChar, downChar, deletChar, empty, setSysPara, setPassword, setAddress, writeNotepad, readNotepad, templeteNum, readIndexTable, barred, command}
 use Rattle.protocol.specs.Data.{acknowledge}
 use Rattle.protocol.specs.Search.{Chip}
@@ -101,8 +101,7 @@ module _ (m : ℕ) (P : List ℕ → List ℕ → List Act → Type 0) (law : Ke
       go : (t : Transfer) → T (fitBuffers (ended r t .guarded))
       go closed = fit
       go (opened w got) = fit-buffer w emptied (r .guarded) refl fit
-      go (unfit b j) = fit
-      go (odd b j m) = fit
+      go (unfit b j m) = fit
 
   does-keeps : (d : Barred) → h ≡ order (command (barred d)) → T (passed (rule χ u d .tests))
       → After (carryAs u (rule χ u d) zero .reply) (carryAs u (rule χ u d) zero .after .guarded .templates) (carryAs u (rule χ u d) zero .after .guarded .index)

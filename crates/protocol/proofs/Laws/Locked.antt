@@ -8,7 +8,7 @@ use lib.ListN.{length}
 use Rattle.protocol.specs.Numbers.{badPacket, unknownCommand, passwordFirst, badLength, badRoom}
 use Rattle.protocol.specs.Bytes.{lay}
 use Rattle.protocol.specs.Finder.{findOf, usedOf}
-use Rattle.protocol.specs.Reader.{Transfer, closed, opened, unfit, odd, Plain, Guarded, Reader, capacity, keyed, locked, withMark, withTransfer, reader, emptied}
+use Rattle.protocol.specs.Reader.{Transfer, closed, opened, unfit, Plain, Guarded, Reader, capacity, keyed, locked, withMark, withTransfer, reader, emptied}
 use Rattle.protocol.specs.Commands.{readSysPara, verifyPassword, handShake, free, barred, damaged, unknown, misfit, command}
 use Rattle.protocol.specs.Data.{acknowledge}
 use Rattle.protocol.specs.Search.{Chip}
@@ -88,8 +88,7 @@ shut-answer χ r k (piece last right content) = ap (takeIn r last right content)
 still-locked : (p : Plain) (g : Guarded) (t : Transfer) → T (locked p) → T (fitTransfer p g t) → t ≡ closed
 unfolding fitTransfer
 still-locked p g closed l f = refl
-still-locked p g (unfit b k) l f = absurd f
-still-locked p g (odd b k m) l f = absurd f
+still-locked p g (unfit b k m) l f = absurd f
 still-locked p g (opened w got) l f = absurd (T-not (locked p) (search (and-r)) l)
 
 pub shut-of : (σ : Shape) (r : Reader) → T (legal σ r) → T (locked (r .plain)) → Shut (r .plain)

@@ -15,7 +15,7 @@ use Rattle.protocol.specs.Bytes.{zeros, byteAt, part}
 use Rattle.protocol.specs.Tests.{countBelow, verdict}
 use Rattle.protocol.specs.Index.{bit, stored, setBits, bits, setBit, clearBit, clearBits}
 use Rattle.protocol.specs.BringOver.{bringOver}
-use Rattle.protocol.specs.Reader.{Transfer, closed, opened, unfit, odd, Plain, Guarded, Reader, capacity, bufferOf, locked, withLibrary, withBuffer, withoutPages, withNotepad, contents, reader, withFound}
+use Rattle.protocol.specs.Reader.{Transfer, closed, opened, unfit, Plain, Guarded, Reader, capacity, bufferOf, locked, withLibrary, withBuffer, withoutPages, withNotepad, contents, reader, withFound}
 use Rattle.protocol.specs.Search.{Chip, eligible, searchOf}
 use Rattle.protocol.specs.Commands.{readIndexTable, barred, command, Barred, searchFor, store, loadChar, upChar, downChar, deletChar, empty, setSysPara, setPassword, setAddress, writeNotepad, readNotepad, templeteNum, Command, free, Order, damaged, unknown, misfit}
 use Rattle.protocol.specs.Table.{Effect, keep, fillPage, erase, eraseAll, fillBuffer, await, note, remember, settle, apply, Row, rule, publicOf}
@@ -194,8 +194,7 @@ module _ (n : ℕ) (χ : Chip) where
       go : (t : Transfer) → ended (longer r) t ≡ longer (ended r t)
       go closed = refl
       go (opened w k) = refl
-      go (unfit b k) = refl
-      go (odd b k m) = refl
+      go (unfit b k m) = refl
 
   take-longer : (r : Reader) (last right : Bool) (content : List ℕ) (t : Transfer) → takeIn (longer r) last right content t ≡ saidLonger (takeIn r last right content t)
   unfolding takeIn takeAs silence says ended withBuffer bufferOf
@@ -206,8 +205,7 @@ module _ (n : ℕ) (χ : Chip) where
       go false l = refl
       go true false = refl
       go true true = refl
-  take-longer r last right content (unfit b k) = refl
-  take-longer r last right content (odd b k m) = refl
+  take-longer r last right content (unfit b k m) = refl
 
   answer-longer : (r : Reader) → capacity (r .guarded) ≤ 8 * length (r .guarded .index) → (h : Heard)
       → ((p : ℕ) → h ≡ order (command (barred (readIndexTable p))) → Within r p) → answer χ (longer r) h ≡ saidLonger (answer χ r h)
@@ -245,8 +243,7 @@ transfer-fits : (p : Plain) (g : Guarded) (t x : List ℕ) (m : Transfer) → T 
 unfolding fitTransfer bufferOf
 transfer-fits p g t x closed h = h
 transfer-fits p g t x (opened w got) h = h
-transfer-fits p g t x (unfit b k) h = h
-transfer-fits p g t x (odd b k m) h = h
+transfer-fits p g t x (unfit b k m) h = h
 
 -- it was legal, and it is legal
 pub brings-legal : (r : Reader) → Legal before before-holds r → Legal core core-holds (brought r)

@@ -10,7 +10,7 @@ use lib.Dec.{T}
 use Rattle.protocol.specs.Bytes.{part}
 use Rattle.protocol.specs.Tests.{among}
 use Rattle.protocol.specs.Index.{bit, stored, clearFrom}
-use Rattle.protocol.specs.Reader.{Transfer, closed, opened, unfit, odd, noOrigin, fromPage, Buffer, Guarded, Reader, capacity, bufferOf, emptied, loadedFrom, storedOn, withLibrary, withNotepad, withBuffer, withoutPages, withFound}
+use Rattle.protocol.specs.Reader.{Transfer, closed, opened, unfit, noOrigin, fromPage, Buffer, Guarded, Reader, capacity, bufferOf, emptied, loadedFrom, storedOn, withLibrary, withNotepad, withBuffer, withoutPages, withFound}
 use Rattle.protocol.specs.Search.{Chip}
 use Rattle.protocol.specs.Table.{Effect, keep, fillPage, erase, eraseAll, fillBuffer, await, note, remember, settle, rule, apply}
 use Rattle.protocol.specs.Step.{Heard, hear, Said, silence, says, carryAs, carryFree, ended, rested, laidIn, takeAs, answer, stepOf, wiped, switched}
@@ -96,8 +96,7 @@ module _ (σ : Shape) (ok : σ .most ≤ 8 * σ .indexed) where
       go : (t : Transfer) → Faith (ended r t)
       go closed = f
       go (opened w got) = each-buffer (Copy (r .guarded .templates)) w emptied (r .guarded) (copy-emptied _) (f (not w))
-      go (unfit b j) = f
-      go (odd b j m) = f
+      go (unfit b j m) = f
 
   -- a transfer's buffer is not filled, so it has no origin
   taken-faith : (r : Reader) → Good σ ok r → Faith r → (w last : Bool) (got : ℕ) (content : List ℕ) → Moving (r .plain) (r .guarded) w got

@@ -24,7 +24,7 @@ use Rattle.protocol.proofs.Promises.Told.{has, buffer}
 use Rattle.protocol.proofs.Promises.LegalMeans.{core-holds, Lengths, Settled, legal-means}
 use Rattle.protocol.proofs.Promises.Refused.{Unused, Ends, ChipLengths, call-refusals, Switches, switch-refusals}
 use Rattle.protocol.proofs.Promises.StaysLegal.{Legal, ever-legal}
-use Rattle.protocol.proofs.Promises.Marks.{Marked, settled-marks, switch-clears}
+use Rattle.protocol.proofs.Promises.Marks.{FitRecord, settled-fit, switch-clears}
 use Rattle.protocol.proofs.Promises.OneResult.{one-reader}
 use Rattle.protocol.proofs.Promises.ValidCount.{Tells, tells-none, tells-count, tells-ever}
 use Rattle.protocol.proofs.Promises.SizeCode.{Unset, code-kept}
@@ -118,7 +118,7 @@ steps-saw (x ∷ xs) v q = go (x .event) (q .0) (steps-saw xs (x .after) (q .1))
         ∙ ap (λ (e : Ended). record { run = run; reply = take (e .told .length) (e .told .room) } ∷ exchanges core (e .after) (eventsOf xs)) p
     go switch p i = i ∙ ap (λ (e : Ended). exchanges core (e .after) (eventsOf xs)) p
 
--- ---- demand 1: "refusal 1, 2, 3 .. as document 01 says; no reply is written and no byte changes", with an unfit mark as a line of its own
+-- ---- demand 1: "refusal 1, 2, 3 .. as document 01 says; no reply is written and no byte changes", with an unfit record as a line of its own
 
 -- one reader comes of one settings record and one memory
 pub same-vault : (s z : Settings) (m n : Memory) → readerAt s m ≡ readerAt z n → (s ≡ z) × (m ≡ n)
@@ -129,7 +129,7 @@ same-vault s z m n e =
 abbrev pub door-lines : Settings → Memory → Lent → List Line
 door-lines s m lent =
     let r = readerAt s m in
-    unless (Lengths (r .guarded)) 1 ∷ unless (ChipLengths r lent) 1 ∷ unless (700 ≤ length (lent .room)) 2 ∷ unless (Marked s) 3 ∷ unless (Settled r) 3 ∷ []
+    unless (Lengths (r .guarded)) 1 ∷ unless (ChipLengths r lent) 1 ∷ unless (700 ≤ length (lent .room)) 2 ∷ unless (FitRecord s) 3 ∷ unless (Settled r) 3 ∷ []
 
 -- 0 is no refusal; a refused call returns its number and zeros, and settings, memory and reply room lie as they lay, byte for byte
 abbrev pub DoorEnds : Vault → Lent → Told → Vault → ℕ → Type 0
@@ -141,10 +141,10 @@ pub step-refusals : (v w : Vault) (run : List ℕ) (lent : Lent) (t : Told) → 
 unfolding on
 step-refusals v w run lent t q =
     let c = call-refusals (readerIn v) run lent in
-    (λ a. (λ b. (λ d. (λ k. (λ h. end 0 (c .0 a .0 b .0 d .0 h), λ f. end 3 (c .0 a .0 b .0 d .1 f)), λ f. end 3 (c .0 a .0 b .0 d .1 (λ h. f (marks h)))), λ f. end 2 (c .0 a .0 b .1 f)), λ f. end 1 (c .0 a .1 f)), λ f. end 1 (c .1 f))
+    (λ a. (λ b. (λ d. (λ k. (λ h. end 0 (c .0 a .0 b .0 d .0 h), λ f. end 3 (c .0 a .0 b .0 d .1 f)), λ f. end 3 (c .0 a .0 b .0 d .1 (λ h. f (fit h)))), λ f. end 2 (c .0 a .0 b .1 f)), λ f. end 1 (c .0 a .1 f)), λ f. end 1 (c .1 f))
   where
-    marks : Settled (readerIn v) → Marked (v .settings)
-    marks = settled-marks (v .settings) (v .memory .templates) (v .memory .index) (v .memory .notepad) (v .memory .buffer1) (v .memory .buffer2)
+    fit : Settled (readerIn v) → FitRecord (v .settings)
+    fit = settled-fit (v .settings) (v .memory .templates) (v .memory .index) (v .memory .notepad) (v .memory .buffer1) (v .memory .buffer2)
 
     end : (n : ℕ) → Ends (readerIn v) (lent .room) (callOf core (readerIn v) run lent) n → DoorEnds v lent t w n
     end zero e = ap (λ (x : Ended). x .told .refusal) (q .0) ∙ e
@@ -177,16 +177,16 @@ switch-refusal v w t q = let c = switch-refusals (readerIn v) in (λ a. end 0 (c
         let o = same-vault (w .settings) (v .settings) (w .memory) (v .memory) (ap (λ (x : Ended). x .after) (q .0) ∙ e .1) in
         (same (suc n) (e .0), λ j. record { settings = o .0 j; memory = o .1 j })
 
--- ---- demand 1: a legal vault is legal after any calls, each of its marks is 0 or 1, and no call whose scores, thresholds and reply room are fit is refused
+-- ---- demand 1: a legal vault is legal after any calls, its record is fit, and no call whose scores, thresholds and reply room are fit is refused
 
 -- by the types of C password and address have four bytes, and a byte of the index is below 256
 abbrev pub LegalVault : Vault → Type 0
 LegalVault v = Legal core core-holds (readerIn v)
 
-pub vault-marks : (v : Vault) → LegalVault v → Marked (v .settings)
-vault-marks v l =
+pub vault-fit : (v : Vault) → LegalVault v → FitRecord (v .settings)
+vault-fit v l =
     let m = v .memory in
-    settled-marks (v .settings) (m .templates) (m .index) (m .notepad) (m .buffer1) (m .buffer2) (legal-means (readerIn v) (l .legal) .settings)
+    settled-fit (v .settings) (m .templates) (m .index) (m .notepad) (m .buffer1) (m .buffer2) (legal-means (readerIn v) (l .legal) .settings)
 
 -- the set bits of an index that tells of the acts so far, as bystrodol_count gives them
 pub count-of : (x : List ℕ) (acts : List Act) → Tells 128 x acts → countService x ≡ countBelow (live acts) 1024

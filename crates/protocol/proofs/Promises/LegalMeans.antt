@@ -12,15 +12,16 @@ use Rattle.protocol.specs.Numbers.{highestSize}
 use Rattle.protocol.specs.Bytes.{Bytes, four, same}
 use Rattle.protocol.specs.Tests.{within}
 use Rattle.protocol.specs.Index.{bit, stored}
-use Rattle.protocol.specs.Reader.{Transfer, closed, opened, unfit, odd, Plain, fromPage, Buffer, Guarded, Reader, capacity, sizeOf, keyed, locked, bufferOf}
+use Rattle.protocol.specs.Reader.{Marks, Transfer, closed, opened, unfit, Plain, fromPage, Buffer, Guarded, Reader, capacity, sizeOf, keyed, locked, bufferOf}
 use Rattle.protocol.specs.Records.{transferOf}
 use Rattle.protocol.specs.Call.{core, fitBuffers, fitPlain, fitTransfer, sound, fitLengths, legal, Typed}
 use Rattle.protocol.proofs.Laws.Logic.{and-l, and-r, and-i, and-false, eq→eqb}
 use Rattle.protocol.proofs.Laws.Lists.{same-refl, same-eq}
 use Rattle.protocol.proofs.Laws.Index.{clear-above, clear-to}
+use Rattle.protocol.proofs.Laws.Marks.{transfer-kinds}
 use Rattle.protocol.proofs.Laws.Origins.{Rooted, rooted, fit-origins}
 use Rattle.protocol.proofs.Laws.Legal.{buffer-long, moving, Moving, fit-opened, Shelf, shelf, unshelf}
-use Rattle.protocol.proofs.Promises.Words.{memory}
+use Rattle.protocol.proofs.Promises.Words.{memory, Marked, kept}
 
 -- document 01's own reader has a bit for every page
 pub core-holds : core .most ≤ 8 * core .indexed
@@ -54,8 +55,7 @@ abbrev pub LegalTransfer : Plain → Guarded → Transfer → Type 0
 LegalTransfer p g closed = Unit {0}
 LegalTransfer p g (opened false got) = Into p (g .buffer1 .filled) got
 LegalTransfer p g (opened true got) = Into p (g .buffer2 .filled) got
-LegalTransfer p g (unfit b k) = ⊥
-LegalTransfer p g (odd b k m) = ⊥
+LegalTransfer p g (unfit b k m) = ⊥
 
 -- "3 for an origin at or above C, on a vacant page, or on a buffer not filled": page p of a library, and the buffer b whose origin it is
 pub record LegalOrigin (templates index : List ℕ) (b : Buffer) (p : ℕ) : Type 0 where
@@ -154,28 +154,24 @@ unfolding fitTransfer bufferOf
 transfer-means p g z closed = (λ t. tt, λ t. tt)
 transfer-means p g z (opened false got) = into p g false got z
 transfer-means p g z (opened true got) = into p g true got z
-transfer-means p g z (unfit b k) = (λ t. t, λ t. t)
-transfer-means p g z (odd b k m) = (λ t. t, λ t. t)
+transfer-means p g z (unfit b k m) = (λ t. t, λ t. t)
 
--- "transfer: none, or buffer 1 or 2 with the bytes got so far": two numbers of the settings record, and none is 0 and 0
-pub transfer-numbers : (p : Plain) (g : Guarded) (b got : ℕ) → LegalTransfer p g (transferOf b got)
-    ↔ (((b ≡ 0) × (got ≡ 0)) ⊎ ((b ≡ 1) × Into p (g .buffer1 .filled) got) ⊎ ((b ≡ 2) × Into p (g .buffer2 .filled) got))
-unfolding transferOf
-transfer-numbers p g b got = (to b got, from b got)
+-- "transfer: none, or buffer 1 or 2 with the bytes got so far": two numbers of the settings record, and none is 0 and 0; and each of its marks is 0 or 1
+abbrev pub Numbered : Plain → Guarded → ℕ → ℕ → Type 0
+Numbered p g b got = ((b ≡ 0) × (got ≡ 0)) ⊎ ((b ≡ 1) × Into p (g .buffer1 .filled) got) ⊎ ((b ≡ 2) × Into p (g .buffer2 .filled) got)
+
+pub transfer-numbers : (p : Plain) (g : Guarded) (m : Marks) (b got : ℕ) → LegalTransfer p g (transferOf m b got) ↔ (Marked m × Numbered p g b got)
+transfer-numbers p g m b got = (to, from)
   where
-    to : (b got : ℕ) → LegalTransfer p g (transferOf b got)
-        → ((b ≡ 0) × (got ≡ 0)) ⊎ ((b ≡ 1) × Into p (g .buffer1 .filled) got) ⊎ ((b ≡ 2) × Into p (g .buffer2 .filled) got)
-    to zero zero m = inl (refl, refl)
-    to zero (suc k) m = absurd m
-    to (suc zero) k m = inr (inl (refl, m))
-    to (suc (suc zero)) k m = inr (inr (refl, m))
-    to (suc (suc (suc b))) k m = absurd m
+    to : LegalTransfer p g (transferOf m b got) → Marked m × Numbered p g b got
+    to =
+        transfer-kinds m b got (λ t. LegalTransfer p g t → Marked m × Numbered p g b got) (λ f x y h. (kept .marks-mean m .0 f, inl (x, y)))
+        (λ f x h. (kept .marks-mean m .0 f, inr (inl (x, h)))) (λ f x h. (kept .marks-mean m .0 f, inr (inr (x, h)))) (λ h. absurd h)
 
-    from : (b got : ℕ) → ((b ≡ 0) × (got ≡ 0)) ⊎ ((b ≡ 1) × Into p (g .buffer1 .filled) got) ⊎ ((b ≡ 2) × Into p (g .buffer2 .filled) got)
-        → LegalTransfer p g (transferOf b got)
-    from b got (inl (e, f)) = rw (e, f) tt
-    from b got (inr (inl (e, m))) = rw e m
-    from b got (inr (inr (e, m))) = rw e m
+    from : Marked m × Numbered p g b got → LegalTransfer p g (transferOf m b got)
+    from (k, inl (e, f)) = rw (e, f, kept .transfer-none m k) tt
+    from (k, inr (inl (e, h))) = rw (e, kept .transfer-one m k got) h
+    from (k, inr (inr (e, h))) = rw (e, kept .transfer-two m k got) h
 
 bit-clear : (x : List ℕ) (q : ℕ) → (stored x q ≡ false) ↔ (getD x (q / 8) 0 / 2 ^ (q % 8) % 2 ≡ 0)
 unfolding stored bit

@@ -27,7 +27,7 @@ use Rattle.protocol.proofs.Promises.Told.{has, buffer}
 use Rattle.protocol.proofs.Promises.LegalMeans.{core-holds, Lengths, Settled, legal-means}
 use Rattle.protocol.proofs.Promises.Refused.{ChipLengths}
 use Rattle.protocol.proofs.Promises.StaysLegal.{Legal}
-use Rattle.protocol.proofs.Promises.Marks.{Marked, settled-marks}
+use Rattle.protocol.proofs.Promises.Marks.{FitRecord, settled-fit}
 use Rattle.protocol.proofs.Promises.ValidCount.{Tells, tells-none, tells-ever}
 use Rattle.protocol.proofs.Promises.SizeCode.{Unset}
 use Rattle.protocol.proofs.Promises.Faithful.{Faithful, Holds}
@@ -109,12 +109,12 @@ receives-saw (x ∷ xs) v q = go (x .event) (q .0) (receives-saw xs (x .after) (
         ∙ ap (λ (o : Handed). record { run = runOf (v .line .receiver) piece; reply = take (o .told .length) (o .told .room) } ∷ seen core (o .after) (eventsOf xs)) p
     go switch p i = i ∙ ap (λ (o : Handed). seen core (o .after) (eventsOf xs)) p
 
--- ---- demand 1 and request [1]: the refusals, with an unfit mark as a line of its own, and a held count above 267
+-- ---- demand 1 and request [1]: the refusals, with an unfit record as a line of its own, and a held count above 267
 
 abbrev pub line-lines : Line → Memory → Lent → List Unless
 line-lines x m lent =
     let r = readerAt (x .settings) m in
-    unless (Lengths (r .guarded)) 1 ∷ unless (ChipLengths r lent) 1 ∷ unless (700 ≤ length (lent .room)) 2 ∷ unless (Marked (x .settings)) 3 ∷ unless (Settled r) 3
+    unless (Lengths (r .guarded)) 1 ∷ unless (ChipLengths r lent) 1 ∷ unless (700 ≤ length (lent .room)) 2 ∷ unless (FitRecord (x .settings)) 3 ∷ unless (Settled r) 3
     ∷ unless (x .receiver .count ≤ 267) 3 ∷ []
 
 -- 0 is no refusal; a refused call returns its number and zeros, and line, memory and reply room lie as they lay, byte for byte
@@ -132,10 +132,10 @@ pub receive-refusal : (v w : LineVault) (piece : List ℕ) (lent : Lent) (t : To
 unfolding onLine
 receive-refusal v w piece lent t q =
     let c = receive-refusals (lineIn v) piece lent in
-    (λ a. (λ b. (λ d. (λ k. (λ h. (λ l. end 0 (c .0 a .0 b .0 d .0 h .0 l), λ f. end 3 (c .0 a .0 b .0 d .0 h .1 f)), λ f. end 3 (c .0 a .0 b .0 d .1 f)), λ f. end 3 (c .0 a .0 b .0 d .1 (λ h. f (marks h)))), λ f. end 2 (c .0 a .0 b .1 f)), λ f. end 1 (c .0 a .1 f)), λ f. end 1 (c .1 f))
+    (λ a. (λ b. (λ d. (λ k. (λ h. (λ l. end 0 (c .0 a .0 b .0 d .0 h .0 l), λ f. end 3 (c .0 a .0 b .0 d .0 h .1 f)), λ f. end 3 (c .0 a .0 b .0 d .1 f)), λ f. end 3 (c .0 a .0 b .0 d .1 (λ h. f (fit h)))), λ f. end 2 (c .0 a .0 b .1 f)), λ f. end 1 (c .0 a .1 f)), λ f. end 1 (c .1 f))
   where
-    marks : Settled (lineIn v .reader) → Marked (v .line .settings)
-    marks = settled-marks (v .line .settings) (v .memory .templates) (v .memory .index) (v .memory .notepad) (v .memory .buffer1) (v .memory .buffer2)
+    fit : Settled (lineIn v .reader) → FitRecord (v .line .settings)
+    fit = settled-fit (v .line .settings) (v .memory .templates) (v .memory .index) (v .memory .notepad) (v .memory .buffer1) (v .memory .buffer2)
 
     end : (n : ℕ) → Hands (lineIn v) lent (receiveOf core (lineIn v) piece lent) n → LineEnds v (lent .room) t w n
     end zero e = ap (λ (o : Handed). o .told .refusal) (q .0) ∙ e
@@ -144,17 +144,17 @@ receive-refusal v w piece lent t q =
       same-line v w (ap (λ (o : Handed). o .after) (q .0) ∙ e .1),
     )
 
--- ---- demand 1: a legal line is legal after any calls, each of its marks is 0 or 1, and no call whose scores, thresholds and reply room are fit is refused
+-- ---- demand 1: a legal line is legal after any calls, its record is fit, and no call whose scores, thresholds and reply room are fit is refused
 
 -- by the types of C password and address have four bytes, and a byte of the index is below 256
 pub record LegalLine (v : LineVault) : Type 0 where
   pub reader : Legal core core-holds (readerAt (v .line .settings) (v .memory))
   pub few : v .line .receiver .count ≤ 267
 
-pub line-marks : (v : LineVault) → LegalLine v → Marked (v .line .settings)
-line-marks v l =
+pub line-fit : (v : LineVault) → LegalLine v → FitRecord (v .line .settings)
+line-fit v l =
     let m = v .memory in
-    settled-marks (v .line .settings) (m .templates) (m .index) (m .notepad) (m .buffer1) (m .buffer2) (legal-means (lineIn v .reader) (l .reader .legal) .settings)
+    settled-fit (v .line .settings) (m .templates) (m .index) (m .notepad) (m .buffer1) (m .buffer2) (legal-means (lineIn v .reader) (l .reader .legal) .settings)
 
 module _ (v : LineVault) (xs : List (Entry LineVault)) (q : Receives v xs) where
   ends : lineIn (lastOf v xs) ≡ finallyOn core (lineIn v) (eventsOf xs)

@@ -3,7 +3,7 @@ use mathlib.Core.Bool.{true, false, cond}
 use mathlib.Core.Path.{_≡_, refl, sym, ap, _∙_, subst}
 use mathlib.Core.Logic.{_⊎_, inl, inr, _≢_}
 use mathlib.Core.List.{List, [], _∷_, _++_}
-use Prim.Native.Nat.{ℕ, zero, suc, _-_, _/_, _≤_}
+use Prim.Native.Nat.{ℕ, _-_, _/_, _≤_}
 use native.Mathlib.Omega.{arith}
 use lib.Dec.{T, eqb}
 use lib.ListN.{length, take, replicate}
@@ -19,19 +19,18 @@ use Rattle.protocol.specs.Call.{core, Lent, Told, Ended, replyOf, callOf
 use Rattle.protocol.specs.Dialogue.{Event, received, switch, on, Dialogue, over, first, dialogue, kept, Paired}
 use Rattle.protocol.specs.Receiver.{bytesIn, line, Handed, fitting, runOf, receiveOf}
 use Rattle.protocol.specs.Caller.{onLine, Talk, endsAt, begins, talk}
-use Rattle.protocol.specs.Records.{fitMark, originOf, isSet, markOf, transferOf, plainOf}
+use Rattle.protocol.specs.Records.{fitMark, originOf, isSet, markOf, marksOf, transferOf, plainOf}
 use Rattle.protocol.specs.Doors.{Memory, Vault, LineVault, readerAt, readerIn, lineIn, Entry, lastOf, eventsOf, toldOf, Until, Steps, Receives}
-use Rattle.protocol.proofs.Laws.Marks.{mark-is}
+use Rattle.protocol.proofs.Laws.Marks.{mark-is, same-beside}
 use Rattle.protocol.proofs.Laws.Entries.{paired-long, Tale, whole, goes-whole, goes-through}
 use Rattle.protocol.proofs.Promises.Words as words
-use Rattle.protocol.proofs.Promises.LegalMeans.{LegalTransfer, legal-means}
-use Rattle.protocol.proofs.Promises.Marks.{Marked, beside-marked}
+use Rattle.protocol.proofs.Promises.Marks.{FitRecord}
 use Rattle.protocol.proofs.Promises.OneResult.{same-origin, transfer-same}
 use Rattle.protocol.proofs.Promises.Parameters.{AsksParameters}
 use Rattle.protocol.proofs.Promises.Lock.{mark, ButStatus, Bars, Alike, FirstHalf, marked-legal, first-half, Blind, second-half}
 use Rattle.protocol.proofs.Promises.ReceiverLock.{ReceiverHalf, receiver-first-half, SameHeld, ReceiverBlind, receiver-second-half}
-use Rattle.protocol.proofs.Promises.LinesFromC.{LegalLine, line-marks, line-vault-legal}
-use Rattle.protocol.proofs.Promises.FromC.{same-vault, LegalVault, vault-marks, vault-legal}
+use Rattle.protocol.proofs.Promises.LinesFromC.{LegalLine, line-fit, line-vault-legal}
+use Rattle.protocol.proofs.Promises.FromC.{same-vault, LegalVault, vault-fit, vault-legal}
 
 -- ---- "its copy with only the verified mark changed"
 
@@ -55,9 +54,14 @@ withVerified k s =
       origin2 = s .origin2;
     }
 
-remarked : (s : Settings) (m : Memory) → Marked s → (k : ℕ) → k ≤ 1 → readerAt (withVerified k s) m ≡ mark (eqb k 1) (readerAt s m)
+-- the transfer is the same beside other marks of 0 and 1
+same-record : (s z : Settings) → FitRecord s → words.Marked (marksOf z) → transferOf (marksOf z) (s .transfer) (s .got) ≡ transferOf (marksOf s) (s .transfer) (s .got)
+same-record s z h k =
+    same-beside (marksOf s) (words.kept .marks-mean (marksOf s) .1 (h .marks)) (marksOf z) (words.kept .marks-mean (marksOf z) .1 k) (s .transfer) (s .got) (h .which) (h .none)
+
+remarked : (s : Settings) (m : Memory) → FitRecord s → (k : ℕ) → k ≤ 1 → readerAt (withVerified k s) m ≡ mark (eqb k 1) (readerAt s m)
 remarked s m h k l =
-    rw (beside-marked (withVerified k s) record { verified = l; filled1 = h .filled1; filled2 = h .filled2; found = h .found }, beside-marked s h) refl
+    rw (same-record s (withVerified k s) h record { verified = l; filled1 = h .marks .filled1; filled2 = h .marks .filled2; found = h .marks .found }) refl
 
 -- ---- the first half
 
@@ -80,7 +84,7 @@ pub record HalfFromC (s : Settings) (m : Memory) (run : List ℕ) (lent : Lent) 
   pub used : t .used ≡ u .used
   pub answers : BarsFromC s lent m t s₁ m₁ ⊎ SameButMark (s .address) run t u s₁ s₂ m₁ m₂
 
-half-bytes : (s : Settings) (m : Memory) (run : List ℕ) (lent : Lent) (t : Told) (s₁ : Settings) (m₁ : Memory) (u : Told) (s₂ : Settings) (m₂ : Memory) → Marked s₁ → Marked s₂
+half-bytes : (s : Settings) (m : Memory) (run : List ℕ) (lent : Lent) (t : Told) (s₁ : Settings) (m₁ : Memory) (u : Told) (s₂ : Settings) (m₂ : Memory) → FitRecord s₁ → FitRecord s₂
     → FirstHalf (readerAt s m) run lent record { told = t; after = readerAt s₁ m₁ } record { told = u; after = readerAt s₂ m₂ } → HalfFromC s m run lent t s₁ m₁ u s₂ m₂
 unfolding replyOf
 half-bytes s m run lent t s₁ m₁ u s₂ m₂ h k f = record { refusal = f .refusal; used = f .used; answers = go (f .answers) }
@@ -105,17 +109,12 @@ module _ (s : Settings) (m : Memory) where
     unfolding at
     keys = words.kept .keyed-means (at .plain) .1 key
 
-    fit : Marked (withVerified 0 s)
-    fit = vault-marks (vault 0) l
+    fit : FitRecord (withVerified 0 s)
+    fit = vault-fit (vault 0) l
 
     still : at .plain .transfer ≡ closed
-    unfolding at transferOf
-    still = beside-marked (withVerified 0 s) fit ∙ go (s .transfer) (s .got) none (subst (LegalTransfer (at .plain) (at .guarded)) (beside-marked (withVerified 0 s) fit) (legal-means at (l .legal) .settings .transfer))
-      where
-        go : (w k : ℕ) → w ≡ 0 → LegalTransfer (at .plain) (at .guarded) (transferOf w k) → transferOf w k ≡ closed
-        go zero zero e t = refl
-        go zero (suc k) e t = absurd t
-        go (suc w) k e t = absurd (omega (arith, e))
+    unfolding at
+    still = rw (none, fit .none none) (words.kept .transfer-none (marksOf (withVerified 0 s)) (fit .marks))
 
     copy : readerIn (vault 1) ≡ mark true at
     unfolding at
@@ -135,8 +134,8 @@ module _ (s : Settings) (m : Memory) where
         → HalfFromC (withVerified 0 s) m run lent t (w .settings) (w .memory) u (z .settings) (z .memory)
     unfolding at on
     vault-first-half run lent t u w z p q =
-        let o = vault-marks w (vault-legal (vault 0) (record { event = received run lent; told = t; after = w } ∷ []) p l) in
-        let k = vault-marks z (vault-legal (vault 1) (record { event = received run lent; told = u; after = z } ∷ []) q copy-legal) in
+        let o = vault-fit w (vault-legal (vault 0) (record { event = received run lent; told = t; after = w } ∷ []) p l) in
+        let k = vault-fit z (vault-legal (vault 1) (record { event = received run lent; told = u; after = z } ∷ []) q copy-legal) in
         half-bytes (withVerified 0 s) m run lent t (w .settings) (w .memory) u (z .settings) (z .memory) o k
         (subst (λ (e : Ended). FirstHalf at run lent e record { told = u; after = readerIn z }) (sym (p .0))
         (subst (λ (e : Ended). FirstHalf at run lent (callOf core at run lent) e) (sym (q .0 ∙ ap (λ (r : Reader). callOf core r run lent) copy)) (first-half at keys still core (l .legal) run lent)))
@@ -149,8 +148,8 @@ module _ (s : Settings) (m : Memory) where
         HalfFromC (withVerified 0 s) m run lent t (w .line .settings) (w .memory) u (z .line .settings) (z .memory) × (w .line .receiver ≡ z .line .receiver))
     unfolding at onLine runOf bytesIn fitting holds longest
     line-vault-first-half h few piece lent t u w z p q =
-        let o = line-marks w (line-vault-legal _ (record { event = received piece lent; told = t; after = w } ∷ []) p record { reader = l; few = few }) in
-        let k = line-marks z (line-vault-legal _ (record { event = received piece lent; told = u; after = z } ∷ []) q record { reader = copy-legal; few = few }) in
+        let o = line-fit w (line-vault-legal _ (record { event = received piece lent; told = t; after = w } ∷ []) p record { reader = l; few = few }) in
+        let k = line-fit z (line-vault-legal _ (record { event = received piece lent; told = u; after = z } ∷ []) q record { reader = copy-legal; few = few }) in
         let run : List ℕ = runOf h piece in
         let half : ReceiverHalf at run lent record { told = t; after = lineIn w } record { told = u; after = lineIn z } =
         subst (λ (e : Handed). ReceiverHalf at run lent e record { told = u; after = lineIn z }) (sym (p .0))
@@ -173,19 +172,19 @@ pub record SameOpen (s z : Settings) : Type 0 where
   pub got : s .got ≡ z .got
   pub verified : s .verified ≡ z .verified
 
-open-plain : (s z : Settings) → Marked s → Marked z → SameOpen s z → plainOf s ≡ plainOf z
+open-plain : (s z : Settings) → FitRecord s → FitRecord z → SameOpen s z → plainOf s ≡ plainOf z
 open-plain s z h k o =
-    rw (beside-marked s h, beside-marked z k)
+    rw (← same-record s z h (k .marks))
     (λ j.
-    settings (o .password j) (o .address j) (o .level j) (o .size j) (o .baud j) (o .sensor j) (isSet (o .verified j)) (transferOf (o .transfer j) (o .got j)))
+    settings (o .password j) (o .address j) (o .level j) (o .size j) (o .baud j) (o .sensor j) (isSet (o .verified j)) (transferOf (marksOf z) (o .transfer j) (o .got j)))
 
 mark-bytes : (a b : ℕ) → a ≤ 1 → b ≤ 1 → isSet a ≡ isSet b → a ≡ b
 unfolding fitMark
 mark-bytes a b l m e = sym (mark-is a (lt-ltb a 2 (omega arith))) ∙ ap markOf e ∙ mark-is b (lt-ltb b 2 (omega arith))
 
-plain-open : (s z : Settings) → Marked s → Marked z → plainOf s ≡ plainOf z → SameOpen s z
+plain-open : (s z : Settings) → FitRecord s → FitRecord z → plainOf s ≡ plainOf z → SameOpen s z
 plain-open s z h k e =
-    let t = transfer-same (s .transfer) (s .got) (z .transfer) (z .got) (sym (beside-marked s h) ∙ ap (λ (p : Plain). p .transfer) e ∙ beside-marked z k) in
+    let t = transfer-same (marksOf s) (marksOf z) (s .transfer) (s .got) (z .transfer) (z .got) (ap (λ (p : Plain). p .transfer) e) in
     record {
       password = ap (λ (p : Plain). p .password) e;
       address = ap (λ (p : Plain). p .address) e;
@@ -195,7 +194,7 @@ plain-open s z h k e =
       transfer = t .0;
       sensor = ap (λ (p : Plain). p .sensor) e;
       got = t .1;
-      verified = mark-bytes (s .verified) (z .verified) (h .verified) (k .verified) (ap (λ (p : Plain). p .verified) e);
+      verified = mark-bytes (s .verified) (z .verified) (h .marks .verified) (k .marks .verified) (ap (λ (p : Plain). p .verified) e);
     }
 
 -- a line switch is among the events
@@ -240,7 +239,7 @@ kept-library [] g = (refl, (refl, refl))
 kept-library (received run lent ∷ es) g = kept-library es g
 kept-library (switch ∷ es) g = kept-library es (wiped g)
 
-stay-bytes : (es : List Event) (s : Settings) (m : Memory) (s′ : Settings) (m′ : Memory) → Marked s → Marked s′ → readerAt s′ m′ .guarded ≡ kept (readerAt s m .guarded) es → Stay es s m s′ m′
+stay-bytes : (es : List Event) (s : Settings) (m : Memory) (s′ : Settings) (m′ : Memory) → FitRecord s → FitRecord s′ → readerAt s′ m′ .guarded ≡ kept (readerAt s m .guarded) es → Stay es s m s′ m′
 unfolding wiped emptied originOf
 stay-bytes es s m s′ m′ h k e =
     let o = kept-library es (readerAt s m .guarded) in
@@ -251,14 +250,14 @@ stay-bytes es s m s′ m′ h k e =
       buffers = λ n. (let f = e ∙ kept-still es (readerAt s m .guarded) n in (ap (λ (g : Guarded). g .buffer1 .bytes) f, ap (λ (g : Guarded). g .buffer2 .bytes) f));
       marks =
           λ n. (let f = e ∙ kept-still es (readerAt s m .guarded) n in
-          (mark-bytes _ _ (k .filled1) (h .filled1) (ap (λ (g : Guarded). g .buffer1 .filled) f), (mark-bytes _ _ (k .filled2) (h .filled2) (ap (λ (g : Guarded). g .buffer2 .filled) f), mark-bytes _ _ (k .found) (h .found) (ap (λ (g : Guarded). g .found) f))));
+          (mark-bytes _ _ (k .marks .filled1) (h .marks .filled1) (ap (λ (g : Guarded). g .buffer1 .filled) f), (mark-bytes _ _ (k .marks .filled2) (h .marks .filled2) (ap (λ (g : Guarded). g .buffer2 .filled) f), mark-bytes _ _ (k .marks .found) (h .marks .found) (ap (λ (g : Guarded). g .found) f))));
       origins =
           λ n. (let f = e ∙ kept-still es (readerAt s m .guarded) n in
           (same-origin (s′ .origin1) (s .origin1) (ap (λ (g : Guarded). g .buffer1 .origin) f), same-origin (s′ .origin2) (s .origin2) (ap (λ (g : Guarded). g .buffer2 .origin) f)));
       wiped-buffers = λ y. (let f = e ∙ kept-switched es (readerAt s m .guarded) y in (ap (λ (g : Guarded). g .buffer1 .bytes) f, ap (λ (g : Guarded). g .buffer2 .bytes) f));
       wiped-marks =
           λ y. (let f = e ∙ kept-switched es (readerAt s m .guarded) y in
-          (mark-bytes _ 0 (k .filled1) (omega arith) (ap (λ (g : Guarded). g .buffer1 .filled) f), (mark-bytes _ 0 (k .filled2) (omega arith) (ap (λ (g : Guarded). g .buffer2 .filled) f), mark-bytes _ 0 (k .found) (omega arith) (ap (λ (g : Guarded). g .found) f))));
+          (mark-bytes _ 0 (k .marks .filled1) (omega arith) (ap (λ (g : Guarded). g .buffer1 .filled) f), (mark-bytes _ 0 (k .marks .filled2) (omega arith) (ap (λ (g : Guarded). g .buffer2 .filled) f), mark-bytes _ 0 (k .marks .found) (omega arith) (ap (λ (g : Guarded). g .found) f))));
       wiped-origins =
           λ y. (let f = e ∙ kept-switched es (readerAt s m .guarded) y in
           (same-origin (s′ .origin1) 65535 (ap (λ (g : Guarded). g .buffer1 .origin) f), same-origin (s′ .origin2) 65535 (ap (λ (g : Guarded). g .buffer2 .origin) f)));
@@ -270,7 +269,7 @@ pub record AlikeFromC (es fs : List Event) (s : Settings) (m : Memory) (z : Sett
   pub kept-one : Stay es s m s′ m′
   pub kept-other : Stay fs z n z′ n′
 
-alike-bytes : (es fs : List Event) (s : Settings) (m : Memory) (z : Settings) (n : Memory) (s′ : Settings) (m′ : Memory) (z′ : Settings) (n′ : Memory) → Marked s → Marked z → Marked s′ → Marked z′
+alike-bytes : (es fs : List Event) (s : Settings) (m : Memory) (z : Settings) (n : Memory) (s′ : Settings) (m′ : Memory) (z′ : Settings) (n′ : Memory) → FitRecord s → FitRecord z → FitRecord s′ → FitRecord z′
     → plainOf s′ ≡ plainOf z′ → readerAt s′ m′ .guarded ≡ kept (readerAt s m .guarded) es → readerAt z′ n′ .guarded ≡ kept (readerAt z n .guarded) fs → AlikeFromC es fs s m z n s′ m′ z′ n′
 alike-bytes es fs s m z n s′ m′ z′ n′ h k h′ k′ e f g =
     record { settings = plain-open s′ z′ h′ k′ e; kept-one = stay-bytes es s m s′ m′ h h′ f; kept-other = stay-bytes fs z n z′ n′ k k′ g }
@@ -331,8 +330,8 @@ pub vault-second-half : (v w : Vault) → LegalVault v → LegalVault w → v .s
     → Paired (length (v .memory .templates) / 512) (eventsOf xs) (eventsOf ys) → BlindFromC v w xs ys
 unfolding capacity verifiedIn
 vault-second-half v w l k key shut same pages xs ys p q u pair =
-    let h = vault-marks v l in
-    let n = vault-marks w k in
+    let h = vault-fit v l in
+    let n = vault-fit w k in
     let c : ℕ = length (v .memory .templates) / 512 in
     let d : Dialogue = dialogue core (readerIn v) (eventsOf xs) in
     let e : Dialogue = dialogue core (readerIn w) (eventsOf ys) in
@@ -351,7 +350,7 @@ vault-second-half v w l k key shut same pages xs ys p q u pair =
       told = f .told;
       after =
           alike-bytes (eventsOf xs) (eventsOf ys) (v .settings) (v .memory) (w .settings) (w .memory) (lastOf v xs .settings) (lastOf v xs .memory) (lastOf w ys .settings) (lastOf w ys .memory) h n
-          (vault-marks (lastOf v xs) (vault-legal v xs p l)) (vault-marks (lastOf w ys) (vault-legal w ys q k)) (f .settings) (f .kept-one) (f .kept-other);
+          (vault-fit (lastOf v xs) (vault-legal v xs p l)) (vault-fit (lastOf w ys) (vault-legal w ys q k)) (f .settings) (f .kept-one) (f .kept-other);
     }
 
 -- with a receiver: the two hold the same bytes, and hold the same after the last call
@@ -366,8 +365,8 @@ pub line-vault-second-half : (v w : LineVault) → LegalLine v → LegalLine w �
     → Paired (length (v .memory .templates) / 512) (eventsOf xs) (eventsOf ys) → LinesBlindFromC v w xs ys
 unfolding capacity verifiedOn
 line-vault-second-half v w l k key shut same pages held xs ys p q u pair =
-    let h = line-marks v l in
-    let n = line-marks w k in
+    let h = line-fit v l in
+    let n = line-fit w k in
     let c : ℕ = length (v .memory .templates) / 512 in
     let r : Reader = lineIn v .reader in
     let t : Reader = lineIn w .reader in
@@ -389,5 +388,5 @@ line-vault-second-half v w l k key shut same pages held xs ys p q u pair =
       held = f .held;
       after =
           alike-bytes (eventsOf xs) (eventsOf ys) (v .line .settings) (v .memory) (w .line .settings) (w .memory) (lastOf v xs .line .settings) (lastOf v xs .memory) (lastOf w ys .line .settings) (lastOf w ys .memory) h n
-          (line-marks (lastOf v xs) (line-vault-legal v xs p l)) (line-marks (lastOf w ys) (line-vault-legal w ys q k)) (f .settings) (f .kept-one) (f .kept-other);
+          (line-fit (lastOf v xs) (line-vault-legal v xs p l)) (line-fit (lastOf w ys) (line-vault-legal w ys q k)) (f .settings) (f .kept-one) (f .kept-other);
     }

@@ -1,73 +1,50 @@
 -- Demand 1: "any settings". A mark of the settings record may be any byte: one that is neither 0 nor 1 is a setting that is not legal, so that refusals 1 and 2
 -- come before it and 3 is its own (`call-refusals`, `receive-refusals`); refused, the very record comes back; carried out, its marks are 0 and 1; and a
 -- line switch takes any byte and leaves 0. A contract says `endedOf c .. ≡ callOf core (readerOf s ..) ..`, and so for the others: `q` is that.
-use mathlib.Core.Bool.{Bool, true, false}
 use mathlib.Core.Path.{_≡_, refl, sym, ap, _∙_, subst}
-use mathlib.Core.Logic.{_≢_}
+use mathlib.Core.Logic.{inl, inr, _≢_}
 use mathlib.Core.List.{List}
 use Prim.Native.Nat.{ℕ, zero, suc, _≤_}
 use native.Mathlib.Omega.{arith}
-use borrow.Author.Tests.{ltb-true, lt-ltb}
 use Rattle.protocol.specs.declared.Settings.{Settings}
 use Rattle.protocol.specs.declared.Called.{Called}
 use Rattle.protocol.specs.declared.Switched.{Switched}
 use Rattle.protocol.specs.declared.Received.{Received}
 use Rattle.protocol.specs.declared.Emptied.{Emptied}
 use Rattle.protocol.specs.declared.Line.{Line}
-use Rattle.protocol.specs.Reader.{Marks, Plain, Guarded, Reader, withMark, withTransfer, emptied}
+use Rattle.protocol.specs.Reader.{Reader, withMark, withTransfer, emptied}
 use Rattle.protocol.specs.Step.{wiped, switched}
 use Rattle.protocol.specs.Call.{core, Typed, Lent, Ended, refused, carried, callOf, switchRefusal, switchAs, switchOf}
 use Rattle.protocol.specs.Dialogue.{received, on}
 use Rattle.protocol.specs.Receiver as receivers
 use Rattle.protocol.specs.Receiver.{Handed, handed, receiveOf, lineSwitchOf}
-use Rattle.protocol.specs.Records.{fitMark, fitMarks, marksOf, transferOf, transferBeside, readerOf, lineOf, endedOf, switchedOf, receivedOf, emptiedOf}
-use Rattle.protocol.proofs.Laws.Marks.{fit-marks, fit-verified, fit-filled1, fit-filled2, fit-found, beside-fit, beside-odd}
+use Rattle.protocol.specs.Records.{marksOf, readerOf, lineOf, endedOf, switchedOf, receivedOf, emptiedOf}
 use Rattle.protocol.proofs.Laws.Answers.{call-stays, switch-stays}
 use Rattle.protocol.proofs.Laws.Holding.{receive-kinds, switch-kinds}
-use Rattle.protocol.proofs.Promises.LegalMeans.{core-holds, LegalTransfer, Settled, Means, legal-means, means-legal}
+use Rattle.protocol.proofs.Promises.Words.{Marked}
+use Rattle.protocol.proofs.Promises.LegalMeans.{core-holds, Numbered, transfer-numbers, Settled, Means, legal-means, means-legal}
 use Rattle.protocol.proofs.Promises.Refused.{refuses-only}
 use Rattle.protocol.proofs.Promises.StaysLegal.{stays-legal}
 use Rattle.protocol.proofs.Promises.OneResult.{OneReader, one-reader, marks, bits, marked}
 
--- each mark is 0 or 1
-pub record Marked (s : Settings) : Type 0 where
-  pub verified : s .verified ≤ 1
-  pub filled1 : s .filled1 ≤ 1
-  pub filled2 : s .filled2 ≤ 1
-  pub found : s .found ≤ 1
+-- a record that is fit: each mark is 0 or 1, and the transfer's two numbers are 0 and 0, or buffer 1 or 2 and the bytes got so far
+pub record FitRecord (s : Settings) : Type 0 where
+  pub marks : Marked (marksOf s)
+  pub which : s .transfer ≤ 2
+  pub none : s .transfer ≡ 0 → s .got ≡ 0
 
-below : (m : ℕ) → fitMark m ≡ true → m ≤ 1
-unfolding fitMark
-below m e = let l = ltb-true m 2 e in omega arith
+-- ---- "3: a setting .. is not legal": so a record that is settled is fit, and any other is refused
 
--- beside such marks the transfer is that of its two numbers, which Words has; beside others it is none that a legal reader has
-pub beside-marked : (s : Settings) → Marked s → transferBeside (marksOf s) (s .transfer) (s .got) ≡ transferOf (s .transfer) (s .got)
-unfolding fitMark
-beside-marked s m =
-    beside-fit (marksOf s) (s .transfer) (s .got)
-    (fit-marks (s .verified) (s .filled1) (s .filled2) (s .found) (fits (s .verified) (m .verified)) (fits (s .filled1) (m .filled1)) (fits (s .filled2) (m .filled2)) (fits (s .found) (m .found)))
+pub settled-fit : (s : Settings) (t i n b d : List ℕ) → Settled (readerOf s t i n b d) → FitRecord s
+settled-fit s t i n b d h =
+    let r : Reader = readerOf s t i n b d in
+    let m = transfer-numbers (r .plain) (r .guarded) (marksOf s) (s .transfer) (s .got) .0 (h .transfer) in
+    go (m .0) (m .1)
   where
-    fits : (k : ℕ) → k ≤ 1 → fitMark k ≡ true
-    fits k l = lt-ltb k 2 (omega arith)
-
--- ---- "3: a setting .. is not legal": so a record that is settled has fit marks, and any other is refused
-
-fit-legal : (p : Plain) (g : Guarded) (m : Marks) (b k : ℕ) → LegalTransfer p g (transferBeside m b k) → fitMarks m ≡ true
-fit-legal p g m b k h = go (fitMarks m) refl
-  where
-    go : (f : Bool) → fitMarks m ≡ f → fitMarks m ≡ true
-    go true e = e
-    go false e = absurd (subst (LegalTransfer p g) (beside-odd m b k e) h)
-
-pub settled-marks : (s : Settings) (t i n b d : List ℕ) → Settled (readerOf s t i n b d) → Marked s
-settled-marks s t i n b d h =
-    let e = fit-legal (readerOf s t i n b d .plain) (readerOf s t i n b d .guarded) (marksOf s) (s .transfer) (s .got) (h .transfer) in
-    record {
-      verified = below (s .verified) (fit-verified (marksOf s) e);
-      filled1 = below (s .filled1) (fit-filled1 (marksOf s) e);
-      filled2 = below (s .filled2) (fit-filled2 (marksOf s) e);
-      found = below (s .found) (fit-found (marksOf s) e);
-    }
+    go : Marked (marksOf s) → Numbered (readerOf s t i n b d .plain) (readerOf s t i n b d .guarded) (s .transfer) (s .got) → FitRecord s
+    go m (inl (e, f)) = record { marks = m; which = omega (arith, e); none = λ z. f }
+    go m (inr (inl (e, k))) = record { marks = m; which = omega (arith, e); none = λ z. absurd (omega (arith, e, z)) }
+    go m (inr (inr (e, k))) = record { marks = m; which = omega (arith, e); none = λ z. absurd (omega (arith, e, z)) }
 
 -- ---- "no byte changes": what a refused call returns is the record that it was given, whatever its bytes
 
@@ -84,16 +61,16 @@ module _ (s : Settings) (t i n b d t′ i′ n′ b′ d′ : List ℕ) where
       one-reader (c .settings) s t′ i′ n′ b′ d′ t i n b d
       (ap (λ (e : Ended). e .after) q ∙ switch-stays (readerOf s t i n b d) (λ z. f (ap (λ (e : Ended). e .told .refusal) q ∙ z)))
 
--- ---- and a call that is carried out leaves marks of 0 and 1
+-- ---- and a call that is carried out leaves a record that is fit
 
-pub call-marks : (s : Settings) (t i n b d t′ i′ n′ b′ d′ : List ℕ) (c : Called) (run room : List ℕ) (lent : Lent) → Typed (readerOf s t i n b d)
-    → (q : endedOf c t′ i′ n′ b′ d′ room ≡ callOf core (readerOf s t i n b d) run lent) → c .refusal ≡ 0 → Marked (c .settings)
+pub call-fit : (s : Settings) (t i n b d t′ i′ n′ b′ d′ : List ℕ) (c : Called) (run room : List ℕ) (lent : Lent) → Typed (readerOf s t i n b d)
+    → (q : endedOf c t′ i′ n′ b′ d′ room ≡ callOf core (readerOf s t i n b d) run lent) → c .refusal ≡ 0 → FitRecord (c .settings)
 unfolding on
-call-marks s t i n b d t′ i′ n′ b′ d′ c run room lent y q z =
+call-fit s t i n b d t′ i′ n′ b′ d′ c run room lent y q z =
     let r : Reader = readerOf s t i n b d in
     let m : Means r = refuses-only r run lent (sym (ap (λ (e : Ended). e .told .refusal) q) ∙ z) .0 in
     let l = stays-legal core core-holds r record { typed = y; legal = means-legal r m } (received run lent) in
-    settled-marks (c .settings) t′ i′ n′ b′ d′ (subst Settled (sym (ap (λ (e : Ended). e .after) q)) (legal-means (callOf core r run lent .after) (l .legal) .settings))
+    settled-fit (c .settings) t′ i′ n′ b′ d′ (subst Settled (sym (ap (λ (e : Ended). e .after) q)) (legal-means (callOf core r run lent .after) (l .legal) .settings))
 
 -- ---- a line switch takes any byte, and leaves marks of 0
 

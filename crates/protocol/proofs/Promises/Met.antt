@@ -16,7 +16,7 @@ use Rattle.protocol.specs.Reader.{closed, noOrigin, fromPage, Reader, ca
 use Rattle.protocol.specs.Search.{Chip, eligible, beats, bestOf, pagesFrom, searchOf}
 use Rattle.protocol.specs.Step.{ended, rested}
 use Rattle.protocol.specs.Call.{core, fitLibrary, fitBuffers, fitChip, fitLengths, fitPlain, fitTransfer, fitOrigin, fitOrigins, sound, legal}
-use Rattle.protocol.specs.Records.{transferOf, fitMark, fitMarks, transferBeside, originOf, freshOf}
+use Rattle.protocol.specs.Records.{fitMark, fitMarks, transferOf, originOf, freshOf}
 use Rattle.protocol.specs.Doors.{Vault}
 use Rattle.protocol.specs.Receiver.{holding, line}
 use Rattle.protocol.proofs.Laws.Index.{byte-zeros, bit-zero, fine-zeros}
@@ -105,7 +105,7 @@ full-bytes n (suc zero) = lit< tt
 full-bytes n (suc (suc i)) = fine-zeros n .bytes i
 
 pub from-c-met : MetFromC emptyVault fullVault
-unfolding settings10 emptyVault fullVault keyed10 fresh10 full10 fresh zeroed withPassword emptied loadedFrom four transferBeside fitMarks fitMark transferOf originOf core
+unfolding settings10 emptyVault fullVault keyed10 fresh10 full10 fresh zeroed withPassword emptied loadedFrom four fitMarks fitMark transferOf originOf core
 from-c-met =
     record {
       one = record { typed = record { password = refl; address = refl; index = fine-zeros 128 .bytes }; legal = premises-met .one };

@@ -3,7 +3,7 @@
 use mathlib.Core.Bool.{Bool, true, false, cond}
 use mathlib.Core.Path.{_≡_, refl, sym, ap, _∙_}
 use mathlib.Core.List.{List}
-use Prim.Native.Nat.{ℕ, zero, suc}
+use Prim.Native.Nat.{ℕ}
 use lib.Dec.{eqb}
 use borrow.Author.Tests.{eqb-true}
 use Rattle.protocol.specs.declared.Settings.{Settings}
@@ -15,75 +15,54 @@ use Rattle.protocol.specs.declared.Emptied.{Emptied}
 use Rattle.protocol.specs.Numbers.{noPage}
 use Rattle.protocol.specs.Packet.{Made}
 use Rattle.protocol.specs.BringOver.{Brought}
-use Rattle.protocol.specs.Reader.{Marks, Transfer, closed, opened, unfit, odd, Origin, noOrigin, fromPage, Reader}
+use Rattle.protocol.specs.Reader.{Marks, Transfer, closed, opened, unfit, Origin, noOrigin, fromPage, Reader}
 use Rattle.protocol.specs.Call.{Ended}
 use Rattle.protocol.specs.Receiver.{Handed}
-use Rattle.protocol.specs.Records.{fitMarks, isSet, markOf, marksOf, transferOf, transferBeside, originOf, readerOf, endedOf, switchedOf, receivedOf, emptiedOf, madeOf, broughtOf}
+use Rattle.protocol.specs.Records.{fitMarks, isSet, markOf, marksOf, transferOf, originOf, readerOf, endedOf, switchedOf, receivedOf, emptiedOf, madeOf, broughtOf}
+use Rattle.protocol.proofs.Laws.Marks.{mark-is, fit-verified, fit-filled1, fit-filled2, fit-found, transfer-kinds}
 use Rattle.protocol.proofs.Promises.Records.{reader-is}
-use Rattle.protocol.proofs.Laws.Marks.{mark-is, fit-verified, fit-filled1, fit-filled2, fit-found, beside-fit, beside-odd}
 
 -- a transfer's two numbers
 numbers : Transfer → ℕ × ℕ
 numbers closed = (0, 0)
 numbers (opened false k) = (1, k)
 numbers (opened true k) = (2, k)
-numbers (unfit b k) = (b, k)
-numbers (odd b k m) = (b, k)
+numbers (unfit b k m) = (b, k)
 
-numbered : (b k : ℕ) → numbers (transferOf b k) ≡ (b, k)
-unfolding numbers transferOf
-numbered zero zero = refl
-numbered zero (suc k) = refl
-numbered (suc zero) k = refl
-numbered (suc (suc zero)) k = refl
-numbered (suc (suc (suc b))) k = refl
+numbered : (m : Marks) (b k : ℕ) → numbers (transferOf m b k) ≡ (b, k)
+unfolding numbers
+numbered m b k = transfer-kinds m b k (λ t. numbers t ≡ (b, k)) (λ f x y. rw (x, y) refl) (λ f x. rw x refl) (λ f x. rw x refl) refl
 
-pub transfer-same : (b k c j : ℕ) → transferOf b k ≡ transferOf c j → (b ≡ c) × (k ≡ j)
-transfer-same b k c j e =
-    let m : _≡_ {A = ℕ × ℕ} (b, k) (c, j) = sym (numbered b k) ∙ ap numbers e ∙ numbered c j in
-    (ap (λ (p : ℕ × ℕ). p .0) m, ap (λ (p : ℕ × ℕ). p .1) m)
+pub transfer-same : (m n : Marks) (b k c j : ℕ) → transferOf m b k ≡ transferOf n c j → (b ≡ c) × (k ≡ j)
+transfer-same m n b k c j e =
+    let p : _≡_ {A = ℕ × ℕ} (b, k) (c, j) = sym (numbered m b k) ∙ ap numbers e ∙ numbered n c j in
+    (ap (λ (q : ℕ × ℕ). q .0) p, ap (λ (q : ℕ × ℕ). q .1) p)
 
-beside-numbered : (m : Marks) (b k : ℕ) → numbers (transferBeside m b k) ≡ (b, k)
-unfolding numbers transferBeside
-beside-numbered m b k = go (fitMarks m)
-  where
-    go : (f : Bool) → numbers (cond f (transferOf b k) (odd b k m)) ≡ (b, k)
-    go true = numbered b k
-    go false = refl
-
--- the marks: an odd transfer has them, and otherwise they are what the reader's bits say
+-- the marks: an unfit transfer has them, and otherwise they are what the reader's bits say
 unfoldable pub marks : Transfer → Marks → Marks
 marks closed m = m
 marks (opened w k) m = m
-marks (unfit b k) m = m
-marks (odd b k m) n = m
+marks (unfit b k m) n = m
 
 abbrev pub bits : Bool → Bool → Bool → Bool → Marks
 bits v f h o = record { verified = markOf v; filled1 = markOf f; filled2 = markOf h; found = markOf o }
 
-marks-of : (b k : ℕ) (m : Marks) → marks (transferOf b k) m ≡ m
-unfolding marks transferOf
-marks-of zero zero m = refl
-marks-of zero (suc k) m = refl
-marks-of (suc zero) k m = refl
-marks-of (suc (suc zero)) k m = refl
-marks-of (suc (suc (suc b))) k m = refl
+abbrev bitsOf : Marks → Marks
+bitsOf m = bits (isSet (m .verified)) (isSet (m .filled1)) (isSet (m .filled2)) (isSet (m .found))
 
-pub marked : (m : Marks) (b k : ℕ) → marks (transferBeside m b k) (bits (isSet (m .verified)) (isSet (m .filled1)) (isSet (m .filled2)) (isSet (m .found))) ≡ m
+fit-bits : (m : Marks) → fitMarks m ≡ true → bitsOf m ≡ m
+fit-bits m e =
+    λ j.
+    record {
+      verified = mark-is (m .verified) (fit-verified m e) j;
+      filled1 = mark-is (m .filled1) (fit-filled1 m e) j;
+      filled2 = mark-is (m .filled2) (fit-filled2 m e) j;
+      found = mark-is (m .found) (fit-found m e) j;
+    }
+
+pub marked : (m : Marks) (b k : ℕ) → marks (transferOf m b k) (bits (isSet (m .verified)) (isSet (m .filled1)) (isSet (m .filled2)) (isSet (m .found))) ≡ m
 unfolding marks
-marked m b k = go (fitMarks m) refl
-  where
-    go : (f : Bool) → fitMarks m ≡ f → marks (transferBeside m b k) (bits (isSet (m .verified)) (isSet (m .filled1)) (isSet (m .filled2)) (isSet (m .found))) ≡ m
-    go true e =
-        rw (beside-fit m b k e, marks-of b k _)
-        (λ j.
-        record {
-          verified = mark-is (m .verified) (fit-verified m e) j;
-          filled1 = mark-is (m .filled1) (fit-filled1 m e) j;
-          filled2 = mark-is (m .filled2) (fit-filled2 m e) j;
-          found = mark-is (m .found) (fit-found m e) j;
-        })
-    go false e = rw (beside-odd m b k e) refl
+marked m b k = transfer-kinds m b k (λ t. marks t (bitsOf m) ≡ m) (λ f x y. fit-bits m f) (λ f x. fit-bits m f) (λ f x. fit-bits m f) refl
 
 -- an origin's number
 page-number : Origin → ℕ
@@ -113,9 +92,7 @@ pub record OneReader (s z : Settings) (t i n b c t′ i′ n′ b′ c′ : List
 pub one-reader : (s z : Settings) (t i n b c t′ i′ n′ b′ c′ : List ℕ) → readerOf s t i n b c ≡ readerOf z t′ i′ n′ b′ c′ → OneReader s z t i n b c t′ i′ n′ b′ c′
 one-reader s z t i n b c t′ i′ n′ b′ c′ same =
     let e = sym (reader-is s t i n b c) ∙ same ∙ reader-is z t′ i′ n′ b′ c′ in
-    let m : _≡_ {A = ℕ × ℕ} (s .transfer, s .got) (z .transfer, z .got) =
-    sym (beside-numbered (marksOf s) (s .transfer) (s .got)) ∙ ap (λ (r : Reader). numbers (r .plain .transfer)) e ∙ beside-numbered (marksOf z) (z .transfer) (z .got)
-    in
+    let m = transfer-same (marksOf s) (marksOf z) (s .transfer) (s .got) (z .transfer) (z .got) (ap (λ (r : Reader). r .plain .transfer) e) in
     let k : marksOf s ≡ marksOf z =
     sym (marked (marksOf s) (s .transfer) (s .got))
     ∙ ap (λ (r : Reader). marks (r .plain .transfer) (bits (r .plain .verified) (r .guarded .buffer1 .filled) (r .guarded .buffer2 .filled) (r .guarded .found))) e
@@ -130,9 +107,9 @@ one-reader s z t i n b c t′ i′ n′ b′ c′ same =
             level = e j .plain .level;
             size = e j .plain .size;
             baud = e j .plain .baud;
-            transfer = m j .0;
+            transfer = m .0 j;
             sensor = e j .plain .sensor;
-            got = m j .1;
+            got = m .1 j;
             verified = k j .verified;
             filled1 = k j .filled1;
             filled2 = k j .filled2;

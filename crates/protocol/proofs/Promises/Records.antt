@@ -11,9 +11,9 @@ use Rattle.protocol.specs.declared.Built.{Built}
 use Rattle.protocol.specs.declared.Line.{Line}
 use Rattle.protocol.specs.declared.Received.{Received}
 use Rattle.protocol.specs.declared.Emptied.{Emptied}
-use Rattle.protocol.specs.Records.{marksOf, transferBeside, originOf, readerOf, lineOf, lentOf, endedOf, switchedOf, receivedOf, emptiedOf, madeOf, broughtOf}
+use Rattle.protocol.specs.Records.{marksOf, transferOf, originOf, readerOf, lineOf, lentOf, endedOf, switchedOf, receivedOf, emptiedOf, madeOf, broughtOf}
 
--- settings; templates, index, notepad, buffers 1 and 2. A mark is set where its byte is 1. `transferBeside` is in Marks, `originOf` in Words
+-- settings; templates, index, notepad, buffers 1 and 2. A mark is set where its byte is 1. `transferOf` and `originOf` are in Words
 pub reader-is : (s : Settings) (t i n b d : List ℕ) → readerOf s t i n b d
     ≡ record {
       plain =
@@ -25,7 +25,7 @@ pub reader-is : (s : Settings) (t i n b d : List ℕ) → readerOf s t i n b d
             baud = s .baud;
             sensor = s .sensor;
             verified = eqb (s .verified) 1;
-            transfer = transferBeside (marksOf s) (s .transfer) (s .got);
+            transfer = transferOf (marksOf s) (s .transfer) (s .got);
           };
       guarded = record { templates = t; index = i; notepad = n; buffer1 = record { bytes = b; filled = eqb (s .filled1) 1; origin = originOf (s .origin1) }; buffer2 = record { bytes = d; filled = eqb (s .filled2) 1; origin = originOf (s .origin2) }; found = eqb (s .found) 1 };
     }

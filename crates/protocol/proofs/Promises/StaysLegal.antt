@@ -12,7 +12,7 @@ use Rattle.protocol.specs.Numbers.{pageBytes, noteBytes, highestSize, lo
 use Rattle.protocol.specs.Bytes.{lay}
 use Rattle.protocol.specs.Tests.{within}
 use Rattle.protocol.specs.Index.{stored}
-use Rattle.protocol.specs.Reader.{Transfer, closed, opened, unfit, odd, Plain, noOrigin, Buffer, Reader, capacity, sizeOf, keyed, locked, bufferOf, emptied, withMark, withTransfer, withPassword, withAddress, withTuning, withBuffer}
+use Rattle.protocol.specs.Reader.{Transfer, closed, opened, unfit, Plain, noOrigin, Buffer, Reader, capacity, sizeOf, keyed, locked, bufferOf, emptied, withMark, withTransfer, withPassword, withAddress, withTuning, withBuffer}
 use Rattle.protocol.specs.Search.{Chip}
 use Rattle.protocol.specs.Commands.{Free, readSysPara, verifyPassword, handShake, Barred, searchFor, store, loadChar, upChar, downChar, deletChar, empty, setSysPara, setPassword, setAddress, writeNotepad, readNotepad, templeteNum, readIndexTable, free}
 use Rattle.protocol.specs.Table.{second, inRange, withParameter, rule, apply, freeRule, publicOf}
@@ -98,8 +98,7 @@ module _ (σ : Shape) (ok : σ .most ≤ 8 * σ .indexed) where
   good-ended r (opened w got) z k =
       good-buffer σ ok r closed w emptied k refl (rooted-none (capacity (r .guarded)) (r .guarded .index) emptied refl)
       (fit-closed (withTransfer closed (r .plain)) (withBuffer w emptied (r .guarded)) closed refl)
-  good-ended r (unfit b j) z k = k
-  good-ended r (odd b j m) z k = k
+  good-ended r (unfit b j m) z k = k
 
   pub good-rested : (r : Reader) → Good σ ok r → Good σ ok (rested r)
   unfolding rested
@@ -113,8 +112,7 @@ module _ (σ : Shape) (ok : σ .most ≤ 8 * σ .indexed) where
       go : (t : Transfer) → r .plain .transfer ≡ t → T (fitTransfer (r .plain) (r .guarded) t) → ended r t .plain .transfer ≡ closed
       go closed e f = e
       go (opened w got) e f = refl
-      go (unfit b j) e f = absurd f
-      go (odd b j m) e f = absurd f
+      go (unfit b j m) e f = absurd f
 
   module _ (r : Reader) (k : Good σ ok r) (w : Bool) (got : ℕ) (content : List ℕ) (m : Moving (r .plain) (r .guarded) w got) where
     laid : got + length content ≤ pageBytes → length (lay got content (bufferOf w (r .guarded) .bytes)) ≡ pageBytes

@@ -3,21 +3,22 @@ use mathlib.Core.Bool.{Bool, true, false, _||_, not}
 use mathlib.Core.Path.{_≡_, refl, ap}
 use mathlib.Core.Logic.{_⊎_, inl, inr, _≢_, _↔_}
 use mathlib.Core.List.{List, [], _∷_, _++_, foldr}
-use Prim.Native.Nat.{ℕ, zero, suc, _+_, _*_, _/_, _%_, _^_, _≤_, _<_}
+use Prim.Native.Nat.{ℕ, suc, _+_, _*_, _/_, _%_, _^_, _≤_, _<_}
 use native.Mathlib.Omega.{arith}
 use lib.Dec.{T, eqb, T-not, not-T}
-use borrow.Author.Tests.{eqb-true, eq-eqb, ne-eqb}
+use borrow.Author.Tests.{ltb-true, lt-ltb, eqb-true, eq-eqb, ne-eqb}
 use lib.ListN.{length, getD, take, replicate}
 use Rattle.protocol.specs.Numbers.{pageBytes, leastPages, mostPages, indexBytes, indexPageBytes, oldIndexBytes, addedBytes, notepadBytes, noteBytes, replyRoom, fourBytes, levels, benchPages, lowestLevel, highestLevel, lowestBaud, highestBaud, highestSize, baudParameter, levelParameter, sizeParameter, verifiedStatus, foundStatus, firstMark, secondMark, headBytes, frameBytes, commandPacket, dataPacket, acknowledgePacket, lastPacket, shortest, longest, longestOther, holds, done, badPacket, notFound, badPage, nothingThere, nothingToSend, transferFailed, badRange, wrongPassword, unknownCommand, badParameter, badValue, badNotePage, passwordFirst, pageTaken, badLength, badRoom, badSetting, badContent, noCount, noPage}
 use Rattle.protocol.specs.Bytes.{Bytes, two, four, same, lay, joined}
 use Rattle.protocol.specs.Tests.{countBelow}
 use Rattle.protocol.specs.Index.{bit, stored, setBits}
-use Rattle.protocol.specs.Reader.{closed, opened, unfit, Plain, noOrigin, fromPage, Buffer, Guarded, Reader, capacity, sizeOf, keyed, locked, bufferOf, emptied, loadedFrom, storedOn, fresh, zeroed}
+use Rattle.protocol.specs.Reader.{Marks, closed, opened, unfit, Plain, noOrigin, fromPage, Buffer, Guarded, Reader, capacity, sizeOf, keyed, locked, bufferOf, emptied, loadedFrom, storedOn, fresh, zeroed}
 use Rattle.protocol.specs.Table.{isBuffer, second, statusOf}
 use Rattle.protocol.specs.Call.{Shape, core, Lent, Told, replyOf, callOf, switchOf}
 use Rattle.protocol.specs.Dialogue.{Event, received, switch, on, finally, over, first, dialogue, exchanges}
-use Rattle.protocol.specs.Records.{transferOf, originOf, freshOf}
+use Rattle.protocol.specs.Records.{fitMark, fitMarks, transferOf, originOf, freshOf}
 use Rattle.protocol.proofs.Laws.Logic.{T→true, T→false, and-l, and-r, and-i}
+use Rattle.protocol.proofs.Laws.Marks.{fit-marks, fit-verified, fit-filled1, fit-filled2, fit-found, transfer-kinds, none-beside, into-beside}
 use Rattle.protocol.proofs.Laws.Lists.{same-refl, same-eq, length-lay, at-before, at-inside, at-behind}
 use Rattle.protocol.proofs.Laws.Count.{set-weights}
 
@@ -90,6 +91,13 @@ memory =
 
 -- ---- settings
 
+-- each mark is 0 or 1
+pub record Marked (m : Marks) : Type 0 where
+  pub verified : m .verified ≤ 1
+  pub filled1 : m .filled1 ≤ 1
+  pub filled2 : m .filled2 ≤ 1
+  pub found : m .found ≤ 1
+
 pub record Kept : Type 0 where
   -- fresh: password 0, address FFFFFFFFh, level 3, size code 2, baud factor 6, type 0, marks clear, no transfer; by request [7]
   -- no origins, and by request [8] status bit 1 clear
@@ -119,11 +127,14 @@ pub record Kept : Type 0 where
   pub buffer-means : (b : ℕ) → T (isBuffer b) ↔ ((b ≡ 1) ⊎ (b ≡ 2))
   pub buffer-one : (g : Guarded) → bufferOf (second 1) g ≡ g .buffer1
   pub buffer-two : (g : Guarded) → bufferOf (second 2) g ≡ g .buffer2
-  -- transfer: none, or buffer 1 or 2 with the bytes got so far
-  pub transfer-none : transferOf 0 0 ≡ closed
-  pub transfer-one : (k : ℕ) → transferOf 1 k ≡ opened (second 1) k
-  pub transfer-two : (k : ℕ) → transferOf 2 k ≡ opened (second 2) k
-  pub transfer-unfit : (b k : ℕ) → (b ≡ 0 → k ≢ 0) → b ≢ 1 → b ≢ 2 → transferOf b k ≡ unfit b k
+  -- a mark is 0 or 1
+  pub marks-mean : (m : Marks) → (fitMarks m ≡ true) ↔ Marked m
+  -- transfer: none, or buffer 1 or 2 with the bytes got so far; what names none of them, and any two numbers beside another mark, stay as they are
+  pub transfer-none : (m : Marks) → Marked m → transferOf m 0 0 ≡ closed
+  pub transfer-one : (m : Marks) → Marked m → (k : ℕ) → transferOf m 1 k ≡ opened (second 1) k
+  pub transfer-two : (m : Marks) → Marked m → (k : ℕ) → transferOf m 2 k ≡ opened (second 2) k
+  pub transfer-unfit : (m : Marks) (b k : ℕ) → (b ≡ 0 → k ≢ 0) → b ≢ 1 → b ≢ 2 → transferOf m b k ≡ unfit b k m
+  pub transfer-unmarked : (m : Marks) → (Marked m → ⊥) → (b k : ℕ) → transferOf m b k ≡ unfit b k m
   -- origin: none, which is FFFFh, or a page
   pub origin-none : originOf 0xffff ≡ noOrigin
   pub origin-page : (p : ℕ) → p ≢ 0xffff → originOf p ≡ fromPage p
@@ -151,16 +162,27 @@ buffer-iff b = (to (eqb b 1) (eqb b 2) refl refl, from)
     from (inl e) = rw e tt
     from (inr e) = rw e tt
 
-no-transfer : (b k : ℕ) → (b ≡ 0 → k ≢ 0) → b ≢ 1 → b ≢ 2 → transferOf b k ≡ unfit b k
-unfolding transferOf
-no-transfer zero zero h d e = absurd (h refl refl)
-no-transfer zero (suc k) h d e = refl
-no-transfer (suc zero) k h d e = absurd (d refl)
-no-transfer (suc (suc zero)) k h d e = absurd (e refl)
-no-transfer (suc (suc (suc b))) k h d e = refl
+marks-iff : (m : Marks) → (fitMarks m ≡ true) ↔ Marked m
+unfolding fitMark
+marks-iff m = (
+  λ e. record { verified = to (m .verified) (fit-verified m e); filled1 = to (m .filled1) (fit-filled1 m e); filled2 = to (m .filled2) (fit-filled2 m e); found = to (m .found) (fit-found m e) },
+  λ h. fit-marks (m .verified) (m .filled1) (m .filled2) (m .found) (from (m .verified) (h .verified)) (from (m .filled1) (h .filled1)) (from (m .filled2) (h .filled2)) (from (m .found) (h .found)),
+)
+  where
+    to : (k : ℕ) → fitMark k ≡ true → k ≤ 1
+    to k e = let l = ltb-true k 2 e in omega arith
+
+    from : (k : ℕ) → k ≤ 1 → fitMark k ≡ true
+    from k l = lt-ltb k 2 (omega arith)
+
+no-transfer : (m : Marks) (b k : ℕ) → (b ≡ 0 → k ≢ 0) → b ≢ 1 → b ≢ 2 → transferOf m b k ≡ unfit b k m
+no-transfer m b k h d e = transfer-kinds m b k (λ t. t ≡ unfit b k m) (λ f x y. absurd (h x y)) (λ f x. absurd (d x)) (λ f x. absurd (e x)) refl
+
+unmarked : (m : Marks) → (Marked m → ⊥) → (b k : ℕ) → transferOf m b k ≡ unfit b k m
+unmarked m h b k = transfer-kinds m b k (λ t. t ≡ unfit b k m) (λ f x y. absurd (h (marks-iff m .0 f))) (λ f x. absurd (h (marks-iff m .0 f))) (λ f x. absurd (h (marks-iff m .0 f))) refl
 
 pub kept : Kept
-unfolding fresh four sizeOf statusOf bufferOf transferOf originOf
+unfolding fresh four sizeOf statusOf bufferOf isBuffer originOf
 kept =
     record {
       fresh-is = λ t i n b d. refl;
@@ -171,10 +193,12 @@ kept =
       buffer-means = buffer-iff;
       buffer-one = λ g. refl;
       buffer-two = λ g. refl;
-      transfer-none = refl;
-      transfer-one = λ k. refl;
-      transfer-two = λ k. refl;
+      marks-mean = marks-iff;
+      transfer-none = λ m h. none-beside m (marks-iff m .1 h) 0 0 refl refl;
+      transfer-one = λ m h k. into-beside m (marks-iff m .1 h) 1 k refl;
+      transfer-two = λ m h k. into-beside m (marks-iff m .1 h) 2 k refl;
       transfer-unfit = no-transfer;
+      transfer-unmarked = unmarked;
       origin-none = refl;
       origin-page = λ p d. rw (ne-eqb p 0xffff d) refl;
     }

@@ -15,28 +15,26 @@ use Rattle.protocol.specs.Data.{acknowledge}
 use Rattle.protocol.specs.Table.{apply, rule, isBuffer}
 use Rattle.protocol.specs.Commands.{downChar}
 use Rattle.protocol.specs.Step.{carry, carryAs}
-use Rattle.protocol.specs.Records.{transferOf}
 use Rattle.protocol.proofs.Laws.Logic.{not-false}
+use Rattle.protocol.proofs.Laws.Marks.{into-beside}
 use Rattle.reader.specs.declared.answers.Answer.{Answer}
 use Rattle.reader.specs.Answers.{codeAlone, sent, saidOf}
 use Rattle.reader.specs.Buffers.{buffers, changed, withHeld}
 use Rattle.reader.specs.Commands.{obeyed}
-use Rattle.rules.specs.Settings.{withTransfer}
-use Rattle.rules.specs.Settings.{Marked}
+use Rattle.rules.specs.Settings.{withTransfer, Legal}
 use Rattle.reader.proofs.Ready.{ready-alone, size-held, size-moved}
-use Rattle.reader.proofs.ByNumber.{no-buffer, opened-at, wiped}
+use Rattle.reader.proofs.ByNumber.{no-buffer, wiped}
 use borrow.Author.Needs.{needs}
 use Rattle.reader.proofs.buffers.down_char.Statement.{statement}
 use Rattle.reader.proofs.buffers.down_char.Tie as tie
 
 module _ (χ : Chip) (s : Settings) (t i m b d : List ℕ) (n : ℕ) (a : Answer) (known : Bool) (k : known ≡ isBuffer n) where
-  awaits : (q o : Settings) (x y : List ℕ) → a ≡ codeAlone done q → q ≡ withTransfer n 0 o → o ≡ withHeld n 0 noPage s → Marked s
+  awaits : (q o : Settings) (x y : List ℕ) → a ≡ codeAlone done q → q ≡ withTransfer n 0 o → o ≡ withHeld n 0 noPage s → Legal s
       → buffers x y ≡ changed n (λ (z : List ℕ). zeros (length z)) b d → length b ≡ pageBytes → length d ≡ pageBytes → not known ≡ false
       → saidOf a t i m x y ≡ obeyed χ s t i m b d (downChar n)
   unfolding carry carryAs rule verdict follow sent apply
   awaits q o x y e f g j r l w h =
-      let v : transferOf n 0 ≡ opened (eqb n 2) 0 = opened-at n 0 (sym k ∙ not-false known h) in
-      let u = rw v at (wiped n n 0 s o q t i m b d x y f g j r l w) in
+      let u = wiped n n 0 (opened (eqb n 2) 0) (λ v z. into-beside v z n 0 (sym k ∙ not-false known h)) s o q t i m b d x y f g j r l w in
       rw (e, ← k, not-false known h) (ap (λ (z : Reader). record { reply = acknowledge (z .plain .address) done []; after = z }) u)
 
 -- the start and the test, from where the number is known to name a buffer

@@ -1,5 +1,5 @@
 -- Steps 5 to 7: identifier 1 ends an open transfer and commands, 7 says nothing, and 2 and 8 bring data.
-use mathlib.Core.Path.{_≡_, sym, ap, _∙_}
+use mathlib.Core.Path.{_≡_, ap, _∙_}
 use mathlib.Core.Bool.{Bool}
 use mathlib.Core.List.{List}
 use Prim.Native.Nat.{ℕ}
@@ -11,26 +11,21 @@ use Rattle.protocol.specs.Numbers.{commandPacket, acknowledgePacket, lastPacket
 use Rattle.protocol.specs.Reader.{Reader}
 use Rattle.protocol.specs.Search.{Chip}
 use Rattle.protocol.specs.Commands.{orderOf}
-use Rattle.protocol.specs.Step.{Said, silence, heed, ended, takeIn, rested, hearAs, answer}
-use Rattle.protocol.specs.Records.{marksOf, transferOf, transferBeside, readerOf}
-use Rattle.protocol.proofs.Laws.Marks.{beside-fit}
-use Rattle.rules.specs.Settings.{Marked}
+use Rattle.protocol.specs.Step.{Said, silence, heed, takeIn, rested, hearAs, answer}
+use Rattle.protocol.specs.Records.{plainOf, readerOf}
 use Rattle.reader.specs.declared.answers.Answer.{Answer}
 use Rattle.reader.specs.Answers.{saidOf, nothingSaid}
-use Rattle.reader.proofs.Ready.{ready-silent, size-same}
+use Rattle.reader.proofs.Ready.{ready-silent}
 use Rattle.reader.proofs.call.act.Statement.{statement}
 use Rattle.reader.proofs.call.act.Tie as tie
 
 -- each return as a law: what was said, and the identifier that led there
-module _ (χ : Chip) (s : Settings) (t i m b d x : List ℕ) (k : ℕ) (right : Bool) (j : Marked s) where
-  beside : transferOf (s .transfer) (s .got) ≡ transferBeside (marksOf s) (s .transfer) (s .got)
-  beside = sym (beside-fit (marksOf s) (s .transfer) (s .got) j)
-
+module _ (χ : Chip) (s : Settings) (t i m b d x : List ℕ) (k : ℕ) (right : Bool) where
   commands : (q : Settings) (u v : List ℕ) (said : Said) → k ≡ commandPacket → said ≡ heed χ (readerOf q t i m u v) (orderOf right x)
-      → ((t i m : List ℕ) → readerOf q t i m u v ≡ ended (readerOf s t i m b d) (transferOf (s .transfer) (s .got)))
+      → ((t i m : List ℕ) → readerOf q t i m u v ≡ rested (readerOf s t i m b d))
       → said ≡ answer χ (readerOf s t i m b d) (hearAs k right x)
-  unfolding answer hearAs rested
-  commands q u v said e f g = rw (eq-eqb k commandPacket e) (f ∙ ap (λ (r : Reader). heed χ r (orderOf right x)) (g t i m ∙ ap (ended (readerOf s t i m b d)) beside))
+  unfolding answer hearAs
+  commands q u v said e f g = rw (eq-eqb k commandPacket e) (f ∙ ap (λ (r : Reader). heed χ r (orderOf right x)) (g t i m))
 
   module _ (n : k ≡ commandPacket → ⊥) where
     says-nothing : (a : Answer) → a ≡ nothingSaid s → k ≡ acknowledgePacket → saidOf a t i m b d ≡ answer χ (readerOf s t i m b d) (hearAs k right x)
@@ -38,17 +33,14 @@ module _ (χ : Chip) (s : Settings) (t i m b d x : List ℕ) (k : ℕ) (right : 
     says-nothing a f e = rw (f, ne-eqb k commandPacket n, eq-eqb k acknowledgePacket e)
 
     brings : (a : Answer) (u v : List ℕ) → (k ≡ acknowledgePacket → ⊥)
-        → ((t i m : List ℕ) → saidOf a t i m u v ≡ takeIn (readerOf s t i m b d) (eqb k lastPacket) right x (transferOf (s .transfer) (s .got)))
+        → ((t i m : List ℕ) → saidOf a t i m u v ≡ takeIn (readerOf s t i m b d) (eqb k lastPacket) right x (plainOf s .transfer))
         → saidOf a t i m u v ≡ answer χ (readerOf s t i m b d) (hearAs k right x)
     unfolding answer hearAs
-    brings a u v w f = rw (ne-eqb k commandPacket n, ne-eqb k acknowledgePacket w) (f t i m ∙ ap (takeIn (readerOf s t i m b d) (eqb k lastPacket) right x) beside)
+    brings a u v w f = rw (ne-eqb k commandPacket n, ne-eqb k acknowledgePacket w) (f t i m)
 
--- places that are far back from the later returns
+-- the start, from where the transfer is ended
 unfoldable start : tie.After-end-transfer → tie.Start
 start c = search
-
-unfoldable ended-at : tie.After-command → tie.After-end-transfer
-ended-at c = search
 
 end-transfer-requires : tie.Need-end-transfer-requires
 end-transfer-requires c κs = search needs
@@ -56,7 +48,7 @@ end-transfer-requires c κs = search needs
 command-requires : tie.Need-command-requires
 unfolding start
 command-requires c κs =
-    let p = (let s : tie.Start = search start in s .pre .commands) in
+    let p = (let s : tie.Start = search start in s .pre) in
     let f = p .fit in
     record {
       fit =
@@ -67,8 +59,7 @@ command-requires c κs =
             notepad = f .notepad;
             buffer1 = search needs;
             buffer2 = search needs;
-            size = search size-same;
-            marks = search;
+            legal = search;
           };
       scored = p .scored;
       some = p .some;
@@ -91,8 +82,7 @@ same-length-5 : tie.Need-same-length-5
 same-length-5 c = search needs
 
 returns : tie.Need-returns
-unfolding ended-at start
-returns c = let j = (let s : tie.Start = search (ended-at, start) in s .pre .legal .marks) in (search commands, search)
+returns c = (search commands, search)
 
 silent-requires : tie.Need-silent-requires
 silent-requires c κs = search needs

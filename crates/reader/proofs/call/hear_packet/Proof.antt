@@ -99,10 +99,7 @@ act-requires : tie.Need-act-requires
 unfolding start
 act-requires c κs =
     let p = (let s : tie.Start = search start in s .pre) in
-    record {
-      commands = record { fit = search; scored = search; some = simp (length-take, length-drop) (omega arith); high = simp (length-take, length-drop) (omega arith) };
-      legal = search;
-    }
+    record { fit = search; scored = search; some = simp (length-take, length-drop) (omega arith); high = simp (length-take, length-drop) (omega arith) }
 
 speak-requires : tie.Need-speak-requires
 unfolding right start

@@ -12,9 +12,10 @@ use Rattle.protocol.specs.Numbers.{pageBytes, badLength}
 use Rattle.protocol.specs.Bytes.{zeros}
 use Rattle.protocol.specs.Tests.{verdict}
 use Rattle.protocol.specs.Reader as reader
+use Rattle.protocol.specs.Table.{isBuffer}
 use Rattle.protocol.specs.Step as step
 use Rattle.protocol.specs.Call.{switchOf, switchAs, switchRefusal, refused, fitBuffers}
-use Rattle.protocol.specs.Records.{fitMark, fitMarks, transferBeside, transferOf, originOf, readerOf, switchedOf}
+use Rattle.protocol.specs.Records.{fitMark, fitMarks, transferOf, originOf, readerOf, switchedOf}
 use Rattle.rules.specs.Settings.{withSwitch}
 use Rattle.reader.specs.Calls.{switched}
 use Rattle.reader.proofs.call.line_switch.Statement.{statement}
@@ -33,7 +34,7 @@ module _ (s : Settings) (t i n b d : List ℕ) (r : Switched) where
 
     wipes : (g : length d ≡ pageBytes) (u v : List ℕ) → u ≡ zeros (length b) → v ≡ zeros (length d) → (x : Settings) → r ≡ switched 0 x → x ≡ withSwitch s
         → switchedOf r t i n u v ≡ switchOf (readerOf s t i n b d)
-    unfolding switchOf switchAs switchRefusal verdict fitBuffers step.switched step.wiped reader.emptied reader.withMark reader.withTransfer fitMark fitMarks transferBeside transferOf originOf
+    unfolding switchOf switchAs switchRefusal verdict fitBuffers step.switched step.wiped reader.emptied reader.withMark reader.withTransfer fitMark fitMarks isBuffer transferOf originOf
     wipes g u v a c x e h = rw (e, h, a, c, f, g)
 
 -- places that are far back from the last return

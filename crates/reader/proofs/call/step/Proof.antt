@@ -187,8 +187,7 @@ hear-packet-requires c κs =
     let g = (let p : tie.Else3 = search in p .if3 .left) in
     let w = (let p : tie.After-find = search in p .find .ensures) in
     let n = (let p : tie.After-f = search in p .f .given .1) in
-    let m = moves _ _ _ _ k g in
-    record { fit = fits _ _ _ _ _ _ _ _ _ l f m; scored = scored _ _ _ _ _ _ _ _ l f; legal = m; whole = lies _ _ _ _ w n; room = h }
+    record { fit = fits _ _ _ _ _ _ _ _ _ l f (moves _ _ _ _ k g); scored = scored _ _ _ _ _ _ _ _ l f; whole = lies _ _ _ _ w n; room = h }
 
 same-length-3 : tie.Need-same-length-3
 same-length-3 c = search needs

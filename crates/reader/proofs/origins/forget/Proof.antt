@@ -25,7 +25,7 @@ forget-one-requires : tie.Need-forget-one-requires
 forget-one-requires c κs = search needs
 
 forget-one-requires-2 : tie.Need-forget-one-requires-2
-forget-one-requires-2 c κs = let o = (let p : tie.After-forget-one = search in p .forget-one .ensures) in (search needs, (search needs, (search needs, (search needs, o .marks))))
+forget-one-requires-2 c κs = let o = (let p : tie.After-forget-one = search in p .forget-one .ensures) in (search needs, (search needs, (search needs, (search needs, o .legal))))
 
 same-length : tie.Need-same-length
 same-length c = search needs

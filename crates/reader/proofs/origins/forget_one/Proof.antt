@@ -14,7 +14,7 @@ use Rattle.protocol.specs.Records.{isSet, originOf, plainOf, readerOf}
 use Rattle.protocol.proofs.Laws.Logic.{not-true, not-false}
 use Rattle.protocol.proofs.Laws.Effects.{buffer-own}
 use Rattle.protocol.proofs.Laws.Marks.{fit-mark}
-use Rattle.rules.specs.Settings.{Marked}
+use Rattle.rules.specs.Settings.{Legal}
 use Rattle.reader.specs.Buffers.{buffers, changed, withHeld, ForgotOne}
 use Rattle.reader.proofs.Laws.{chosen-origin}
 use Rattle.reader.proofs.ByNumber.{held-fit, beside-held, emptied-one}
@@ -22,7 +22,7 @@ use borrow.Author.Needs.{needs}
 use Rattle.reader.proofs.origins.forget_one.Statement.{statement}
 use Rattle.reader.proofs.origins.forget_one.Tie as tie
 
-module _ (k p n : ℕ) (s : Settings) (b c : List ℕ) (o : ℕ) (e : o ≡ cond (eqb k 2) (s .origin2) (s .origin1)) (gone : Bool) (f : gone ≡ isOneOf (among p n) (originOf o)) (j : Marked s) where
+module _ (k p n : ℕ) (s : Settings) (b c : List ℕ) (o : ℕ) (e : o ≡ cond (eqb k 2) (s .origin2) (s .origin1)) (gone : Bool) (f : gone ≡ isOneOf (among p n) (originOf o)) (j : Legal s) where
   -- the test is the definition's
   asked : (t i m : List ℕ) → isOneOf (among p n) (bufferOf (eqb k 2) (readerOf s t i m b c .guarded) .origin) ≡ gone
   unfolding bufferOf
@@ -40,7 +40,7 @@ module _ (k p n : ℕ) (s : Settings) (b c : List ℕ) (o : ℕ) (e : o ≡ cond
             sym
             (ap (λ (z : Bool). reader (r .plain) (withBuffer (eqb k 2) (cond z emptied (bufferOf (eqb k 2) (r .guarded))) (r .guarded))) (asked t i m ∙ not-true gone g)
             ∙ ap (reader (r .plain)) (buffer-own (eqb k 2) (r .guarded)));
-        marks = j;
+        legal = j;
       }
 
   goes : (q : Settings) (x y : List ℕ) → not gone ≡ false → q ≡ withHeld k 0 noPage s → buffers x y ≡ changed k (λ (z : List ℕ). zeros (length z)) b c
@@ -52,9 +52,9 @@ module _ (k p n : ℕ) (s : Settings) (b c : List ℕ) (o : ℕ) (e : o ≡ cond
             λ t i m.
             let r : Reader = readerOf s t i m b c in
             ap (λ (z : Settings). readerOf z t i m x y) h
-            ∙ rw (beside-held k 0 noPage s (s .transfer) (s .got) j (fit-mark false)) (ap (reader (plainOf s)) (emptied-one k s t i m b c x y u l v))
+            ∙ rw (beside-held k 0 noPage s j (fit-mark false)) (ap (reader (plainOf s)) (emptied-one k s t i m b c x y u l v))
             ∙ sym (ap (λ (z : Bool). reader (r .plain) (withBuffer (eqb k 2) (cond z emptied (bufferOf (eqb k 2) (r .guarded))) (r .guarded))) (asked t i m ∙ not-false gone g));
-        marks = rw h (held-fit k 0 noPage s j (fit-mark false));
+        legal = rw h (record { size = j .size; which = j .which; none = j .none; marks = held-fit k 0 noPage s j (fit-mark false) });
       }
 
 origin-of-requires : tie.Need-origin-of-requires

@@ -43,14 +43,14 @@ module _ (s : Settings) (t i m b d c h : List ℕ) (n p k : ℕ) (a : Answer) (k
     unfolding carry carryAs rule verdict capacity says follow sent bufferOf
     not-filled f w = rw (f, ← e, not-false known g, ← l, lt-ltb _ _ u, chosen-filled, ← o, not-true full w)
 
-    searched : (q : Settings) (x : Match) (z v′ : ℕ) → a ≡ answerOf true (matchCode x) 4 (matchList x) 0 q → not full ≡ false → q ≡ records.withFound v′ s → v′ ≡ markOf (x .found) → records.Marked s
+    searched : (q : Settings) (x : Match) (z v′ : ℕ) → a ≡ answerOf true (matchCode x) 4 (matchList x) 0 q → not full ≡ false → q ≡ records.withFound v′ s → v′ ≡ markOf (x .found) → records.Legal s
         → z ≡ thresholdOf h (s .level) → x ≡ bestIn i c z p k → length i ≡ indexBytes → length c ≤ mostPages
         → saidOf a t i m b d ≡ obeyed (chipOf c h) s t i m b d (searchFor n p k)
     unfolding carry carryAs rule verdict capacity follow sent apply bufferOf withFound matchList matchBytes two joined bestIn searchOf
     searched q x z v′ f w y fl ml v r j few =
         let one = le-leb (length c) mostPages few in
         let two : leb (length c) (8 * length i) ≡ true = le-leb (length c) (8 * length i) (omega arith) in
-        rw (f, y, fl, beside-found s ml (markOf (x .found)) (s .transfer) (s .got) (fit-mark (x .found)), set-mark (x .found), r, v, one, two, ← e, not-false known g, ← l, lt-ltb _ _ u, chosen-filled, ← o, not-false full w)
+        rw (f, y, fl, beside-found s ml (markOf (x .found)) (fit-mark (x .found)), set-mark (x .found), r, v, one, two, ← e, not-false known g, ← l, lt-ltb _ _ u, chosen-filled, ← o, not-false full w)
 
 -- the start, from where the buffer is known to be filled
 unfoldable start : tie.Else3 → tie.Start
@@ -117,7 +117,7 @@ returns-4 c =
     let f = (let p : tie.After-matched = search in p .matched .ensures) in
     let j = (let s : tie.Start = search start in s .pre) in
     record {
-      said = λ t m b d e. searched _ t _ m b d _ _ _ _ _ _ _ k e _ o g u _ _ _ _ f w y fl (j .1 .1 .1 .1 .1) v r (j .0) (j .1 .0);
+      said = λ t m b d e. searched _ t _ m b d _ _ _ _ _ _ _ k e _ o g u _ _ _ _ f w y fl (search) v r (j .0) (j .1 .0);
       ready = search (ready-listed, size-found);
     }
 

@@ -99,7 +99,7 @@ word-at-requires-2 c κs = search inside
 
 search-pages-requires : tie.Need-search-pages-requires
 unfolding core
-search-pages-requires c κs = (search needs, (search needs, (search needs, (search needs, (search needs, search)))))
+search-pages-requires c κs = (search needs, (search needs, (search needs, (search needs, search))))
 
 shared-slice-read-n-2 : tie.Need-shared-slice-read-n-2
 unfolding lenOf rowOf commands
@@ -146,10 +146,10 @@ unfolding lenOf rowOf commands
 word-at-requires-6 c κs = search inside
 
 delete-pages-requires : tie.Need-delete-pages-requires
-delete-pages-requires c κs = (search needs, (search needs, (search needs, (search needs, (search needs, search)))))
+delete-pages-requires c κs = (search needs, (search needs, (search needs, (search needs, search))))
 
 empty-all-requires : tie.Need-empty-all-requires
-empty-all-requires c κs = (search needs, (search needs, (search needs, (search needs, search))))
+empty-all-requires c κs = (search needs, (search needs, (search needs, search)))
 
 shared-slice-read-set-parameter : tie.Need-shared-slice-read-set-parameter
 unfolding lenOf rowOf commands

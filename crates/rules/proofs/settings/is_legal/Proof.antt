@@ -1,5 +1,5 @@
 -- The settings' ranges first, then the marks, and then the transfer, whose test needs a size code in its range.
-use mathlib.Core.Path.{_≡_, sym, ap, _∙_}
+use mathlib.Core.Path.{_≡_, sym, _∙_}
 use mathlib.Core.Bool.{Bool, true, false, not}
 use mathlib.Core.List.{[]}
 use Prim.Native.Nat.{_≤_}
@@ -9,9 +9,8 @@ use Rattle.protocol.specs.Numbers.{highestSize}
 use Rattle.protocol.specs.Call.{fitPlain, fitTransfer}
 use Rattle.protocol.specs.Records.{fitMarks, marksOf, plainOf, transferOf, readerOf}
 use Rattle.protocol.proofs.Laws.Logic.{not-true, not-false}
-use Rattle.protocol.proofs.Laws.Marks.{beside-fit}
 use Rattle.rules.specs.Settings.{legalOf}
-use Rattle.rules.proofs.Transfers.{plain-size, fit-odd}
+use Rattle.rules.proofs.Transfers.{plain-size, fit-unmarked}
 use Rattle.rules.proofs.settings.is_legal.Statement.{statement}
 use Rattle.rules.proofs.settings.is_legal.Tie as tie
 
@@ -27,13 +26,14 @@ module _ (s : Settings) (fit : Bool) (e : fit ≡ fitPlain (plainOf s)) where
     module _ (marked : Bool) (m : marked ≡ fitMarks (marksOf s)) where
       by-marks : not marked ≡ true → false ≡ legalOf s
       unfolding legalOf
-      by-marks n = rw (← e, not-false fit f, fit-odd (plainOf s) (readerOf s [] [] [] [] [] .guarded) (marksOf s) (s .transfer) (s .got) (sym m ∙ not-true marked n))
+      by-marks n = rw (← e, not-false fit f, fit-unmarked (plainOf s) (readerOf s [] [] [] [] [] .guarded) (marksOf s) (s .transfer) (s .got) (sym m ∙ not-true marked n))
 
-      by-transfer : not marked ≡ false → (r : Bool) → r ≡ fitTransfer (plainOf s) (readerOf s [] [] [] [] [] .guarded) (transferOf (s .transfer) (s .got)) → r ≡ legalOf s
-      unfolding legalOf
-      by-transfer n r g =
-          rw (← e, not-false fit f)
-          (g ∙ ap (fitTransfer (plainOf s) (readerOf s [] [] [] [] [] .guarded)) (sym (beside-fit (marksOf s) (s .transfer) (s .got) (sym m ∙ not-false marked n))))
+      fit-marks : not marked ≡ false → fitMarks (marksOf s) ≡ true
+      fit-marks n = sym m ∙ not-false marked n
+
+  by-transfer : not fit ≡ false → (r : Bool) → r ≡ fitTransfer (plainOf s) (readerOf s [] [] [] [] [] .guarded) (transferOf (marksOf s) (s .transfer) (s .got)) → r ≡ legalOf s
+  unfolding legalOf
+  by-transfer f r g = rw (← e, not-false fit f) g
 
 is-plain-fit-requires : tie.Need-is-plain-fit-requires
 is-plain-fit-requires c κs = search needs
@@ -48,7 +48,7 @@ returns-2 : tie.Need-returns-2
 returns-2 c = search by-marks
 
 is-transfer-fit-requires : tie.Need-is-transfer-fit-requires
-is-transfer-fit-requires c κs = search sized
+is-transfer-fit-requires c κs = (search sized, search fit-marks)
 
 returns-3 : tie.Need-returns-3
 returns-3 c = search by-transfer

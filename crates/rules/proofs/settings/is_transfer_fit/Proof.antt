@@ -6,9 +6,9 @@ use lib.Dec.{eqb}
 use borrow.Author.Tests.{lt-ltb, le-ltb, eq-eqb, ne-eqb}
 use borrow.Author.Needs.{needs}
 use Rattle.protocol.specs.Numbers.{pageBytes, highestSize}
-use Rattle.protocol.specs.Reader.{Plain, Guarded, locked}
+use Rattle.protocol.specs.Reader.{Marks, Plain, Guarded, locked}
 use Rattle.protocol.specs.Call.{fitTransfer}
-use Rattle.protocol.specs.Records.{transferOf}
+use Rattle.protocol.specs.Records.{fitMarks, transferOf}
 use Rattle.protocol.proofs.Laws.Logic.{and-true, and-false}
 use Rattle.rules.specs.Settings.{SizeOf}
 use Rattle.rules.proofs.Sizes.{size-legal}
@@ -17,29 +17,29 @@ use Rattle.rules.proofs.settings.is_transfer_fit.Statement.{statement}
 use Rattle.rules.proofs.settings.is_transfer_fit.Tie as tie
 
 -- each return as a law: its value and the tests that led there
-module _ (p : Plain) (g : Guarded) (w k : ℕ) where
-  none : w ≡ 0 → eqb k 0 ≡ fitTransfer p g (transferOf w k)
-  none e = sym (fit-none p g w k e)
+module _ (p : Plain) (g : Guarded) (m : Marks) (j : fitMarks m ≡ true) (w k : ℕ) where
+  none : w ≡ 0 → eqb k 0 ≡ fitTransfer p g (transferOf m w k)
+  none e = sym (fit-none p g m j w k e)
 
-  far : 2 < w → false ≡ fitTransfer p g (transferOf w k)
-  far h = sym (fit-far p g w k h)
+  far : 2 < w → false ≡ fitTransfer p g (transferOf m w k)
+  far h = sym (fit-far p g m w k h)
 
   module _ (n : w ≡ 0 → ⊥) (h : w ≤ 2) (z : ℕ) (e : SizeOf (p .size) z) (l : p .size ≤ highestSize) where
-    uneven : (k % z ≡ 0 → ⊥) → false ≡ fitTransfer p g (transferOf w k)
-    uneven a = rw (fit-at p g w k n h, ← size-legal (p .size) z e l, ne-eqb _ _ a)
+    uneven : (k % z ≡ 0 → ⊥) → false ≡ fitTransfer p g (transferOf m w k)
+    uneven a = rw (fit-at p g m j w k n h, ← size-legal (p .size) z e l, ne-eqb _ _ a)
 
     module _ (a : k % z ≡ 0) where
-      full : pageBytes ≤ k → false ≡ fitTransfer p g (transferOf w k)
-      full b = rw (fit-at p g w k n h, ← size-legal (p .size) z e l, eq-eqb _ _ a, le-ltb _ _ b)
+      full : pageBytes ≤ k → false ≡ fitTransfer p g (transferOf m w k)
+      full b = rw (fit-at p g m j w k n h, ← size-legal (p .size) z e l, eq-eqb _ _ a, le-ltb _ _ b)
 
       module _ (b : k < pageBytes) (shut : Bool) (o : shut ≡ locked p) where
-        barred : shut ≡ true → false ≡ fitTransfer p g (transferOf w k)
+        barred : shut ≡ true → false ≡ fitTransfer p g (transferOf m w k)
         barred s =
-            rw (fit-at p g w k n h, ← size-legal (p .size) z e l, eq-eqb _ _ a, lt-ltb _ _ b)
+            rw (fit-at p g m j w k n h, ← size-legal (p .size) z e l, eq-eqb _ _ a, lt-ltb _ _ b)
             (sym (and-false (not (cond (eqb w 2) (g .buffer2 .filled) (g .buffer1 .filled))) (not (locked p)) (rw (← o, s))))
 
-        by-mark : shut ≡ false → (f : Bool) → f ≡ cond (eqb w 2) (g .buffer2 .filled) (g .buffer1 .filled) → not f ≡ fitTransfer p g (transferOf w k)
-        by-mark s f m = rw (fit-at p g w k n h, ← size-legal (p .size) z e l, eq-eqb _ _ a, lt-ltb _ _ b, ← m) (sym (and-true (not f) (not (locked p)) (rw (← o, s))))
+        by-mark : shut ≡ false → (f : Bool) → f ≡ cond (eqb w 2) (g .buffer2 .filled) (g .buffer1 .filled) → not f ≡ fitTransfer p g (transferOf m w k)
+        by-mark s f q = rw (fit-at p g m j w k n h, ← size-legal (p .size) z e l, eq-eqb _ _ a, lt-ltb _ _ b, ← q) (sym (and-true (not f) (not (locked p)) (rw (← o, s))))
 
 cast-got : tie.Need-cast-got
 cast-got c = search needs
