@@ -14,6 +14,7 @@ use Rattle.protocol.specs.Tests.{within, every}
 use Rattle.protocol.specs.Index.{bit, stored, clearFrom}
 use Rattle.protocol.specs.Reader.{closed, noOrigin, fromPage, Reader, capacity, keyed, locked, bufferOf, emptied, loadedFrom, withPassword, fresh, zeroed, contents, reader}
 use Rattle.protocol.specs.Search.{Chip, eligible, beats, bestOf, pagesFrom, searchOf}
+use Rattle.protocol.specs.Table.{isBuffer}
 use Rattle.protocol.specs.Step.{ended, rested}
 use Rattle.protocol.specs.Call.{core, fitLibrary, fitBuffers, fitChip, fitLengths, fitPlain, fitTransfer, fitOrigin, fitOrigins, sound, legal}
 use Rattle.protocol.specs.Records.{fitMark, fitMarks, transferOf, originOf, freshOf}
@@ -105,7 +106,7 @@ full-bytes n (suc zero) = lit< tt
 full-bytes n (suc (suc i)) = fine-zeros n .bytes i
 
 pub from-c-met : MetFromC emptyVault fullVault
-unfolding settings10 emptyVault fullVault keyed10 fresh10 full10 fresh zeroed withPassword emptied loadedFrom four fitMarks fitMark transferOf originOf core
+unfolding settings10 emptyVault fullVault keyed10 fresh10 full10 fresh zeroed withPassword emptied loadedFrom four fitMarks fitMark transferOf isBuffer originOf core
 from-c-met =
     record {
       one = record { typed = record { password = refl; address = refl; index = fine-zeros 128 .bytes }; legal = premises-met .one };
