@@ -77,8 +77,8 @@ fn number(name: &str, value: Option<&String>) -> Result<u64, String> {
 }
 
 fn list_errors() -> Result<(), End> {
-    for (name, _) in wrong::errors() {
-        println!("{name}");
+    for wrong in wrong::all() {
+        println!("{}", wrong.name);
     }
     Ok(())
 }
@@ -87,7 +87,8 @@ fn list_errors() -> Result<(), End> {
 fn refuse_errors() -> Result<(), End> {
     let extent = Extent { cases: COVERING_CASES, seed: 1, quiet: true };
     let mut refused = 0;
-    for (name, wrong) in wrong::errors() {
+    for wrong in &wrong::all() {
+        let name = &wrong.name;
         match compare(wrong, extent) {
             Err(End::Difference(_)) => refused += 1,
             Ok(_) | Err(End::Weakness(_)) => {
@@ -104,13 +105,13 @@ fn refuse_errors() -> Result<(), End> {
 fn answer(arguments: &[String]) -> Result<(), End> {
     let wrong = match arguments {
         [] => None,
-        [name] => match wrong::errors().find(|(error, _)| error == name) {
-            Some((_, wrong)) => Some(wrong),
-            None => return Err(End::Trouble(format!("unknown error {name}\n{USAGE}"))),
-        },
+        [name] => {
+            let wrong = wrong::all().into_iter().find(|wrong| wrong.name == *name);
+            Some(wrong.ok_or_else(|| format!("unknown error {name}\n{USAGE}"))?)
+        }
         _ => return Err(End::Trouble(format!("--answer takes one error\n{USAGE}"))),
     };
-    let carry_out = |request: &Request| match wrong {
+    let carry_out = |request: &Request| match &wrong {
         Some(wrong) => wrong.carried_out(request),
         None => request.carried_out(),
     };

@@ -1,211 +1,124 @@
-//! Ways to bring an index over with one deliberate error each, by document 02's request [6].
+//! Errors in how an index is brought over by document 02's request [6].
 
+use super::basics::set_marks;
+use super::words::*;
+use super::Rows;
 use crate::compare::frame::{Kind, Outcome, Request};
 use crate::reader::*;
-use crate::wrong::refused_with;
-use crate::wrong::Error::{self, OfBringingOver};
 
 /// The bytes of the lent index behind the stored ones.
 const REST: usize = INDEX - SHORT_INDEX;
 
-pub const ERRORS: [(&str, Error); 42] = [
-    ("brings-nothing-over", OfBringingOver(|request| lays(|_, lent| lent.to_vec(), request))),
-    ("brings-over-one-byte-late", OfBringingOver(one_byte_late)),
-    ("brings-over-to-the-end", OfBringingOver(|request| lays(|stored, _| [&[0; REST], stored].concat(), request))),
-    ("brings-31-bytes-over", OfBringingOver(|request| lays(|stored, _| zeroes_behind(&stored[..31]), request))),
-    ("brings-over-four-times", OfBringingOver(|request| lays(|stored, _| stored.repeat(4), request))),
-    ("brings-over-by-four", OfBringingOver(by_four)),
-    ("brings-bytes-over-turned", OfBringingOver(bytes_turned)),
-    ("brings-bits-over-turned", OfBringingOver(bits_turned)),
-    ("keeps-lent-bits", OfBringingOver(keeps_lent_bits)),
-    ("keeps-rest", OfBringingOver(|request| lays(|stored, lent| [stored, &lent[SHORT_INDEX..]].concat(), request))),
-    ("keeps-first-byte-of-rest", OfBringingOver(|request| keeps_byte(SHORT_INDEX, request))),
-    ("keeps-last-byte-of-rest", OfBringingOver(|request| keeps_byte(INDEX - 1, request))),
-    ("sets-rest", OfBringingOver(|request| lays(|stored, _| [stored, &[0xFF; REST]].concat(), request))),
-    ("takes-stored-0", OfBringingOver(|request| takes(|stored, lent| stored == 0 && lent == INDEX, request))),
-    ("takes-stored-31", OfBringingOver(|request| takes(|stored, lent| stored == 31 && lent == INDEX, request))),
-    ("takes-stored-33", OfBringingOver(|request| takes(|stored, lent| stored == 33 && lent == INDEX, request))),
-    ("takes-stored-128", OfBringingOver(|request| takes(|stored, lent| stored == 128 && lent == INDEX, request))),
-    ("takes-any-stored", OfBringingOver(|request| takes(|_, lent| lent == INDEX, request))),
-    ("takes-lent-32", OfBringingOver(|request| takes(|stored, lent| stored == SHORT_INDEX && lent == 32, request))),
-    ("takes-lent-127", OfBringingOver(|request| takes(|stored, lent| stored == SHORT_INDEX && lent == 127, request))),
-    ("takes-lent-129", OfBringingOver(|request| takes(|stored, lent| stored == SHORT_INDEX && lent == 129, request))),
-    ("takes-any-lent", OfBringingOver(|request| takes(|stored, _| stored == SHORT_INDEX, request))),
-    ("takes-96-bytes-more", OfBringingOver(|request| takes(|stored, lent| stored + REST == lent, request))),
-    ("takes-lengths-in-turn", OfBringingOver(|request| takes(|stored, lent| stored == 128 && lent == 32, request))),
-    ("refuses-all", OfBringingOver(|request| refused_with(1, request))),
-    ("refuses-unfit-memory", OfBringingOver(|request| refuses_like_call(1, request))),
-    ("refuses-small-room", OfBringingOver(|request| refuses_like_call(2, request))),
-    ("refuses-unfit-settings", OfBringingOver(|request| refuses_like_call(3, request))),
-    ("refuses-bits-beyond", OfBringingOver(refuses_bits_beyond)),
-    ("refuses-with-0", OfBringingOver(|request| refuses_with(0, request))),
-    ("refuses-with-2", OfBringingOver(|request| refuses_with(2, request))),
-    ("refuses-with-3", OfBringingOver(|request| refuses_with(3, request))),
-    ("refused-zeroes-lent", OfBringingOver(|request| refused_writes(|_, lent| lent.fill(0), request))),
-    ("refused-copies-stored", OfBringingOver(refused_copies_stored)),
-    ("clears-bits-beyond", OfBringingOver(clears_bits_beyond)),
-    ("zeroes-vacant-pages", OfBringingOver(zeroes_vacant_pages)),
-    (
-        "lays-fresh-settings",
-        OfBringingOver(|request| also(|outcome| outcome.reader.settings = Settings::fresh(), request)),
-    ),
-    ("makes-marks-legal", OfBringingOver(makes_marks_legal)),
-    ("switches-line-too", OfBringingOver(|request| also(|outcome| line_switch(&mut outcome.reader), request))),
-    ("tells-stored-bytes-used", OfBringingOver(|request| also(|outcome| outcome.answer.used = SHORT_INDEX, request))),
-    ("tells-index-as-reply", OfBringingOver(|request| also(|outcome| outcome.answer.length = INDEX, request))),
-    ("runs-stored-index", OfBringingOver(runs_stored_index)),
-];
+pub fn add(rows: &mut Rows) {
+    // What is laid into the lent index.
+    rows.bringing_over("brings-nothing-over", lays(|_, lent| lent.to_vec()));
+    rows.bringing_over("brings-over-one-byte-late", lays(|stored, _| zeroes_behind([&[0], stored].concat())));
+    rows.bringing_over("brings-over-to-the-end", lays(|stored, _| [&[0; REST], stored].concat()));
+    rows.bringing_over("brings-31-bytes-over", lays(|stored, _| zeroes_behind(stored[..31].to_vec())));
+    rows.bringing_over("brings-over-four-times", lays(|stored, _| stored.repeat(4)));
+    rows.bringing_over("brings-over-by-four", lays(|stored, _| stored.iter().flat_map(|&b| [b, 0, 0, 0]).collect()));
+    rows.bringing_over("brings-bytes-over-turned", lays(|stored, _| zeroes_behind(stored.iter().rev().copied().collect())));
+    rows.bringing_over("brings-bits-over-turned", lays(|stored, _| zeroes_behind(each(stored, u8::reverse_bits))));
+    rows.bringing_over("keeps-lent-bits", lays(|stored, lent| zeroes_behind(union(stored, lent))));
+    rows.bringing_over("keeps-rest", lays(|stored, lent| [stored, &lent[SHORT_INDEX..]].concat()));
+    rows.bringing_over("sets-rest", lays(|stored, _| [stored, &[0xFF; REST]].concat()));
+    rows.bringing_over("keeps-first-byte-of-rest", leaves(done, |now, old| now.index[SHORT_INDEX] = old.index[SHORT_INDEX]));
+    rows.bringing_over("keeps-last-byte-of-rest", leaves(done, |now, old| now.index[INDEX - 1] = old.index[INDEX - 1]));
 
-/// The stored bytes begin at byte 1.
-fn one_byte_late(request: &Request) -> Outcome {
-    lays(|stored, _| zeroes_behind(&[&[0], stored].concat()), request)
-}
-
-/// Each stored byte is the first of four.
-fn by_four(request: &Request) -> Outcome {
-    lays(|stored, _| stored.iter().flat_map(|&byte| [byte, 0, 0, 0]).collect(), request)
-}
-
-/// The last stored byte comes first.
-fn bytes_turned(request: &Request) -> Outcome {
-    lays(|stored, _| zeroes_behind(&stored.iter().copied().rev().collect::<Vec<u8>>()), request)
-}
-
-/// The highest bit of each byte comes first.
-fn bits_turned(request: &Request) -> Outcome {
-    lays(|stored, _| zeroes_behind(&stored.iter().map(|byte| byte.reverse_bits()).collect::<Vec<u8>>()), request)
-}
-
-/// A bit that is set in the first 32 bytes of the lent index stays set.
-fn keeps_lent_bits(request: &Request) -> Outcome {
-    let both =
-        |stored: &[u8], lent: &[u8]| stored.iter().zip(lent).map(|(one, other)| one | other).collect::<Vec<u8>>();
-    lays(|stored, lent| zeroes_behind(&both(stored, lent)), request)
-}
-
-/// This byte of the lent index stays as it is.
-fn keeps_byte(place: usize, request: &Request) -> Outcome {
-    let mut outcome = request.carried_out();
-    if outcome.answer.refusal == 0 {
-        outcome.reader.index[place] = request.reader.index[place];
+    // The lengths that are taken.
+    for length in [0, 31, 33, 128] {
+        let name = format!("takes-stored-{length}");
+        rows.bringing_over(name, takes(move |stored, lent| stored == length && lent == INDEX));
     }
-    outcome
+    for length in [32, 127, 129] {
+        let name = format!("takes-lent-{length}");
+        rows.bringing_over(name, takes(move |stored, lent| stored == SHORT_INDEX && lent == length));
+    }
+    rows.bringing_over("takes-any-stored", takes(|_, lent| lent == INDEX));
+    rows.bringing_over("takes-any-lent", takes(|stored, _| stored == SHORT_INDEX));
+    rows.bringing_over("takes-96-bytes-more", takes(|stored, lent| stored + REST == lent));
+    rows.bringing_over("takes-lengths-in-turn", takes(|stored, lent| stored == 128 && lent == 32));
+
+    // What is refused.
+    rows.bringing_over("refuses-all", refuses(1, |_| true));
+    rows.bringing_over("refuses-unfit-memory", refuses_like_call(1));
+    rows.bringing_over("refuses-small-room", refuses_like_call(2));
+    rows.bringing_over("refuses-unfit-settings", refuses_like_call(3));
+    rows.bringing_over("refuses-bits-beyond", refuses(3, |good| done(good) && good.outcome.reader.bit_beyond().is_some()));
+    for refusal in [0, 2, 3] {
+        rows.bringing_over(format!("refuses-with-{refusal}"), refuses(refusal, |good| !done(good)));
+    }
+    rows.bringing_over("refused-zeroes-lent", also(|good| !done(good), |outcome, _| outcome.reader.index.fill(0)));
+    rows.bringing_over("refused-copies-stored", also(|good| !done(good), copy_what_fits));
+
+    // What else is done.
+    rows.bringing_over("clears-bits-beyond", leaves(done, |now, _| clear_bits_beyond(now)));
+    rows.bringing_over("zeroes-vacant-pages", leaves(done, |now, _| zero_vacant_pages(now)));
+    rows.bringing_over("lays-fresh-settings", leaves(done, |now, _| now.settings = Settings::fresh()));
+    rows.bringing_over("makes-marks-legal", leaves(done, |now, _| set_marks(&mut now.settings)));
+    rows.bringing_over("switches-line-too", leaves(done, |now, _| drop(line_switch(now))));
+    rows.bringing_over("tells-stored-bytes-used", also(done, |outcome, _| outcome.answer.used = SHORT_INDEX));
+    rows.bringing_over("tells-index-as-reply", also(done, |outcome, _| outcome.answer.length = INDEX));
+    rows.bringing_over("runs-stored-index", runs_stored_index);
 }
 
 /// Where both lengths fit, the lent index becomes this, made of the stored one and of what it was.
-fn lays(index: impl Fn(&[u8], &[u8]) -> Vec<u8>, request: &Request) -> Outcome {
-    let mut outcome = request.carried_out();
-    if outcome.answer.refusal == 0 {
-        outcome.reader.index = index(&request.run, &request.reader.index);
-    }
-    outcome
+fn lays(index: fn(&[u8], &[u8]) -> Vec<u8>) -> impl Makes {
+    also(done, move |outcome, request| outcome.reader.index = index(&request.run, &request.reader.index))
 }
 
 /// An index that begins with these bytes.
-fn zeroes_behind(first: &[u8]) -> Vec<u8> {
-    let mut index = first.to_vec();
-    index.resize(INDEX, 0);
-    index
+fn zeroes_behind(mut first: Vec<u8>) -> Vec<u8> {
+    first.resize(INDEX, 0);
+    first
+}
+
+fn each(bytes: &[u8], other: fn(u8) -> u8) -> Vec<u8> {
+    bytes.iter().map(|&byte| other(byte)).collect()
+}
+
+/// The bits that are set in either.
+fn union(stored: &[u8], lent: &[u8]) -> Vec<u8> {
+    stored.iter().zip(lent).map(|(one, other)| one | other).collect()
 }
 
 /// Such lengths of the stored and of the lent index are taken too: the one is brought over as far as it goes and fits.
-fn takes(such: fn(usize, usize) -> bool, request: &Request) -> Outcome {
-    let lent = &request.reader.index;
-    if !such(request.run.len(), lent.len()) {
-        return request.carried_out();
-    }
-    let mut asked = request.clone();
-    asked.run.resize(SHORT_INDEX, 0);
-    asked.reader.index.resize(INDEX, 0);
-    let mut outcome = asked.carried_out();
-    outcome.reader.index.resize(lent.len(), 0);
-    outcome
+fn takes(such: impl Fn(usize, usize) -> bool + 'static) -> impl Makes {
+    let takes = |request: &Request| {
+        let mut asked = request.clone();
+        asked.run.resize(SHORT_INDEX, 0);
+        asked.reader.index.resize(INDEX, 0);
+        let mut outcome = asked.carried_out();
+        outcome.reader.index.resize(request.reader.index.len(), 0);
+        outcome
+    };
+    only(move |request| such(request.run.len(), request.reader.index.len()), takes)
 }
 
 /// What a call would refuse with this number is refused with it.
-fn refuses_like_call(refusal: u8, request: &Request) -> Outcome {
-    if request.reader.refusal(request.room.len()) == refusal {
-        return refused_with(refusal, request);
+fn refuses_like_call(refusal: u8) -> impl Makes {
+    refuses(refusal, move |good| good.old().refusal(good.request.room.len()) == refusal)
+}
+
+/// The stored bytes are copied as far as they fit.
+fn copy_what_fits(outcome: &mut Outcome, request: &Request) {
+    outcome.reader.index.iter_mut().zip(&request.run).for_each(|(lent, stored)| *lent = *stored);
+}
+
+/// No bit at or above C stays.
+fn clear_bits_beyond(now: &mut Reader) {
+    while let Some(page) = now.bit_beyond() {
+        now.index[page / 8] &= !bit(page);
     }
-    request.carried_out()
-}
-
-/// A stored index with a bit at or above C gets refusal 3.
-fn refuses_bits_beyond(request: &Request) -> Outcome {
-    let outcome = request.carried_out();
-    if outcome.answer.refusal == 0 && outcome.reader.bit_beyond().is_some() {
-        return refused_with(3, request);
-    }
-    outcome
-}
-
-/// What is refused is refused with this number.
-fn refuses_with(refusal: u8, request: &Request) -> Outcome {
-    let mut outcome = request.carried_out();
-    if outcome.answer.refusal == 1 {
-        outcome.answer.refusal = refusal;
-    }
-    outcome
-}
-
-/// The stored bytes are copied as far as they fit, and then the lengths are tested.
-fn refused_copies_stored(request: &Request) -> Outcome {
-    let copies = |stored: &[u8], lent: &mut [u8]| {
-        let fits = stored.len().min(lent.len());
-        lent[..fits].copy_from_slice(&stored[..fits]);
-    };
-    refused_writes(copies, request)
-}
-
-/// Where a length does not fit, this is done with the stored and the lent index.
-fn refused_writes(effect: impl Fn(&[u8], &mut [u8]), request: &Request) -> Outcome {
-    let mut outcome = request.carried_out();
-    if outcome.answer.refusal != 0 {
-        effect(&request.run, &mut outcome.reader.index);
-    }
-    outcome
-}
-
-/// No bit at or above C is brought over.
-fn clears_bits_beyond(request: &Request) -> Outcome {
-    let clears = |outcome: &mut Outcome| {
-        while let Some(page) = outcome.reader.bit_beyond() {
-            outcome.reader.index[page / 8] &= !bit(page);
-        }
-    };
-    also(clears, request)
 }
 
 /// Pages whose bits are clear are zeroed.
-fn zeroes_vacant_pages(request: &Request) -> Outcome {
-    let zeroes = |outcome: &mut Outcome| {
-        for page in 0..outcome.reader.capacity().min(MOST_PAGES) {
-            if !outcome.reader.stored(page) {
-                outcome.reader.template_mut(page).fill(0);
-            }
+fn zero_vacant_pages(now: &mut Reader) {
+    for page in 0..now.capacity().min(MOST_PAGES) {
+        if !now.stored(page) {
+            now.template_mut(page).fill(0);
         }
-    };
-    also(zeroes, request)
-}
-
-/// A mark of any byte but 0 becomes set.
-fn makes_marks_legal(request: &Request) -> Outcome {
-    let legal = |outcome: &mut Outcome| {
-        let Settings { verified, filled: [one, two], found, .. } = &mut outcome.reader.settings;
-        for mark in [verified, one, two, found] {
-            *mark = Mark::of(*mark != CLEAR);
-        }
-    };
-    also(legal, request)
-}
-
-/// What is brought over also has this effect.
-fn also<T>(effect: impl Fn(&mut Outcome) -> T, request: &Request) -> Outcome {
-    let mut outcome = request.carried_out();
-    if outcome.answer.refusal == 0 {
-        effect(&mut outcome);
     }
-    outcome
 }
 
 /// The stored index is dealt with as a run too, by what a call would answer.

@@ -1,308 +1,159 @@
-//! Readers and receivers with one deliberate error each in the found mark of document 02's request [8]: what sets and
-//! clears it, its bit in the status word, and its refusal.
+//! Errors in the found mark of document 02's request [8]: what sets and clears it, its bit in the status word, and its
+//! refusal.
 
+use super::refusals::{refused_call, refuses_legal};
+use super::words::*;
+use super::{Rows, NAMED};
 use crate::compare::frame::{Outcome, Request};
 use crate::reader::*;
-use crate::reader::receiver::HOLDS;
-use crate::wrong::Error::{self, OfBringingOver, OfFresh, OfReader, OfReceiver};
-use crate::wrong::{carried_out, code, is_command, received, refused_with, reply_instead};
-use crate::wrong::refusals::refuses;
-use crate::wrong::thousand::fine;
+use crate::tally::kinds::CODES;
 
-pub const ERRORS: [(&str, Error); 114] = [
-    ("search-00-keeps-found", OfReader(search_00_keeps_found)),
-    ("search-00-clears-found", OfReader(|request| search_leaves(0x00, CLEAR, request))),
-    ("search-00-turns-found", OfReader(search_00_turns_found)),
-    ("search-00-sets-found-of-buffer-1-only", OfReader(search_00_sets_found_of_buffer_1_only)),
-    ("search-00-sets-found-for-a-score-only", OfReader(search_00_sets_found_for_a_score_only)),
-    ("search-00-sets-found-2", OfReader(|request| search_leaves(0x00, Mark(2), request))),
-    ("search-09-keeps-found", OfReader(search_09_keeps_found)),
-    ("search-09-sets-found", OfReader(|request| search_leaves(0x09, SET, request))),
-    ("search-01-clears-found", OfReader(|request| search_leaves(0x01, CLEAR, request))),
-    ("search-01-sets-found", OfReader(|request| search_leaves(0x01, SET, request))),
-    ("search-0B-clears-found", OfReader(|request| search_leaves(0x0B, CLEAR, request))),
-    ("search-0B-sets-found", OfReader(|request| search_leaves(0x0B, SET, request))),
-    ("search-0C-clears-found", OfReader(|request| search_leaves(0x0C, CLEAR, request))),
-    ("search-0C-sets-found", OfReader(|request| search_leaves(0x0C, SET, request))),
-    ("search-21-clears-found", OfReader(|request| search_leaves(0x21, CLEAR, request))),
-    ("search-21-sets-found", OfReader(|request| search_leaves(0x21, SET, request))),
-    ("search-of-wrong-length-clears-found", OfReader(|request| search_of_wrong_length(CLEAR, request))),
-    ("search-of-wrong-length-sets-found", OfReader(|request| search_of_wrong_length(SET, request))),
-    ("search-of-wrong-sum-clears-found", OfReader(|request| search_of_wrong_sum(CLEAR, request))),
-    ("search-of-wrong-sum-sets-found", OfReader(|request| search_of_wrong_sum(SET, request))),
-    ("store-clears-found", OfReader(|request| fine_leaves(STORE, CLEAR, request))),
-    ("store-sets-found", OfReader(|request| fine_leaves(STORE, SET, request))),
-    ("load-char-clears-found", OfReader(|request| fine_leaves(LOAD_CHAR, CLEAR, request))),
-    ("load-char-sets-found", OfReader(|request| fine_leaves(LOAD_CHAR, SET, request))),
-    ("up-char-clears-found", OfReader(|request| fine_leaves(UP_CHAR, CLEAR, request))),
-    ("up-char-sets-found", OfReader(|request| fine_leaves(UP_CHAR, SET, request))),
-    ("down-char-clears-found", OfReader(|request| fine_leaves(DOWN_CHAR, CLEAR, request))),
-    ("down-char-sets-found", OfReader(|request| fine_leaves(DOWN_CHAR, SET, request))),
-    ("delet-char-clears-found", OfReader(|request| fine_leaves(DELET_CHAR, CLEAR, request))),
-    ("delet-char-sets-found", OfReader(|request| fine_leaves(DELET_CHAR, SET, request))),
-    ("empty-clears-found", OfReader(|request| fine_leaves(EMPTY, CLEAR, request))),
-    ("empty-sets-found", OfReader(|request| fine_leaves(EMPTY, SET, request))),
-    ("set-sys-para-clears-found", OfReader(|request| fine_leaves(SET_SYS_PARA, CLEAR, request))),
-    ("set-sys-para-sets-found", OfReader(|request| fine_leaves(SET_SYS_PARA, SET, request))),
-    ("read-sys-para-clears-found", OfReader(|request| fine_leaves(READ_SYS_PARA, CLEAR, request))),
-    ("read-sys-para-sets-found", OfReader(|request| fine_leaves(READ_SYS_PARA, SET, request))),
-    ("set-pwd-clears-found", OfReader(|request| fine_leaves(SET_PWD, CLEAR, request))),
-    ("set-pwd-sets-found", OfReader(|request| fine_leaves(SET_PWD, SET, request))),
-    ("vfy-pwd-clears-found", OfReader(|request| fine_leaves(VFY_PWD, CLEAR, request))),
-    ("vfy-pwd-sets-found", OfReader(|request| fine_leaves(VFY_PWD, SET, request))),
-    ("set-adder-clears-found", OfReader(|request| fine_leaves(SET_ADDER, CLEAR, request))),
-    ("set-adder-sets-found", OfReader(|request| fine_leaves(SET_ADDER, SET, request))),
-    ("write-notepad-clears-found", OfReader(|request| fine_leaves(WRITE_NOTEPAD, CLEAR, request))),
-    ("write-notepad-sets-found", OfReader(|request| fine_leaves(WRITE_NOTEPAD, SET, request))),
-    ("read-notepad-clears-found", OfReader(|request| fine_leaves(READ_NOTEPAD, CLEAR, request))),
-    ("read-notepad-sets-found", OfReader(|request| fine_leaves(READ_NOTEPAD, SET, request))),
-    ("templete-num-clears-found", OfReader(|request| fine_leaves(TEMPLETE_NUM, CLEAR, request))),
-    ("templete-num-sets-found", OfReader(|request| fine_leaves(TEMPLETE_NUM, SET, request))),
-    ("read-index-table-clears-found", OfReader(|request| fine_leaves(READ_INDEX_TABLE, CLEAR, request))),
-    ("read-index-table-sets-found", OfReader(|request| fine_leaves(READ_INDEX_TABLE, SET, request))),
-    ("hand-shake-clears-found", OfReader(|request| fine_leaves(HAND_SHAKE, CLEAR, request))),
-    ("hand-shake-sets-found", OfReader(|request| fine_leaves(HAND_SHAKE, SET, request))),
-    ("01-clears-found", OfReader(|request| coded(0x01, CLEAR, request))),
-    ("0B-clears-found", OfReader(|request| coded(0x0B, CLEAR, request))),
-    ("0C-clears-found", OfReader(|request| coded(0x0C, CLEAR, request))),
-    ("0D-clears-found", OfReader(|request| coded(0x0D, CLEAR, request))),
-    ("0E-clears-found", OfReader(|request| coded(0x0E, CLEAR, request))),
-    ("10-clears-found", OfReader(|request| coded(0x10, CLEAR, request))),
-    ("13-clears-found", OfReader(|request| coded(0x13, CLEAR, request))),
-    ("19-clears-found", OfReader(|request| coded(0x19, CLEAR, request))),
-    ("1A-clears-found", OfReader(|request| coded(0x1A, CLEAR, request))),
-    ("1B-clears-found", OfReader(|request| coded(0x1B, CLEAR, request))),
-    ("1C-clears-found", OfReader(|request| coded(0x1C, CLEAR, request))),
-    ("21-clears-found", OfReader(|request| coded(0x21, CLEAR, request))),
-    ("22-clears-found", OfReader(|request| coded(0x22, CLEAR, request))),
-    ("silence-clears-found", OfReader(silence_clears_found)),
-    ("last-data-sets-found", OfReader(last_data_sets_found)),
-    ("ended-transfer-clears-found", OfReader(ended_transfer_clears_found)),
-    ("refused-call-clears-found", OfReader(refused_call_clears_found)),
-    ("switch-keeps-found", OfReader(switch_keeps_found)),
-    ("switch-sets-found", OfReader(|request| switched(|_| SET, request))),
-    ("switch-keeps-unfit-found", OfReader(switch_keeps_unfit_found)),
-    ("switch-refuses-unfit-found", OfReader(switch_refuses_unfit_found)),
-    ("refused-switch-clears-found", OfReader(refused_switch_clears_found)),
-    ("fresh-keeps-found", OfFresh(|request| settled(|before| before, request))),
-    ("fresh-sets-found", OfFresh(|request| settled(|_| SET, request))),
-    (
-        "fresh-keeps-unfit-found",
-        OfFresh(|request| settled(|before| if before.legal() { CLEAR } else { before }, request)),
-    ),
-    ("bringing-over-clears-found", OfBringingOver(|request| settled(|_| CLEAR, request))),
-    (
-        "bringing-over-clears-unfit-found",
-        OfBringingOver(|request| settled(|before| if before.legal() { before } else { CLEAR }, request)),
-    ),
-    ("bringing-over-refuses-unfit-found", OfBringingOver(bringing_over_refuses_unfit_found)),
-    ("takes-unfit-found-for-set", OfReader(takes_unfit_found_for_set)),
-    ("takes-unfit-found-for-clear", OfReader(|request| takes_found(|_, mark| !mark.legal(), CLEAR, request))),
-    ("takes-found-2", OfReader(|request| takes_found(|_, mark| mark == Mark(2), SET, request))),
-    ("takes-found-FF", OfReader(|request| takes_found(|_, mark| mark == Mark(0xFF), SET, request))),
-    ("takes-found-by-lowest-bit", OfReader(|request| takes_found(|_, mark| mark.0 & 1 == 1, SET, request))),
-    (
-        "takes-unfit-found-when-locked",
-        OfReader(|request| takes_found(|settings, mark| settings.locked() && !mark.legal(), CLEAR, request)),
-    ),
-    ("tests-found-for-search-only", OfReader(|request| tests_found_for(SEARCH, request))),
-    ("tests-found-for-status-only", OfReader(|request| tests_found_for(READ_SYS_PARA, request))),
-    ("makes-unfit-found-clear", OfReader(makes_unfit_found_clear)),
-    ("refuses-found", OfReader(|request| refuses(|reader| reader.settings.found.is_set(), request))),
-    ("refuses-found-when-locked", OfReader(refuses_found_when_locked)),
-    (
-        "refuses-found-in-a-transfer",
-        OfReader(|request| refuses(|reader| reader.settings.found.is_set() && reader.settings.transfer != 0, request)),
-    ),
-    ("refuses-found-without-filled", OfReader(refuses_found_without_filled)),
-    ("unfit-found-before-lengths", OfReader(|request| unfit_found_before(1, request))),
-    ("unfit-found-before-room", OfReader(|request| unfit_found_before(2, request))),
-    ("refuses-unfit-found-with-1", OfReader(refuses_unfit_found_with_1)),
-    ("status-without-found", OfReader(status_without_found)),
-    ("status-found-in-bit-0", OfReader(|request| status(|found, verified| [0, 4 * verified + found], request))),
-    ("status-found-in-bit-3", OfReader(|request| status(|found, verified| [0, 4 * verified + 8 * found], request))),
-    ("status-found-in-high-byte", OfReader(|request| status(|found, verified| [2 * found, 4 * verified], request))),
-    ("status-found-for-verified", OfReader(|request| status(|found, _| [0, 4 * found], request))),
-    ("status-found-hides-verified", OfReader(status_found_hides_verified)),
-    ("status-verified-hides-found", OfReader(status_verified_hides_found)),
-    ("status-bits-exchanged", OfReader(|request| status(|found, verified| [0, 2 * verified + 4 * found], request))),
-    ("status-not-found", OfReader(|request| status(|found, verified| [0, 4 * verified + 2 * (1 - found)], request))),
-    (
-        "receiver-search-00-keeps-found",
-        OfReceiver(|request, held| received(HOLDS, search_00_keeps_found, request, held)),
-    ),
-    (
-        "receiver-search-09-keeps-found",
-        OfReceiver(|request, held| received(HOLDS, search_09_keeps_found, request, held)),
-    ),
-    ("receiver-status-without-found", OfReceiver(|request, held| received(HOLDS, status_without_found, request, held))),
-    ("receiver-takes-unfit-found", OfReceiver(|request, _| takes_unfit_found_for_set(request))),
-    ("receiver-makes-unfit-found-clear", OfReceiver(|request, _| makes_unfit_found_clear(request))),
-    ("receiver-switch-keeps-found", OfReceiver(|request, _| switch_keeps_found(request))),
-    ("receiver-switch-keeps-unfit-found", OfReceiver(|request, _| switch_keeps_unfit_found(request))),
-    ("receiver-switch-refuses-unfit-found", OfReceiver(|request, _| switch_refuses_unfit_found(request))),
-    ("receiver-refused-switch-clears-found", OfReceiver(|request, _| refused_switch_clears_found(request))),
-];
-
-/// A Search that gets 00h leaves the mark as it is.
-fn search_00_keeps_found(request: &Request) -> Outcome {
-    search_leaves(0x00, request.reader.settings.found, request)
+pub fn add(rows: &mut Rows) {
+    searches(rows);
+    others(rows);
+    line_switches(rows);
+    not_calls(rows);
+    unfit_marks(rows);
+    refused_marks(rows);
+    status_words(rows);
 }
 
-/// A Search that gets 09h leaves the mark as it is.
-fn search_09_keeps_found(request: &Request) -> Outcome {
-    search_leaves(0x09, request.reader.settings.found, request)
-}
-
-/// A Search that gets 00h makes a set mark clear, and a clear one set.
-fn search_00_turns_found(request: &Request) -> Outcome {
-    search_leaves(0x00, Mark::of(!request.reader.settings.found.is_set()), request)
-}
-
-/// A Search for buffer 2 that gets 00h leaves the mark as it is.
-fn search_00_sets_found_of_buffer_1_only(request: &Request) -> Outcome {
-    let of_buffer_2 = find(&request.run).1.map_or(false, |packet| packet.content.get(1) == Some(&2));
-    let kept = if of_buffer_2 { request.reader.settings.found } else { SET };
-    search_leaves(0x00, kept, request)
-}
-
-/// A Search that finds a score of 0 leaves the mark as it is.
-fn search_00_sets_found_for_a_score_only(request: &Request) -> Outcome {
-    let score = request.carried_out().room.get(12..14).map_or(0, number);
-    let kept = if score == 0 { request.reader.settings.found } else { SET };
-    search_leaves(0x00, kept, request)
-}
-
-/// A Search that gets this code leaves the mark so.
-fn search_leaves(due: u8, found: Mark, request: &Request) -> Outcome {
-    leaves(found, request, |outcome| is_command(request, SEARCH) && code(outcome) == Some(due))
-}
-
-/// A Search of a wrong length leaves the mark so.
-fn search_of_wrong_length(found: Mark, request: &Request) -> Outcome {
-    let wrong = find(&request.run).1.map_or(false, |packet| packet.sum_right && packet.content.len() != 6);
-    leaves(found, request, |outcome| wrong && is_command(request, SEARCH) && code(outcome) == Some(0x01))
-}
-
-/// A Search with a wrong sum leaves the mark so.
-fn search_of_wrong_sum(found: Mark, request: &Request) -> Outcome {
-    let wrong = find(&request.run).1.map_or(false, |packet| !packet.sum_right);
-    leaves(found, request, |outcome| wrong && is_command(request, SEARCH) && code(outcome) == Some(0x01))
-}
-
-/// A command with this code that gets 00h leaves the mark so.
-fn fine_leaves(command: u8, found: Mark, request: &Request) -> Outcome {
-    leaves(found, request, |outcome| fine(command, request, outcome))
-}
-
-/// What gets this acknowledge code leaves the mark so, a Search apart.
-fn coded(due: u8, found: Mark, request: &Request) -> Outcome {
-    leaves(found, request, |outcome| code(outcome) == Some(due) && !is_command(request, SEARCH))
-}
-
-/// A packet that is dealt with silently clears the mark.
-fn silence_clears_found(request: &Request) -> Outcome {
-    let whole = find(&request.run).1.is_some();
-    leaves(CLEAR, request, |outcome| whole && carried_out(request, outcome) && code(outcome).is_none())
-}
-
-/// The data packet that completes a transfer sets the mark.
-fn last_data_sets_found(request: &Request) -> Outcome {
-    let open = request.reader.settings.transfer != 0;
-    let completed = |outcome: &Outcome| outcome.reader.settings.transfer == 0 && outcome.answer.length == 0;
-    leaves(SET, request, |outcome| open && carried_out(request, outcome) && completed(outcome))
-}
-
-/// A HandShake that ends an open transfer clears the mark.
-fn ended_transfer_clears_found(request: &Request) -> Outcome {
-    let open = request.reader.settings.transfer != 0;
-    leaves(CLEAR, request, |outcome| open && fine(HAND_SHAKE, request, outcome))
-}
-
-/// A call that is refused clears the mark.
-fn refused_call_clears_found(request: &Request) -> Outcome {
-    leaves(CLEAR, request, |outcome| request.kind.is_call() && outcome.answer.refusal != 0)
-}
-
-/// A line switch that is refused clears the mark.
-fn refused_switch_clears_found(request: &Request) -> Outcome {
-    leaves(CLEAR, request, |outcome| request.kind.is_line_switch() && outcome.answer.refusal != 0)
-}
-
-/// Such an outcome has this mark.
-fn leaves(found: Mark, request: &Request, such: impl Fn(&Outcome) -> bool) -> Outcome {
-    let mut outcome = request.carried_out();
-    if such(&outcome) {
-        outcome.reader.settings.found = found;
+/// What a Search leaves of the mark.
+fn searches(rows: &mut Rows) {
+    rows.both("search-00-keeps-found", leaves(gets(SEARCH, 0x00), keep_found));
+    rows.reader("search-00-clears-found", leaves(gets(SEARCH, 0x00), found(CLEAR)));
+    rows.reader("search-00-turns-found", leaves(gets(SEARCH, 0x00), |now, old| {
+        now.settings.found = Mark::of(!old.settings.found.is_set());
+    }));
+    rows.reader("search-00-sets-found-2", leaves(gets(SEARCH, 0x00), found(Mark(2))));
+    rows.reader(
+        "search-00-sets-found-of-buffer-1-only",
+        leaves(|good| good.fine(SEARCH) && good.content()[1] == 2, keep_found),
+    );
+    rows.reader(
+        "search-00-sets-found-for-a-score-only",
+        leaves(|good| good.fine(SEARCH) && good.told()[3..] == [0, 0], keep_found),
+    );
+    rows.both("search-09-keeps-found", leaves(gets(SEARCH, 0x09), keep_found));
+    rows.reader("search-09-sets-found", leaves(gets(SEARCH, 0x09), found(SET)));
+    for (does, mark) in [("clears", CLEAR), ("sets", SET)] {
+        for code in [0x01, 0x0B, 0x0C, 0x21] {
+            rows.reader(format!("search-{code:02X}-{does}-found"), leaves(gets(SEARCH, code), found(mark)));
+        }
+        let long = |good: &Good| good.gets(SEARCH, 0x01) && !good.sum_wrong() && good.content().len() != 6;
+        rows.reader(format!("search-of-wrong-length-{does}-found"), leaves(long, found(mark)));
+        let damaged = |good: &Good| good.gets(SEARCH, 0x01) && good.sum_wrong();
+        rows.reader(format!("search-of-wrong-sum-{does}-found"), leaves(damaged, found(mark)));
     }
-    outcome
 }
 
-/// The line switch leaves the mark as it is.
-fn switch_keeps_found(request: &Request) -> Outcome {
-    switched(|before| before, request)
-}
-
-/// The line switch leaves a mark that is not legal as it is.
-fn switch_keeps_unfit_found(request: &Request) -> Outcome {
-    switched(|before| if before.legal() { CLEAR } else { before }, request)
-}
-
-/// A line switch makes this of the mark.
-fn switched(after: fn(Mark) -> Mark, request: &Request) -> Outcome {
-    let found = after(request.reader.settings.found);
-    leaves(found, request, |outcome| request.kind.is_line_switch() && outcome.answer.refusal == 0)
-}
-
-/// The line switch gives refusal 3 to a mark that is not legal.
-fn switch_refuses_unfit_found(request: &Request) -> Outcome {
-    let outcome = request.carried_out();
-    if request.kind.is_line_switch() && outcome.answer.refusal == 0 && !request.reader.settings.found.legal() {
-        return refused_with(3, request);
+/// What else leaves another mark: every other command with 00h, every other code, and what gets no reply.
+fn others(rows: &mut Rows) {
+    for (name, command) in NAMED.into_iter().filter(|(_, command)| *command != SEARCH) {
+        rows.reader(format!("{name}-clears-found"), leaves(fine(command), found(CLEAR)));
+        rows.reader(format!("{name}-sets-found"), leaves(fine(command), found(SET)));
     }
-    outcome
-}
-
-/// This becomes of the mark, by what it was.
-fn settled(after: fn(Mark) -> Mark, request: &Request) -> Outcome {
-    leaves(after(request.reader.settings.found), request, |outcome| outcome.answer.refusal == 0)
-}
-
-/// Bringing over gives refusal 3 to a mark that is not legal.
-fn bringing_over_refuses_unfit_found(request: &Request) -> Outcome {
-    let outcome = request.carried_out();
-    if outcome.answer.refusal == 0 && !request.reader.settings.found.legal() {
-        return refused_with(3, request);
+    for code in CODES.into_iter().filter(|code| ![0x00, 0x09].contains(code)) {
+        let such = move |good: &Good| good.code() == Some(code) && !good.asks(SEARCH);
+        rows.reader(format!("{code:02X}-clears-found"), leaves(such, found(CLEAR)));
     }
-    outcome
+    let dealt_with = |good: &Good| good.called() && good.packet().is_some() && !replied(good);
+    rows.reader("silence-clears-found", leaves(dealt_with, found(CLEAR)));
+    let completes = |good: &Good| good.in_transfer() && good.outcome.reader.settings.transfer == 0 && !replied(good);
+    rows.reader("last-data-sets-found", leaves(move |good| good.called() && completes(good), found(SET)));
+    let ends = |good: &Good| good.in_transfer() && good.fine(HAND_SHAKE);
+    rows.reader("ended-transfer-clears-found", leaves(ends, found(CLEAR)));
+    rows.reader("refused-call-clears-found", leaves(call_refused, found(CLEAR)));
 }
 
-/// A mark that is not legal is taken for set.
-fn takes_unfit_found_for_set(request: &Request) -> Outcome {
-    takes_found(|_, mark| !mark.legal(), SET, request)
+fn line_switches(rows: &mut Rows) {
+    rows.both("switch-keeps-found", leaves(switched, keep_found));
+    rows.reader("switch-sets-found", leaves(switched, found(SET)));
+    rows.both("switch-keeps-unfit-found", leaves(|good| good.switched() && is_unfit(good), keep_found));
+    rows.both("switch-refuses-unfit-found", refuses(3, |good| good.switched() && is_unfit(good)));
+    rows.both("refused-switch-clears-found", leaves(switch_refused, found(CLEAR)));
+}
+
+/// Fresh settings, and an index brought over.
+fn not_calls(rows: &mut Rows) {
+    rows.fresh("fresh-keeps-found", leaves(done, keep_found));
+    rows.fresh("fresh-sets-found", leaves(done, found(SET)));
+    rows.fresh("fresh-keeps-unfit-found", leaves(is_unfit, keep_found));
+    rows.bringing_over("bringing-over-clears-found", leaves(done, found(CLEAR)));
+    rows.bringing_over("bringing-over-clears-unfit-found", leaves(|good| done(good) && is_unfit(good), found(CLEAR)));
+    rows.bringing_over("bringing-over-refuses-unfit-found", refuses(3, |good| done(good) && is_unfit(good)));
+}
+
+/// Marks that are taken though they are not legal.
+fn unfit_marks(rows: &mut Rows) {
+    rows.reader("takes-unfit-found-for-set", takes_found(|_, mark| !mark.legal(), SET));
+    rows.receiver("receiver-takes-unfit-found", inside(takes_found(|_, mark| !mark.legal(), SET)));
+    rows.reader("takes-unfit-found-for-clear", takes_found(|_, mark| !mark.legal(), CLEAR));
+    rows.reader("takes-found-2", takes_found(|_, mark| mark == Mark(2), SET));
+    rows.reader("takes-found-FF", takes_found(|_, mark| mark == Mark(0xFF), SET));
+    rows.reader("takes-found-by-lowest-bit", takes_found(|_, mark| mark.0 & 1 == 1, SET));
+    rows.reader("takes-unfit-found-when-locked", takes_found(|old, mark| old.locked() && !mark.legal(), CLEAR));
+    rows.reader("tests-found-for-search-only", tests_found_for(SEARCH));
+    rows.reader("tests-found-for-status-only", tests_found_for(READ_SYS_PARA));
+    rows.both("makes-unfit-found-clear", makes_unfit_found_clear);
+}
+
+/// Legal marks that are refused, and the order of refusals.
+fn refused_marks(rows: &mut Rows) {
+    rows.reader("refuses-found", refuses_found(|_| true));
+    rows.reader("refuses-found-when-locked", refuses_found(|old| old.locked()));
+    rows.reader("refuses-found-in-a-transfer", refuses_found(|old| old.transfer != 0));
+    rows.reader("refuses-found-without-filled", refuses_found(|old| old.filled == [CLEAR; 2]));
+    rows.reader("unfit-found-before-lengths", refuses(3, |good| refused_call(1, good) && is_unfit(good)));
+    rows.reader("unfit-found-before-room", refuses(3, |good| refused_call(2, good) && is_unfit(good)));
+    rows.reader("refuses-unfit-found-with-1", refuses(1, |good| refused_call(3, good) && is_unfit(good)));
+}
+
+/// The status word, made of the found mark, which counts as 0 while locked, and the verified mark.
+fn status_words(rows: &mut Rows) {
+    rows.both("status-without-found", status(|_, verified| [0, 4 * verified]));
+    rows.reader("status-found-in-bit-0", status(|found, verified| [0, 4 * verified + found]));
+    rows.reader("status-found-in-bit-3", status(|found, verified| [0, 4 * verified + 8 * found]));
+    rows.reader("status-found-in-high-byte", status(|found, verified| [2 * found, 4 * verified]));
+    rows.reader("status-found-for-verified", status(|found, _| [0, 4 * found]));
+    rows.reader("status-found-hides-verified", status(|found, verified| [0, 4 * verified * (1 - found) + 2 * found]));
+    rows.reader("status-verified-hides-found", status(|found, verified| [0, 4 * verified + 2 * found * (1 - verified)]));
+    rows.reader("status-bits-exchanged", status(|found, verified| [0, 2 * verified + 4 * found]));
+    rows.reader("status-not-found", status(|found, verified| [0, 4 * verified + 2 * (1 - found)]));
+}
+
+fn keep_found(now: &mut Reader, old: &Reader) {
+    now.settings.found = old.settings.found;
+}
+
+/// The mark becomes this one.
+pub fn found(mark: Mark) -> impl Fn(&mut Reader, &Reader) {
+    move |now: &mut Reader, _: &Reader| now.settings.found = mark
+}
+
+/// A mark that is not legal.
+fn is_unfit(good: &Good) -> bool {
+    !good.old().settings.found.legal()
 }
 
 /// A call takes such a mark for another; it stays as it is unless the call changes it.
-fn takes_found(such: fn(&Settings, Mark) -> bool, taken: Mark, request: &Request) -> Outcome {
-    let before = &request.reader.settings;
-    if !request.kind.is_call() || !such(before, before.found) {
-        return request.carried_out();
-    }
-    let mut asked = request.clone();
-    asked.reader.settings.found = taken;
-    let mut outcome = asked.carried_out();
-    if !is_command(request, SEARCH) || !matches!(code(&outcome), Some(0x00 | 0x09)) {
-        outcome.reader.settings.found = before.found;
-    }
-    outcome
+fn takes_found(such: fn(&Settings, Mark) -> bool, taken_for: Mark) -> impl Makes {
+    let takes = move |request: &Request| {
+        let mut asked = request.clone();
+        asked.reader.settings.found = taken_for;
+        let mut good = Good::of(&asked);
+        if !good.fine(SEARCH) && !good.gets(SEARCH, 0x09) {
+            good.outcome.reader.settings.found = request.reader.settings.found;
+        }
+        good.outcome
+    };
+    let such = move |old: &Settings| such(old, old.found);
+    only(move |request| request.kind.is_call() && such(&request.reader.settings), takes)
 }
 
 /// A mark that is not legal is refused only with this command.
-fn tests_found_for(command: u8, request: &Request) -> Outcome {
-    if is_command(request, command) {
-        return request.carried_out();
-    }
-    takes_unfit_found_for_set(request)
+fn tests_found_for(command: u8) -> impl Makes {
+    only(move |request| !Good::of(request).asks(command), takes_found(|_, mark| !mark.legal(), SET))
 }
 
 /// A call clears a mark that is not legal, where that is all that it would be refused for.
@@ -318,64 +169,17 @@ fn makes_unfit_found_clear(request: &Request) -> Outcome {
     outcome
 }
 
-/// A set mark of a locked reader gets refusal 3.
-fn refuses_found_when_locked(request: &Request) -> Outcome {
-    refuses(|reader| reader.settings.found.is_set() && reader.settings.locked(), request)
+/// A set mark gets refusal 3 with such settings.
+fn refuses_found(such: fn(&Settings) -> bool) -> impl Makes {
+    refuses_legal(move |old| old.settings.found.is_set() && such(&old.settings))
 }
 
-/// A set mark gets refusal 3 where no buffer is filled.
-fn refuses_found_without_filled(request: &Request) -> Outcome {
-    refuses(|reader| reader.settings.found.is_set() && reader.settings.filled == [CLEAR; 2], request)
+fn status(word: fn(u8, u8) -> [u8; 2]) -> impl Makes {
+    let found = |old: &Settings| if old.locked() { CLEAR } else { old.found };
+    tells_status(move |old| word(found(old).0, old.verified.0))
 }
 
-/// Refusal 3 for the mark comes before this one.
-fn unfit_found_before(refusal: u8, request: &Request) -> Outcome {
-    let outcome = request.carried_out();
-    let unfit = request.kind.is_call() && !request.reader.settings.found.legal();
-    if unfit && outcome.answer.refusal == refusal {
-        return refused_with(3, request);
-    }
-    outcome
-}
-
-/// A mark that is not legal gets refusal 1.
-fn refuses_unfit_found_with_1(request: &Request) -> Outcome {
-    let outcome = request.carried_out();
-    let unfit = request.kind.is_call() && !request.reader.settings.found.legal();
-    if unfit && outcome.answer.refusal == 3 {
-        return refused_with(1, request);
-    }
-    outcome
-}
-
-/// Status bit 1 is always 0.
-fn status_without_found(request: &Request) -> Outcome {
-    status(|_, verified| [0, 4 * verified], request)
-}
-
-/// The bit of the verified mark is 0 while the found mark is set.
-fn status_found_hides_verified(request: &Request) -> Outcome {
-    status(|found, verified| [0, 4 * verified * (1 - found) + 2 * found], request)
-}
-
-/// The bit of the found mark is 0 while the verified mark is set.
-fn status_verified_hides_found(request: &Request) -> Outcome {
-    status(|found, verified| [0, 4 * verified + 2 * found * (1 - verified)], request)
-}
-
-/// ReadSysPara tells this status word, made of the found mark, which counts as 0 while locked, and the verified mark.
-fn status(word: fn(u8, u8) -> [u8; 2], request: &Request) -> Outcome {
-    let found = |settings: &Settings| if settings.locked() { CLEAR } else { settings.found };
-    tells_status(|settings| word(found(settings).0, settings.verified.0), request)
-}
-
-/// ReadSysPara tells this status word, made of the settings.
-pub fn tells_status(word: impl Fn(&Settings) -> [u8; 2], request: &Request) -> Outcome {
-    let outcome = request.carried_out();
-    if !fine(READ_SYS_PARA, request, &outcome) {
-        return outcome;
-    }
-    let mut content = outcome.room[9..outcome.answer.length - 2].to_vec();
-    content[1..3].copy_from_slice(&word(&request.reader.settings));
-    reply_instead(request, outcome, &content)
+/// ReadSysPara tells this status word, made of the settings before.
+pub fn tells_status(word: impl Fn(&Settings) -> [u8; 2] + 'static) -> impl Makes {
+    retells(fine(READ_SYS_PARA), move |content, old| content[1..3].copy_from_slice(&word(&old.settings)))
 }

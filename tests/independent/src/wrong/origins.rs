@@ -1,363 +1,177 @@
-//! Readers and receivers with one deliberate error each in the origins of document 02's request [7], refusal 3 and what
-//! DeletChar and Empty wipe apart.
+//! Errors in the origins of document 02's request [7], refusal 3 and what DeletChar and Empty wipe apart.
 
-use crate::compare::frame::{Outcome, Request};
+use super::refusals::has_unfit_origin;
+use super::words::*;
+use super::Rows;
 use crate::reader::*;
-use crate::reader::receiver::HOLDS;
-use crate::wrong::Error::{self, OfBringingOver, OfFresh, OfReader, OfReceiver};
-use crate::wrong::{code, is_command, received, refused_with};
-use crate::wrong::refusals::has_origin;
-use crate::wrong::thousand::fine;
 
-pub const ERRORS: [(&str, Error); 67] = [
-    ("load-char-leaves-origin", OfReader(load_char_leaves_origin)),
-    (
-        "load-char-clears-origin",
-        OfReader(|request| fine_named(LOAD_CHAR, |origins, buffer, _| origins[buffer] = NONE, request)),
-    ),
-    ("load-char-sets-other-origin", OfReader(|request| sets_other_origin(LOAD_CHAR, request))),
-    (
-        "load-char-sets-both-origins",
-        OfReader(|request| fine_named(LOAD_CHAR, |origins, _, page| *origins = [page; 2], request)),
-    ),
-    (
-        "load-char-clears-other-origin",
-        OfReader(|request| fine_named(LOAD_CHAR, |origins, buffer, _| origins[1 - buffer] = NONE, request)),
-    ),
-    ("load-char-keeps-first-origin", OfReader(|request| keeps_first_origin(LOAD_CHAR, request))),
-    ("load-char-sets-origin-in-8-bits", OfReader(|request| sets_origin_in_8_bits(LOAD_CHAR, request))),
-    ("load-char-sets-origin-of-buffer-1-only", OfReader(|request| sets_origin_of_buffer_1_only(LOAD_CHAR, request))),
-    (
-        "vacant-load-char-sets-origin",
-        OfReader(|request| named(LOAD_CHAR, 0x0C, |origins, buffer, page| origins[buffer] = page, request)),
-    ),
-    (
-        "vacant-load-char-clears-origin",
-        OfReader(|request| named(LOAD_CHAR, 0x0C, |origins, buffer, _| origins[buffer] = NONE, request)),
-    ),
-    (
-        "far-load-char-clears-origin",
-        OfReader(|request| named(LOAD_CHAR, 0x0B, |origins, buffer, _| origins[buffer] = NONE, request)),
-    ),
-    (
-        "locked-load-char-sets-origin",
-        OfReader(|request| named(LOAD_CHAR, 0x21, |origins, buffer, page| origins[buffer] = page, request)),
-    ),
-    ("store-leaves-origin", OfReader(store_leaves_origin)),
-    (
-        "store-clears-origin",
-        OfReader(|request| fine_named(STORE, |origins, buffer, _| origins[buffer] = NONE, request)),
-    ),
-    ("store-sets-other-origin", OfReader(|request| sets_other_origin(STORE, request))),
-    (
-        "store-sets-both-origins",
-        OfReader(|request| fine_named(STORE, |origins, _, page| *origins = [page; 2], request)),
-    ),
-    (
-        "store-clears-other-origin",
-        OfReader(|request| fine_named(STORE, |origins, buffer, _| origins[1 - buffer] = NONE, request)),
-    ),
-    ("store-keeps-first-origin", OfReader(|request| keeps_first_origin(STORE, request))),
-    ("store-sets-origin-in-8-bits", OfReader(|request| sets_origin_in_8_bits(STORE, request))),
-    ("store-sets-origin-of-buffer-1-only", OfReader(|request| sets_origin_of_buffer_1_only(STORE, request))),
-    (
-        "stored-store-sets-origin",
-        OfReader(|request| named(STORE, 0x22, |origins, buffer, page| origins[buffer] = page, request)),
-    ),
-    (
-        "stored-store-clears-origin",
-        OfReader(|request| named(STORE, 0x22, |origins, buffer, _| origins[buffer] = NONE, request)),
-    ),
-    (
-        "not-filled-store-sets-origin",
-        OfReader(|request| named(STORE, 0x0C, |origins, buffer, page| origins[buffer] = page, request)),
-    ),
-    (
-        "not-filled-store-clears-other-origin",
-        OfReader(|request| named(STORE, 0x0C, |origins, buffer, _| origins[1 - buffer] = NONE, request)),
-    ),
-    (
-        "far-store-clears-origin",
-        OfReader(|request| named(STORE, 0x0B, |origins, buffer, _| origins[buffer] = NONE, request)),
-    ),
-    (
-        "far-store-sets-origin",
-        OfReader(|request| named(STORE, 0x0B, |origins, buffer, page| origins[buffer] = page, request)),
-    ),
-    (
-        "locked-store-sets-origin",
-        OfReader(|request| named(STORE, 0x21, |origins, buffer, page| origins[buffer] = page, request)),
-    ),
-    ("down-char-keeps-origin", OfReader(down_char_keeps_origin)),
-    (
-        "down-char-clears-both-origins",
-        OfReader(|request| fine_command(DOWN_CHAR, |_, origins| *origins = [NONE; 2], request)),
-    ),
-    ("up-char-clears-origins", OfReader(|request| fine_command(UP_CHAR, |_, origins| *origins = [NONE; 2], request))),
-    ("set-pwd-clears-origins", OfReader(|request| fine_command(SET_PWD, |_, origins| *origins = [NONE; 2], request))),
-    ("vfy-pwd-clears-origins", OfReader(|request| fine_command(VFY_PWD, |_, origins| *origins = [NONE; 2], request))),
-    (
-        "set-adder-clears-origins",
-        OfReader(|request| fine_command(SET_ADDER, |_, origins| *origins = [NONE; 2], request)),
-    ),
-    (
-        "wrong-password-clears-origins",
-        OfReader(|request| coded(0x13, |settings| settings.origins = [NONE; 2], request)),
-    ),
-    ("locked-clears-origins", OfReader(|request| coded(0x21, |settings| settings.origins = [NONE; 2], request))),
-    (
-        "failed-transfer-clears-other-origin",
-        OfReader(|request| coded(0x0E, |settings| settings.origins = [NONE; 2], request)),
-    ),
-    (
-        "failed-transfer-gives-origin-0",
-        OfReader(|request| coded(0x0E, |settings| give_origin_0(request, settings), request)),
-    ),
-    ("ended-transfer-clears-other-origin", OfReader(|request| ended(|settings| settings.origins = [NONE; 2], request))),
-    ("ended-transfer-gives-origin-0", OfReader(|request| ended(|settings| give_origin_0(request, settings), request))),
-    ("data-gives-origin-0", OfReader(|request| took_data(DATA, |settings| give_origin_0(request, settings), request))),
-    ("data-clears-other-origin", OfReader(|request| took_data(DATA, |settings| settings.origins = [NONE; 2], request))),
-    (
-        "last-data-gives-origin-0",
-        OfReader(|request| took_data(LAST_DATA, |settings| give_origin_0(request, settings), request)),
-    ),
-    (
-        "last-data-clears-other-origin",
-        OfReader(|request| took_data(LAST_DATA, |settings| settings.origins = [NONE; 2], request)),
-    ),
-    ("switch-keeps-origins", OfReader(switch_keeps_origins)),
-    ("switch-keeps-origin-1", OfReader(|request| switched(|_, after, before| after[0] = before[0], request))),
-    ("switch-keeps-origin-2", OfReader(|request| switched(|_, after, before| after[1] = before[1], request))),
-    ("switch-keeps-unfit-origins", OfReader(switch_keeps_unfit_origins)),
-    ("switch-keeps-origins-of-not-filled", OfReader(switch_keeps_origins_of_not_filled)),
-    ("switch-gives-origin-0", OfReader(|request| switched(|_, after, _| *after = [Origin(0); 2], request))),
-    ("switch-refuses-unfit-origins", OfReader(switch_refuses_unfit_origins)),
-    ("switch-refuses-any-origin", OfReader(|request| switch_refuses(|_, page| page.is_some(), request))),
-    ("refused-switch-clears-origins", OfReader(refused_switch_clears_origins)),
-    ("fresh-origins-0", OfFresh(|request| settled(|after, _| *after = [Origin(0); 2], request))),
-    ("fresh-keeps-origins", OfFresh(|request| settled(|after, before| *after = before, request))),
-    ("fresh-keeps-origin-1", OfFresh(|request| settled(|after, before| after[0] = before[0], request))),
-    ("fresh-keeps-origin-2", OfFresh(|request| settled(|after, before| after[1] = before[1], request))),
-    ("fresh-origins-FFFE", OfFresh(|request| settled(|after, _| *after = [Origin(0xFFFE); 2], request))),
-    ("bringing-over-clears-origins", OfBringingOver(|request| settled(|after, _| *after = [NONE; 2], request))),
-    ("bringing-over-clears-vacant-origins", OfBringingOver(bringing_over_clears_vacant_origins)),
-    ("bringing-over-refuses-unfit-origins", OfBringingOver(bringing_over_refuses_unfit_origins)),
-    (
-        "receiver-load-char-leaves-origin",
-        OfReceiver(|request, held| received(HOLDS, load_char_leaves_origin, request, held)),
-    ),
-    ("receiver-store-leaves-origin", OfReceiver(|request, held| received(HOLDS, store_leaves_origin, request, held))),
-    (
-        "receiver-down-char-keeps-origin",
-        OfReceiver(|request, held| received(HOLDS, down_char_keeps_origin, request, held)),
-    ),
-    ("receiver-switch-keeps-origins", OfReceiver(|request, _| switch_keeps_origins(request))),
-    ("receiver-switch-keeps-unfit-origins", OfReceiver(|request, _| switch_keeps_unfit_origins(request))),
-    ("receiver-switch-refuses-unfit-origins", OfReceiver(|request, _| switch_refuses_unfit_origins(request))),
-    ("receiver-refused-switch-clears-origins", OfReceiver(|request, _| refused_switch_clears_origins(request))),
-];
-
-/// LoadChar leaves the origin as it is.
-fn load_char_leaves_origin(request: &Request) -> Outcome {
-    leaves_origin(LOAD_CHAR, request)
-}
-
-/// Store leaves the origin as it is.
-fn store_leaves_origin(request: &Request) -> Outcome {
-    leaves_origin(STORE, request)
-}
-
-fn leaves_origin(command: u8, request: &Request) -> Outcome {
-    fine_named(command, |origins, buffer, _| origins[buffer] = request.reader.settings.origins[buffer], request)
-}
-
-/// The page becomes the other buffer's origin, and this one's stays.
-fn sets_other_origin(command: u8, request: &Request) -> Outcome {
-    let sets = |origins: &mut [Origin; 2], buffer: usize, page: Origin| {
-        origins[buffer] = request.reader.settings.origins[buffer];
-        origins[1 - buffer] = page;
-    };
-    fine_named(command, sets, request)
-}
-
-/// An origin that is there is not replaced.
-fn keeps_first_origin(command: u8, request: &Request) -> Outcome {
-    let keeps = |origins: &mut [Origin; 2], buffer: usize, _| {
-        let before = request.reader.settings.origins[buffer];
-        if before != NONE {
-            origins[buffer] = before;
-        }
-    };
-    fine_named(command, keeps, request)
-}
-
-/// The origin is the page modulo 256.
-fn sets_origin_in_8_bits(command: u8, request: &Request) -> Outcome {
-    fine_named(command, |origins, buffer, page| origins[buffer] = Origin(page.0 % 256), request)
-}
-
-/// Buffer 2 gets no origin.
-fn sets_origin_of_buffer_1_only(command: u8, request: &Request) -> Outcome {
-    fine_named(command, |origins, _, _| origins[1] = request.reader.settings.origins[1], request)
-}
-
-/// A Store or a LoadChar that gets 00h has this effect on the origins, with its buffer and its page.
-fn fine_named(command: u8, effect: impl Fn(&mut [Origin; 2], usize, Origin), request: &Request) -> Outcome {
-    named(command, 0x00, effect, request)
-}
-
-/// A Store or a LoadChar that gets this code has this effect on the origins, with its buffer and its page.
-fn named(command: u8, due: u8, effect: impl Fn(&mut [Origin; 2], usize, Origin), request: &Request) -> Outcome {
-    let mut outcome = request.carried_out();
-    let such = is_command(request, command) && code(&outcome) == Some(due);
-    match find(&request.run).1.map(|packet| packet.content) {
-        Some(&[_, buffer @ (1 | 2), high, low]) if such => {
-            let page = Origin(u16::from_be_bytes([high, low]));
-            effect(&mut outcome.reader.settings.origins, usize::from(buffer) - 1, page);
-        }
-        _ => {}
+pub fn add(rows: &mut Rows) {
+    for (name, command) in [("load-char", LOAD_CHAR), ("store", STORE)] {
+        origins_named(rows, name, command);
     }
-    outcome
+    codes_but_00(rows);
+    other_commands(rows);
+    transfers(rows);
+    line_switches(rows);
+    not_calls(rows);
 }
 
-/// DownChar leaves the origin of its buffer.
-fn down_char_keeps_origin(request: &Request) -> Outcome {
-    fine_command(DOWN_CHAR, |before, after| *after = before, request)
+/// What a LoadChar or a Store that gets 00h makes of the origins.
+fn origins_named(rows: &mut Rows, name: &str, command: u8) {
+    rows.both(format!("{name}-leaves-origin"), sets(command, 0x00, |now, old, buffer, _| now[buffer] = old[buffer]));
+    rows.reader(format!("{name}-clears-origin"), sets(command, 0x00, |now, _, buffer, _| now[buffer] = NONE));
+    rows.reader(
+        format!("{name}-sets-other-origin"),
+        sets(command, 0x00, |now, old, buffer, page| {
+            now[buffer] = old[buffer];
+            now[1 - buffer] = page;
+        }),
+    );
+    rows.reader(format!("{name}-sets-both-origins"), sets(command, 0x00, |now, _, _, page| *now = [page; 2]));
+    rows.reader(format!("{name}-clears-other-origin"), sets(command, 0x00, |now, _, buffer, _| now[1 - buffer] = NONE));
+    rows.reader(
+        format!("{name}-keeps-first-origin"),
+        sets(command, 0x00, |now, old, buffer, _| {
+            if old[buffer] != NONE {
+                now[buffer] = old[buffer];
+            }
+        }),
+    );
+    rows.reader(
+        format!("{name}-sets-origin-in-8-bits"),
+        sets(command, 0x00, |now, _, buffer, page| now[buffer] = Origin(page.0 % 256)),
+    );
+    rows.reader(format!("{name}-sets-origin-of-buffer-1-only"), sets(command, 0x00, |now, old, _, _| now[1] = old[1]));
 }
 
-/// A command with this code that gets 00h has this effect on the origins, which were those before.
-fn fine_command(command: u8, effect: fn([Origin; 2], &mut [Origin; 2]), request: &Request) -> Outcome {
-    let mut outcome = request.carried_out();
-    if fine(command, request, &outcome) {
-        effect(request.reader.settings.origins, &mut outcome.reader.settings.origins);
+/// What a LoadChar or a Store that gets another code makes of the origins.
+fn codes_but_00(rows: &mut Rows) {
+    let sets_its: Effect = |now, _, buffer, page| now[buffer] = page;
+    let clears_its: Effect = |now, _, buffer, _| now[buffer] = NONE;
+    let clears_other: Effect = |now, _, buffer, _| now[1 - buffer] = NONE;
+    rows.reader("vacant-load-char-sets-origin", sets(LOAD_CHAR, 0x0C, sets_its));
+    rows.reader("vacant-load-char-clears-origin", sets(LOAD_CHAR, 0x0C, clears_its));
+    rows.reader("far-load-char-clears-origin", sets(LOAD_CHAR, 0x0B, clears_its));
+    rows.reader("locked-load-char-sets-origin", sets(LOAD_CHAR, 0x21, sets_its));
+    rows.reader("stored-store-sets-origin", sets(STORE, 0x22, sets_its));
+    rows.reader("stored-store-clears-origin", sets(STORE, 0x22, clears_its));
+    rows.reader("not-filled-store-sets-origin", sets(STORE, 0x0C, sets_its));
+    rows.reader("not-filled-store-clears-other-origin", sets(STORE, 0x0C, clears_other));
+    rows.reader("far-store-clears-origin", sets(STORE, 0x0B, clears_its));
+    rows.reader("far-store-sets-origin", sets(STORE, 0x0B, sets_its));
+    rows.reader("locked-store-sets-origin", sets(STORE, 0x21, sets_its));
+}
+
+fn other_commands(rows: &mut Rows) {
+    rows.both("down-char-keeps-origin", leaves(fine(DOWN_CHAR), keep_origins));
+    rows.reader("down-char-clears-both-origins", leaves(fine(DOWN_CHAR), clear_origins));
+    rows.reader("up-char-clears-origins", leaves(fine(UP_CHAR), clear_origins));
+    rows.reader("set-pwd-clears-origins", leaves(fine(SET_PWD), clear_origins));
+    rows.reader("vfy-pwd-clears-origins", leaves(fine(VFY_PWD), clear_origins));
+    rows.reader("set-adder-clears-origins", leaves(fine(SET_ADDER), clear_origins));
+    rows.reader("wrong-password-clears-origins", leaves(coded(0x13), clear_origins));
+    rows.reader("locked-clears-origins", leaves(coded(0x21), clear_origins));
+}
+
+fn transfers(rows: &mut Rows) {
+    rows.reader("failed-transfer-clears-other-origin", leaves(coded(0x0E), clear_origins));
+    rows.reader("failed-transfer-gives-origin-0", leaves(coded(0x0E), give_origin_0));
+    rows.reader("ended-transfer-clears-other-origin", leaves(ends_transfer, clear_origins));
+    rows.reader("ended-transfer-gives-origin-0", leaves(ends_transfer, give_origin_0));
+    rows.reader("data-clears-other-origin", leaves(|good| takes_data(DATA, good), clear_origins));
+    rows.reader("data-gives-origin-0", leaves(|good| takes_data(DATA, good), give_origin_0));
+    rows.reader("last-data-clears-other-origin", leaves(|good| takes_data(LAST_DATA, good), clear_origins));
+    rows.reader("last-data-gives-origin-0", leaves(|good| takes_data(LAST_DATA, good), give_origin_0));
+}
+
+fn line_switches(rows: &mut Rows) {
+    rows.both("switch-keeps-origins", leaves(switched, keep_origins));
+    rows.reader("switch-keeps-origin-1", leaves(switched, |now, old| keep_origins_if(now, old, |buffer| buffer == 0)));
+    rows.reader("switch-keeps-origin-2", leaves(switched, |now, old| keep_origins_if(now, old, |buffer| buffer == 1)));
+    rows.both(
+        "switch-keeps-unfit-origins",
+        leaves(switched, |now, old| {
+            keep_origins_if(now, old, |buffer| old.settings.origins[buffer].page() >= Some(old.capacity()))
+        }),
+    );
+    rows.reader(
+        "switch-keeps-origins-of-not-filled",
+        leaves(switched, |now, old| keep_origins_if(now, old, |buffer| !old.settings.filled[buffer].is_set())),
+    );
+    rows.reader("switch-gives-origin-0", leaves(switched, |now, _| now.settings.origins = [Origin(0); 2]));
+    rows.both("switch-refuses-unfit-origins", refuses(3, |good| good.switched() && has_unfit_origin(good.old())));
+    rows.reader(
+        "switch-refuses-any-origin",
+        refuses(3, |good| good.switched() && good.old().settings.origins != [NONE; 2]),
+    );
+    rows.both("refused-switch-clears-origins", leaves(switch_refused, clear_origins));
+}
+
+/// Fresh settings, and an index brought over.
+fn not_calls(rows: &mut Rows) {
+    rows.fresh("fresh-origins-0", leaves(done, |now, _| now.settings.origins = [Origin(0); 2]));
+    rows.fresh("fresh-keeps-origins", leaves(done, keep_origins));
+    rows.fresh("fresh-keeps-origin-1", leaves(done, |now, old| keep_origins_if(now, old, |buffer| buffer == 0)));
+    rows.fresh("fresh-keeps-origin-2", leaves(done, |now, old| keep_origins_if(now, old, |buffer| buffer == 1)));
+    rows.fresh("fresh-origins-FFFE", leaves(done, |now, _| now.settings.origins = [Origin(0xFFFE); 2]));
+    rows.bringing_over("bringing-over-clears-origins", leaves(done, clear_origins));
+    rows.bringing_over("bringing-over-clears-vacant-origins", leaves(done, |now, _| clear_vacant_origins(now)));
+    rows.bringing_over(
+        "bringing-over-refuses-unfit-origins",
+        refuses(3, |good| done(good) && has_unfit_origin(good.old())),
+    );
+}
+
+/// An effect on the origins as they are now, by those of old, the place of a buffer, and a page.
+type Effect = fn(&mut [Origin; 2], [Origin; 2], usize, Origin);
+
+/// A Store or a LoadChar that gets this code has this effect on the origins.
+fn sets(command: u8, code: u8, effect: Effect) -> impl Makes {
+    names(command, code, move |now, old, buffer, page| {
+        effect(&mut now.settings.origins, old.settings.origins, buffer, Origin::of(page));
+    })
+}
+
+fn keep_origins(now: &mut Reader, old: &Reader) {
+    now.settings.origins = old.settings.origins;
+}
+
+/// The origins of such buffers stay.
+fn keep_origins_if(now: &mut Reader, old: &Reader, such: impl Fn(usize) -> bool) {
+    for buffer in (0..2).filter(|&buffer| such(buffer)) {
+        now.settings.origins[buffer] = old.settings.origins[buffer];
     }
-    outcome
 }
 
-/// What gets this acknowledge code has this effect on the settings.
-fn coded(due: u8, effect: impl Fn(&mut Settings), request: &Request) -> Outcome {
-    let mut outcome = request.carried_out();
-    if code(&outcome) == Some(due) {
-        effect(&mut outcome.reader.settings);
-    }
-    outcome
-}
-
-/// A command that ends an open transfer has this effect on the settings; one that names buffers or pages apart.
-fn ended(effect: impl Fn(&mut Settings), request: &Request) -> Outcome {
-    let mut outcome = request.carried_out();
-    let plain = [HAND_SHAKE, TEMPLETE_NUM, READ_SYS_PARA].iter().any(|&command| is_command(request, command));
-    if plain && code(&outcome).is_some() && request.reader.settings.transfer != 0 {
-        effect(&mut outcome.reader.settings);
-    }
-    outcome
-}
-
-/// A data packet with this identifier that goes in has this effect on the settings.
-fn took_data(identifier: u8, effect: impl Fn(&mut Settings), request: &Request) -> Outcome {
-    let mut outcome = request.carried_out();
-    let (before, after) = (&request.reader.settings, &mut outcome.reader.settings);
-    let found = find(&request.run).1.map_or(false, |packet| packet.identifier == identifier);
-    let taken = (before.transfer, before.got) != (after.transfer, after.got) && outcome.answer.length == 0;
-    if found && taken && request.kind.is_call() {
-        effect(after);
-    }
-    outcome
+pub fn clear_origins(now: &mut Reader, _: &Reader) {
+    now.settings.origins = [NONE; 2];
 }
 
 /// Page 0 becomes the origin of the buffer that a transfer filled.
-fn give_origin_0(request: &Request, settings: &mut Settings) {
-    settings.origins[usize::from(request.reader.settings.transfer) - 1] = Origin(0);
+fn give_origin_0(now: &mut Reader, old: &Reader) {
+    now.settings.origins[usize::from(old.settings.transfer) - 1] = Origin(0);
 }
 
-/// The line switch leaves both origins.
-fn switch_keeps_origins(request: &Request) -> Outcome {
-    switched(|_, after, before| *after = before, request)
+/// A command that ends an open transfer, one that names buffers or pages apart.
+fn ends_transfer(good: &Good) -> bool {
+    let plain = [HAND_SHAKE, TEMPLETE_NUM, READ_SYS_PARA].iter().any(|&command| good.asks(command));
+    plain && replied(good) && good.in_transfer()
 }
 
-/// The line switch leaves an origin at or above C.
-fn switch_keeps_unfit_origins(request: &Request) -> Outcome {
-    let keeps = |reader: &Reader, after: &mut [Origin; 2], before: [Origin; 2]| {
-        for buffer in 0..2 {
-            if before[buffer].page() >= Some(reader.capacity()) {
-                after[buffer] = before[buffer];
-            }
-        }
-    };
-    switched(keeps, request)
+/// A data packet with this identifier that goes in.
+fn takes_data(identifier: u8, good: &Good) -> bool {
+    let stand = |reader: &Reader| (reader.settings.transfer, reader.settings.got);
+    let found = good.packet().map_or(false, |packet| packet.identifier == identifier);
+    found && !replied(good) && stand(good.old()) != stand(&good.outcome.reader)
 }
 
-/// The line switch leaves the origin of a buffer that is not filled.
-fn switch_keeps_origins_of_not_filled(request: &Request) -> Outcome {
-    let keeps = |reader: &Reader, after: &mut [Origin; 2], before: [Origin; 2]| {
-        for buffer in (0..2).filter(|&buffer| !reader.settings.filled[buffer].is_set()) {
-            after[buffer] = before[buffer];
-        }
-    };
-    switched(keeps, request)
-}
-
-/// A line switch that is not refused has this effect on the origins: with the reader and the origins before.
-fn switched(effect: fn(&Reader, &mut [Origin; 2], [Origin; 2]), request: &Request) -> Outcome {
-    let mut outcome = request.carried_out();
-    if request.kind.is_line_switch() && outcome.answer.refusal == 0 {
-        effect(&request.reader, &mut outcome.reader.settings.origins, request.reader.settings.origins);
-    }
-    outcome
-}
-
-/// The line switch gives refusal 3 to an origin at or above C.
-fn switch_refuses_unfit_origins(request: &Request) -> Outcome {
-    switch_refuses(|reader, page| page >= Some(reader.capacity()), request)
-}
-
-fn switch_refuses(such: fn(&Reader, Option<usize>) -> bool, request: &Request) -> Outcome {
-    let outcome = request.carried_out();
-    let reader = &request.reader;
-    let refused = reader.settings.origins.iter().any(|origin| such(reader, origin.page()));
-    if request.kind.is_line_switch() && outcome.answer.refusal == 0 && refused {
-        return refused_with(3, request);
-    }
-    outcome
-}
-
-/// A refused line switch makes both origins none.
-fn refused_switch_clears_origins(request: &Request) -> Outcome {
-    let mut outcome = request.carried_out();
-    if request.kind.is_line_switch() && outcome.answer.refusal != 0 {
-        outcome.reader.settings.origins = [NONE; 2];
-    }
-    outcome
-}
-
-/// This becomes of the origins, by what they were.
-fn settled(effect: fn(&mut [Origin; 2], [Origin; 2]), request: &Request) -> Outcome {
-    let mut outcome = request.carried_out();
-    if outcome.answer.refusal == 0 {
-        effect(&mut outcome.reader.settings.origins, request.reader.settings.origins);
-    }
-    outcome
-}
-
-/// An origin that has no bit in what is brought over is made none.
-fn bringing_over_clears_vacant_origins(request: &Request) -> Outcome {
-    let mut outcome = request.carried_out();
-    let Reader { settings, index, .. } = &mut outcome.reader;
-    for origin in settings.origins.iter_mut().filter(|_| outcome.answer.refusal == 0) {
+/// An origin that has no bit in the index is made none.
+fn clear_vacant_origins(now: &mut Reader) {
+    let Reader { settings, index, .. } = now;
+    for origin in &mut settings.origins {
         let byte = index.get(usize::from(origin.0 / 8)).copied().unwrap_or(0);
         if byte & bit(origin.0.into()) == 0 {
             *origin = NONE;
         }
     }
-    outcome
-}
-
-/// An origin at or above C gets refusal 3.
-fn bringing_over_refuses_unfit_origins(request: &Request) -> Outcome {
-    let outcome = request.carried_out();
-    let reader = &request.reader;
-    if outcome.answer.refusal == 0 && has_origin(reader, |page| page >= Some(reader.capacity())) {
-        return refused_with(3, request);
-    }
-    outcome
 }

@@ -1,113 +1,84 @@
-//! Readers and receivers with one deliberate error each in the refusal 3 of document 02's request [7].
+//! Errors in the refusal 3 of document 02's request [7].
 
+use super::origins::clear_origins;
+use super::words::*;
+use super::Rows;
 use crate::compare::frame::{Outcome, Request};
 use crate::reader::*;
-use crate::wrong::Error::{self, OfReader, OfReceiver};
-use crate::wrong::{carried_out, refused_with};
 
-pub const ERRORS: [(&str, Error); 39] = [
-    ("takes-any-origin", OfReader(takes_any_origin)),
-    ("takes-origin-C", OfReader(|request| takes_pages(|reader, page| page == reader.capacity(), request))),
-    ("takes-origin-above-C", OfReader(|request| takes_pages(|reader, page| page > reader.capacity(), request))),
-    ("takes-origin-from-1000", OfReader(|request| takes_pages(|_, page| page >= MOST_PAGES, request))),
-    (
-        "takes-origin-below-1000",
-        OfReader(|request| takes_pages(|reader, page| (reader.capacity()..MOST_PAGES).contains(&page), request)),
-    ),
-    ("takes-origin-FFFE-for-none", OfReader(|request| ignores(|_, _, page| page == 0xFFFE, request))),
-    ("takes-origin-from-8000-for-none", OfReader(|request| ignores(|_, _, page| page >= 0x8000, request))),
-    ("takes-origin-0-for-none", OfReader(|request| ignores(|_, _, page| page == 0, request))),
-    ("takes-vacant-origin", OfReader(takes_vacant_origin)),
-    ("takes-origin-of-not-filled", OfReader(takes_origin_of_not_filled)),
-    ("takes-any-origin-of-buffer-1", OfReader(|request| ignores(|_, buffer, _| buffer == 0, request))),
-    ("takes-any-origin-of-buffer-2", OfReader(|request| ignores(|_, buffer, _| buffer == 1, request))),
-    ("takes-any-origin-when-locked", OfReader(|request| ignores(|reader, _, _| reader.settings.locked(), request))),
-    ("takes-any-origin-unless-locked", OfReader(|request| ignores(|reader, _, _| !reader.settings.locked(), request))),
-    ("tests-origin-in-8-bits", OfReader(tests_origin_in_8_bits)),
-    ("takes-origin-where-the-other-is-filled", OfReader(takes_origin_where_the_other_is_filled)),
-    ("makes-unfit-origin-none", OfReader(makes_unfit_origin_none)),
-    ("refused-call-clears-unfit-origin", OfReader(refused_call_clears_unfit_origin)),
-    ("refused-call-clears-origins", OfReader(refused_call_clears_origins)),
-    ("refuses-origin-with-1", OfReader(refuses_origin_with_1)),
-    ("origins-before-lengths", OfReader(|request| origins_before(1, request))),
-    ("origins-before-room", OfReader(|request| origins_before(2, request))),
-    ("refuses-none", OfReader(|request| refuses(|reader| has_origin(reader, |page| page.is_none()), request))),
-    ("refuses-origin-0", OfReader(|request| refuses(|reader| has_origin(reader, |page| page == Some(0)), request))),
-    ("refuses-origin-C-less-1", OfReader(refuses_last_origin)),
-    ("refuses-two-origins", OfReader(|request| refuses(|reader| two_origins(reader, |_, _| true), request))),
-    (
-        "refuses-the-same-origin-twice",
-        OfReader(|request| refuses(|reader| two_origins(reader, |one, other| one == other), request)),
-    ),
-    (
-        "refuses-two-different-origins",
-        OfReader(|request| refuses(|reader| two_origins(reader, |one, other| one != other), request)),
-    ),
-    (
-        "refuses-origin-of-other-bytes",
-        OfReader(|request| refuses(|reader| has_bytes_of_origin(reader, false), request)),
-    ),
-    (
-        "refuses-origin-of-the-same-bytes",
-        OfReader(|request| refuses(|reader| has_bytes_of_origin(reader, true), request)),
-    ),
-    ("refuses-origin-beside-a-transfer", OfReader(refuses_origin_beside_a_transfer)),
-    ("refuses-origin-when-locked", OfReader(refuses_origin_when_locked)),
-    ("receiver-takes-any-origin", OfReceiver(|request, _| takes_any_origin(request))),
-    ("receiver-takes-vacant-origin", OfReceiver(|request, _| takes_vacant_origin(request))),
-    ("receiver-takes-origin-of-not-filled", OfReceiver(|request, _| takes_origin_of_not_filled(request))),
-    ("receiver-makes-unfit-origin-none", OfReceiver(|request, _| makes_unfit_origin_none(request))),
-    ("receiver-refused-call-clears-unfit-origin", OfReceiver(|request, _| refused_call_clears_unfit_origin(request))),
-    ("receiver-refuses-origin-C-less-1", OfReceiver(|request, _| refuses_last_origin(request))),
-    ("receiver-refuses-origin-when-locked", OfReceiver(|request, _| refuses_origin_when_locked(request))),
-];
+pub fn add(rows: &mut Rows) {
+    // Origins that are taken though they are not legal.
+    rows.both("takes-any-origin", ignores(|_, _, _| true));
+    rows.reader("takes-origin-C", takes_pages(|old, page| page == old.capacity()));
+    rows.reader("takes-origin-above-C", takes_pages(|old, page| page > old.capacity()));
+    rows.reader("takes-origin-from-1000", takes_pages(|_, page| page >= MOST_PAGES));
+    rows.reader("takes-origin-below-1000", takes_pages(|old, page| (old.capacity()..MOST_PAGES).contains(&page)));
+    rows.reader("takes-origin-FFFE-for-none", ignores(|_, _, page| page == 0xFFFE));
+    rows.reader("takes-origin-from-8000-for-none", ignores(|_, _, page| page >= 0x8000));
+    rows.reader("takes-origin-0-for-none", ignores(|_, _, page| page == 0));
+    rows.both("takes-vacant-origin", takes_pages(|old, page| page < old.capacity() && !old.stored(page)));
+    rows.both("takes-origin-of-not-filled", ignores(stored_of_not_filled));
+    rows.reader("takes-origin-where-the-other-is-filled", ignores(stored_where_the_other_is_filled));
+    rows.reader("takes-any-origin-of-buffer-1", ignores(|_, buffer, _| buffer == 0));
+    rows.reader("takes-any-origin-of-buffer-2", ignores(|_, buffer, _| buffer == 1));
+    rows.reader("takes-any-origin-when-locked", ignores(|old, _, _| old.settings.locked()));
+    rows.reader("takes-any-origin-unless-locked", ignores(|old, _, _| !old.settings.locked()));
+    rows.reader("tests-origin-in-8-bits", takes_pages(|old, page| is_stored(old, page % 256)));
 
-/// No origin is a reason for refusal 3.
-fn takes_any_origin(request: &Request) -> Outcome {
-    ignores(|_, _, _| true, request)
+    // What a refused call leaves, and the order of refusals.
+    rows.both("makes-unfit-origin-none", makes_unfit_origin_none);
+    rows.both("refused-call-clears-unfit-origin", leaves(refused_for_origins, clear_origins));
+    rows.reader("refused-call-clears-origins", leaves(call_refused, clear_origins));
+    rows.reader("refuses-origin-with-1", refuses(1, refused_for_origins));
+    rows.reader("origins-before-lengths", refuses(3, |good| refused_call(1, good) && has_unfit_origin(good.old())));
+    rows.reader("origins-before-room", refuses(3, |good| refused_call(2, good) && has_unfit_origin(good.old())));
+
+    // Legal origins that are refused.
+    rows.reader("refuses-none", refuses_origin(|_, origin| origin.is_none()));
+    rows.reader("refuses-origin-0", refuses_origin(|_, origin| origin == Some(0)));
+    rows.both("refuses-origin-C-less-1", refuses_origin(|old, origin| origin == old.capacity().checked_sub(1)));
+    rows.reader("refuses-two-origins", refuses_pair(|_, _| true));
+    rows.reader("refuses-the-same-origin-twice", refuses_pair(|one, other| one == other));
+    rows.reader("refuses-two-different-origins", refuses_pair(|one, other| one != other));
+    rows.reader("refuses-origin-of-other-bytes", refuses_legal(|old| has_bytes_of_origin(old, false)));
+    rows.reader("refuses-origin-of-the-same-bytes", refuses_legal(|old| has_bytes_of_origin(old, true)));
+    rows.reader(
+        "refuses-origin-beside-a-transfer",
+        refuses_origin(|old, origin| old.settings.transfer != 0 && origin.is_some()),
+    );
+    rows.both("refuses-origin-when-locked", refuses_origin(|old, origin| old.settings.locked() && origin.is_some()));
 }
 
-/// An origin on a vacant page is taken.
-fn takes_vacant_origin(request: &Request) -> Outcome {
-    takes_pages(|reader, page| page < reader.capacity() && !reader.stored(page), request)
+/// Whether a page is one of the reader's, and stored.
+fn is_stored(old: &Reader, page: usize) -> bool {
+    page < old.capacity() && old.stored(page)
 }
 
-/// An origin of a buffer that is not filled is taken.
-fn takes_origin_of_not_filled(request: &Request) -> Outcome {
-    takes_not_filled(|_, _| true, request)
+/// A stored page, of a buffer that is not filled.
+fn stored_of_not_filled(old: &Reader, buffer: usize, page: usize) -> bool {
+    !old.settings.filled[buffer].is_set() && is_stored(old, page)
 }
 
-/// An origin of a buffer that is not filled is taken if the other one is.
-fn takes_origin_where_the_other_is_filled(request: &Request) -> Outcome {
-    takes_not_filled(|reader, buffer| reader.settings.filled[1 - buffer].is_set(), request)
-}
-
-/// An origin is tested modulo 256.
-fn tests_origin_in_8_bits(request: &Request) -> Outcome {
-    takes_pages(|reader, page| page % 256 < reader.capacity() && reader.stored(page % 256), request)
+/// A stored page, of a buffer that is not filled while the other one is.
+fn stored_where_the_other_is_filled(old: &Reader, buffer: usize, page: usize) -> bool {
+    old.settings.filled[1 - buffer].is_set() && stored_of_not_filled(old, buffer, page)
 }
 
 /// Such a page is taken for the origin of a filled buffer.
-fn takes_pages(such: fn(&Reader, usize) -> bool, request: &Request) -> Outcome {
-    ignores(|reader, buffer, page| reader.settings.filled[buffer].is_set() && such(reader, page), request)
-}
-
-/// A stored page is taken for the origin of such a buffer that is not filled.
-fn takes_not_filled(such: fn(&Reader, usize) -> bool, request: &Request) -> Outcome {
-    let stored = |reader: &Reader, page: usize| page < reader.capacity() && reader.stored(page);
-    let not_filled = |reader: &Reader, buffer: usize| !reader.settings.filled[buffer].is_set() && such(reader, buffer);
-    ignores(|reader, buffer, page| not_filled(reader, buffer) && stored(reader, page), request)
+fn takes_pages(such: fn(&Reader, usize) -> bool) -> impl Makes {
+    ignores(move |old, buffer, page| old.settings.filled[buffer].is_set() && such(old, page))
 }
 
 /// An origin is no reason for refusal 3 if it is such: by the reader, the buffer and the page. It stays as it is.
-fn ignores(such: impl Fn(&Reader, usize, usize) -> bool, request: &Request) -> Outcome {
-    let mut outcome = without_origins(such, request);
-    let before = &request.reader.settings.origins;
-    if refused_3(request) {
-        let origins = outcome.reader.settings.origins.iter_mut().zip(before);
-        origins.filter(|(after, _)| **after == NONE).for_each(|(after, before)| *after = *before);
+fn ignores(such: impl Fn(&Reader, usize, usize) -> bool + 'static) -> impl Makes {
+    move |request: &Request| {
+        let mut outcome = without_origins(&such, request);
+        if refused_3(request) {
+            let origins = outcome.reader.settings.origins.iter_mut().zip(&request.reader.settings.origins);
+            origins.filter(|(now, _)| **now == NONE).for_each(|(now, old)| *now = *old);
+        }
+        outcome
     }
-    outcome
 }
 
 /// Origins are made none where they are a reason for refusal 3.
@@ -137,87 +108,43 @@ fn refused_3(request: &Request) -> bool {
     request.kind.is_call() && request.reader.refusal(request.room.len()) == 3
 }
 
-/// Whether a call gets refusal 3 for its origins alone.
-fn refused_for_origins(request: &Request) -> bool {
-    refused_3(request) && without_origins(|_, _, _| true, request).answer.refusal == 0
+/// A call that gets refusal 3 for its origins alone.
+fn refused_for_origins(good: &Good) -> bool {
+    refused_3(good.request) && without_origins(|_, _, _| true, good.request).answer.refusal == 0
 }
 
-/// A call that is refused for its origins makes them none.
-fn refused_call_clears_unfit_origin(request: &Request) -> Outcome {
-    let mut outcome = request.carried_out();
-    if refused_for_origins(request) {
-        outcome.reader.settings.origins = [NONE; 2];
-    }
-    outcome
+/// A call that gets this refusal.
+pub fn refused_call(refusal: u8, good: &Good) -> bool {
+    call_refused(good) && good.refusal() == refusal
 }
 
-/// A call that is refused, for whatever reason, makes the origins none.
-fn refused_call_clears_origins(request: &Request) -> Outcome {
-    let mut outcome = request.carried_out();
-    if request.kind.is_call() && outcome.answer.refusal != 0 {
-        outcome.reader.settings.origins = [NONE; 2];
-    }
-    outcome
-}
-
-/// Origins that are not legal get refusal 1.
-fn refuses_origin_with_1(request: &Request) -> Outcome {
-    if refused_for_origins(request) {
-        return refused_with(1, request);
-    }
-    request.carried_out()
-}
-
-/// Refusal 3 for an origin at or above C comes before this one.
-fn origins_before(refusal: u8, request: &Request) -> Outcome {
-    let outcome = request.carried_out();
-    let reader = &request.reader;
-    let beyond = has_origin(reader, |page| page >= Some(reader.capacity()));
-    if request.kind.is_call() && outcome.answer.refusal == refusal && beyond {
-        return refused_with(3, request);
-    }
-    outcome
-}
-
-/// The origin C - 1 gets refusal 3.
-fn refuses_last_origin(request: &Request) -> Outcome {
-    refuses(|reader| has_origin(reader, |page| page == reader.capacity().checked_sub(1)), request)
-}
-
-/// An origin beside a transfer gets refusal 3.
-fn refuses_origin_beside_a_transfer(request: &Request) -> Outcome {
-    refuses(|reader| reader.settings.transfer != 0 && has_origin(reader, |page| page.is_some()), request)
-}
-
-/// An origin of a locked reader gets refusal 3.
-fn refuses_origin_when_locked(request: &Request) -> Outcome {
-    refuses(|reader| reader.settings.locked() && has_origin(reader, |page| page.is_some()), request)
+/// Whether an origin is at or above C.
+pub fn has_unfit_origin(old: &Reader) -> bool {
+    old.settings.origins.iter().any(|origin| origin.page() >= Some(old.capacity()))
 }
 
 /// A legal reader gets refusal 3 if it is such.
-pub fn refuses(such: fn(&Reader) -> bool, request: &Request) -> Outcome {
-    let outcome = request.carried_out();
-    if carried_out(request, &outcome) && such(&request.reader) {
-        return refused_with(3, request);
-    }
-    outcome
+pub fn refuses_legal(such: impl Fn(&Reader) -> bool + 'static) -> impl Makes {
+    refuses(3, move |good| good.called() && such(good.old()))
 }
 
-/// Whether a buffer's origin is such.
-pub fn has_origin(reader: &Reader, such: impl Fn(Option<usize>) -> bool) -> bool {
-    reader.settings.origins.iter().any(|origin| such(origin.page()))
+/// An origin gets refusal 3 if it is such, by the reader.
+fn refuses_origin(such: fn(&Reader, Option<usize>) -> bool) -> impl Makes {
+    refuses_legal(move |old| old.settings.origins.iter().any(|origin| such(old, origin.page())))
 }
 
-/// Whether both buffers have an origin, and the two are such.
-fn two_origins(reader: &Reader, such: fn(usize, usize) -> bool) -> bool {
-    let [one, other] = reader.settings.origins.map(Origin::page);
-    one.zip(other).map_or(false, |(one, other)| such(one, other))
+/// Two origins get refusal 3 if they are such.
+fn refuses_pair(such: fn(usize, usize) -> bool) -> impl Makes {
+    refuses_legal(move |old| {
+        let [one, other] = old.settings.origins.map(Origin::page);
+        one.zip(other).map_or(false, |(one, other)| such(one, other))
+    })
 }
 
 /// Whether a buffer has the bytes of its origin, or has not.
-fn has_bytes_of_origin(reader: &Reader, has: bool) -> bool {
-    let origins = reader.settings.origins.iter().zip(&reader.buffers);
+fn has_bytes_of_origin(old: &Reader, has: bool) -> bool {
+    let origins = old.settings.origins.iter().zip(&old.buffers);
     origins
         .filter_map(|(origin, buffer)| Some((origin.page()?, buffer)))
-        .any(|(page, buffer)| (reader.template(page) == buffer) == has)
+        .any(|(page, buffer)| (old.template(page) == buffer) == has)
 }

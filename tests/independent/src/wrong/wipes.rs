@@ -1,252 +1,162 @@
-//! Readers and receivers with one deliberate error each in what DeletChar and Empty wipe by document 02's request [7].
+//! Errors in what DeletChar and Empty wipe by document 02's request [7].
 
-use crate::compare::frame::{Outcome, Request};
+use super::words::*;
+use super::Rows;
+use crate::compare::frame::Request;
 use crate::reader::*;
-use crate::reader::receiver::HOLDS;
-use crate::wrong::Error::{self, OfReader, OfReceiver};
-use crate::wrong::{code, is_command, received};
-use crate::wrong::thousand::{fine, range};
 use std::ops::Range;
 
-pub const ERRORS: [(&str, Error); 46] = [
-    ("delet-char-leaves-buffers", OfReader(delet_char_leaves_buffers)),
-    ("delet-char-leaves-bytes", OfReader(|request| leaves(DELET_CHAR, bytes_of, request))),
-    ("delet-char-leaves-filled", OfReader(|request| leaves(DELET_CHAR, mark_of, request))),
-    ("delet-char-leaves-origin", OfReader(|request| leaves(DELET_CHAR, origin_of, request))),
-    ("delet-char-clears-origin-only", OfReader(|request| leaves(DELET_CHAR, all_but_origin_of, request))),
-    ("delet-char-clears-filled-only", OfReader(|request| leaves(DELET_CHAR, all_but_mark_of, request))),
-    (
-        "delet-char-wipes-first-only",
-        OfReader(|request| wipes_within(|pages| pages.start..pages.end.min(pages.start + 1), request)),
-    ),
-    (
-        "delet-char-wipes-last-only",
-        OfReader(|request| wipes_within(|pages| pages.start.max(pages.end.max(1) - 1)..pages.end, request)),
-    ),
-    ("delet-char-wipes-all-but-first", OfReader(|request| wipes_within(|pages| pages.start + 1..pages.end, request))),
-    (
-        "delet-char-wipes-all-but-last",
-        OfReader(|request| wipes_within(|pages| pages.start..pages.end.max(1) - 1, request)),
-    ),
-    ("delet-char-wipes-one-past", OfReader(|request| wipes_within(|pages| pages.start..pages.end + 1, request))),
-    (
-        "delet-char-wipes-one-past-some",
-        OfReader(|request| wipes_within(|pages| pages.start..pages.end + pages.len().min(1), request)),
-    ),
-    (
-        "delet-char-wipes-one-before",
-        OfReader(|request| wipes_within(|pages| pages.start.max(1) - 1..pages.end, request)),
-    ),
-    (
-        "delet-char-of-none-wipes-one",
-        OfReader(|request| wipes_within(|pages| pages.start..pages.end.max(pages.start + 1), request)),
-    ),
-    ("delet-char-wipes-from-page-on", OfReader(|request| wipes_within(|pages| pages.start..usize::MAX, request))),
-    ("delet-char-wipes-up-to-page", OfReader(|request| wipes_within(|pages| 0..pages.end, request))),
-    (
-        "delet-char-wipes-buffer-1-only",
-        OfReader(|request| wipes(DELET_CHAR, |_, buffer, deleted| deleted && buffer == 0, request)),
-    ),
-    (
-        "delet-char-wipes-buffer-2-only",
-        OfReader(|request| wipes(DELET_CHAR, |_, buffer, deleted| deleted && buffer == 1, request)),
-    ),
-    ("delet-char-wipes-one-of-two", OfReader(|request| wipes(DELET_CHAR, one_of_two, request))),
-    ("delet-char-wipes-two-for-one", OfReader(|request| wipes_two_for_one(DELET_CHAR, request))),
-    ("delet-char-wipes-without-origin", OfReader(|request| wipes(DELET_CHAR, or_without_origin, request))),
-    ("delet-char-wipes-any-origin", OfReader(|request| wipes(DELET_CHAR, any_origin, request))),
-    ("delet-char-wipes-all", OfReader(|request| wipes(DELET_CHAR, |_, _, _| true, request))),
-    ("delet-char-takes-origin-0-for-none", OfReader(|request| wipes(DELET_CHAR, not_origin_0, request))),
-    ("delet-char-wipes-same-bytes-only", OfReader(|request| wipes(DELET_CHAR, same_bytes_only, request))),
-    ("delet-char-wipes-same-bytes-too", OfReader(delet_char_wipes_same_bytes_too)),
-    ("delet-char-wipes-filled-in-8-bits", OfReader(delet_char_compares_in_8_bits)),
-    ("delet-char-wipes-below-256", OfReader(|request| wipes_within(|pages| pages.start..pages.end.min(256), request))),
-    ("far-delet-char-wipes", OfReader(|request| refused_delete(0x10, request))),
-    ("locked-delet-char-wipes", OfReader(|request| refused_delete(0x21, request))),
-    ("empty-leaves-buffers", OfReader(empty_leaves_buffers)),
-    ("empty-leaves-bytes", OfReader(|request| leaves(EMPTY, bytes_of, request))),
-    ("empty-leaves-filled", OfReader(|request| leaves(EMPTY, mark_of, request))),
-    ("empty-leaves-origin", OfReader(|request| leaves(EMPTY, origin_of, request))),
-    ("empty-clears-origin-only", OfReader(|request| leaves(EMPTY, all_but_origin_of, request))),
-    (
-        "empty-wipes-buffer-1-only",
-        OfReader(|request| wipes(EMPTY, |_, buffer, deleted| deleted && buffer == 0, request)),
-    ),
-    (
-        "empty-wipes-buffer-2-only",
-        OfReader(|request| wipes(EMPTY, |_, buffer, deleted| deleted && buffer == 1, request)),
-    ),
-    ("empty-wipes-one-of-two", OfReader(|request| wipes(EMPTY, one_of_two, request))),
-    ("empty-wipes-two-for-one", OfReader(|request| wipes_two_for_one(EMPTY, request))),
-    ("empty-wipes-without-origin", OfReader(|request| wipes(EMPTY, or_without_origin, request))),
-    ("empty-takes-origin-0-for-none", OfReader(|request| wipes(EMPTY, not_origin_0, request))),
-    ("empty-wipes-same-bytes-only", OfReader(|request| wipes(EMPTY, same_bytes_only, request))),
-    ("empty-wipes-below-256", OfReader(|request| wipes(EMPTY, below_256, request))),
-    ("locked-empty-wipes", OfReader(locked_empty_wipes)),
-    (
-        "receiver-delet-char-leaves-buffers",
-        OfReceiver(|request, held| received(HOLDS, delet_char_leaves_buffers, request, held)),
-    ),
-    ("receiver-empty-leaves-buffers", OfReceiver(|request, held| received(HOLDS, empty_leaves_buffers, request, held))),
-];
+pub fn add(rows: &mut Rows) {
+    for (name, command) in [("delet-char", DELET_CHAR), ("empty", EMPTY)] {
+        // Which buffers are wiped.
+        rows.both(format!("{name}-leaves-buffers"), wipes(command, |_, _, _| false));
+        rows.reader(format!("{name}-wipes-buffer-1-only"), wipes(command, |_, buffer, deleted| deleted && buffer == 0));
+        rows.reader(format!("{name}-wipes-buffer-2-only"), wipes(command, |_, buffer, deleted| deleted && buffer == 1));
+        rows.reader(format!("{name}-wipes-one-of-two"), wipes(command, one_of_two));
+        rows.reader(format!("{name}-wipes-two-for-one"), wipes_by_pages(command, either_deleted));
+        rows.reader(format!("{name}-wipes-without-origin"), wipes(command, |old, b, deleted| deleted || none(old, b)));
+        rows.reader(format!("{name}-takes-origin-0-for-none"), wipes(command, not_origin_0));
+        rows.reader(format!("{name}-wipes-same-bytes-only"), wipes(command, same_bytes_only));
+        rows.reader(format!("{name}-wipes-below-256"), wipes(command, below_256));
+        // What of them is left.
+        rows.reader(format!("{name}-leaves-bytes"), leaves_part(command, &[bytes_of]));
+        rows.reader(format!("{name}-leaves-filled"), leaves_part(command, &[mark_of]));
+        rows.reader(format!("{name}-leaves-origin"), leaves_part(command, &[origin_of]));
+        rows.reader(format!("{name}-clears-origin-only"), leaves_part(command, &[bytes_of, mark_of]));
+    }
+    rows.reader("delet-char-clears-filled-only", leaves_part(DELET_CHAR, &[bytes_of, origin_of]));
+    rows.reader("delet-char-wipes-any-origin", wipes(DELET_CHAR, |old, buffer, _| !none(old, buffer)));
+    rows.reader("delet-char-wipes-all", wipes(DELET_CHAR, |_, _, _| true));
+    rows.reader("delet-char-wipes-same-bytes-too", wipes_by_pages(DELET_CHAR, same_bytes_too));
+    rows.reader("delet-char-wipes-filled-in-8-bits", wipes_by_pages(DELET_CHAR, same_in_8_bits));
 
-/// DeletChar wipes no buffer.
-fn delet_char_leaves_buffers(request: &Request) -> Outcome {
-    wipes(DELET_CHAR, |_, _, _| false, request)
+    // Which pages count as deleted.
+    rows.reader("delet-char-wipes-first-only", wipes_within(|start, end| start..end.min(start + 1)));
+    rows.reader("delet-char-wipes-last-only", wipes_within(|start, end| start.max(end.max(1) - 1)..end));
+    rows.reader("delet-char-wipes-all-but-first", wipes_within(|start, end| start + 1..end));
+    rows.reader("delet-char-wipes-all-but-last", wipes_within(|start, end| start..end.max(1) - 1));
+    rows.reader("delet-char-wipes-one-past", wipes_within(|start, end| start..end + 1));
+    rows.reader("delet-char-wipes-one-past-some", wipes_within(|start, end| start..end + (end - start).min(1)));
+    rows.reader("delet-char-wipes-one-before", wipes_within(|start, end| start.max(1) - 1..end));
+    rows.reader("delet-char-of-none-wipes-one", wipes_within(|start, end| start..end.max(start + 1)));
+    rows.reader("delet-char-wipes-from-page-on", wipes_within(|start, _| start..usize::MAX));
+    rows.reader("delet-char-wipes-up-to-page", wipes_within(|_, end| 0..end));
+
+    // Other codes.
+    rows.reader("far-delet-char-wipes", wipes_all_the_same(DELET_CHAR, 0x10));
+    rows.reader("locked-delet-char-wipes", wipes_all_the_same(DELET_CHAR, 0x21));
+    rows.reader("locked-empty-wipes", wipes_all_the_same(EMPTY, 0x21));
 }
 
-/// Empty wipes no buffer.
-fn empty_leaves_buffers(request: &Request) -> Outcome {
-    wipes(EMPTY, |_, _, _| false, request)
+/// A command that gets 00h wipes such buffers: by the reader before, the buffer, and whether its origin was deleted.
+fn wipes(command: u8, such: fn(&Reader, usize, bool) -> bool) -> impl Makes {
+    wipes_by_pages(command, move |old, buffer, pages| such(old, buffer, old.settings.origins[buffer].among(pages)))
 }
 
-/// A command with this code that gets 00h wipes such buffers: by the reader, the buffer, and whether its origin was
-/// deleted.
-fn wipes(command: u8, such: impl Fn(&Reader, usize, bool) -> bool, request: &Request) -> Outcome {
-    wipes_by_pages(
-        command,
-        |reader, buffer, pages| such(reader, buffer, reader.settings.origins[buffer].among(pages)),
-        request,
-    )
+/// DeletChar wipes the buffers whose origin is one of these pages, made of the first that it deletes and the end.
+fn wipes_within(other: fn(usize, usize) -> Range<usize>) -> impl Makes {
+    wipes_by_pages(DELET_CHAR, move |old, buffer, pages| {
+        old.settings.origins[buffer].among(&other(pages.start, pages.end))
+    })
 }
 
-/// DeletChar wipes the buffers whose origin is one of these pages, made of those that it deletes.
-fn wipes_within(other: impl Fn(&Range<usize>) -> Range<usize>, request: &Request) -> Outcome {
-    let such =
-        |reader: &Reader, buffer: usize, pages: &Range<usize>| reader.settings.origins[buffer].among(&other(pages));
-    wipes_by_pages(DELET_CHAR, such, request)
+/// A command that gets 00h wipes such buffers: by the reader before, the buffer and the pages deleted.
+fn wipes_by_pages(command: u8, such: impl Fn(&Reader, usize, &Range<usize>) -> bool + 'static) -> impl Makes {
+    move |request: &Request| {
+        let good = Good::of(request);
+        let pages = match pages_with(command, 0x00, &good) {
+            Some(pages) => pages,
+            None => return good.outcome,
+        };
+        let mut outcome = taken(|asked| asked.reader.settings.origins = [NONE; 2])(request);
+        outcome.reader.settings.origins = request.reader.settings.origins;
+        (0..2).filter(|&buffer| such(&request.reader, buffer, &pages)).for_each(|buffer| outcome.reader.wipe(buffer));
+        outcome
+    }
 }
 
-/// A command with this code that gets 00h wipes such buffers: by the reader, the buffer and the pages deleted.
-fn wipes_by_pages(command: u8, such: impl Fn(&Reader, usize, &Range<usize>) -> bool, request: &Request) -> Outcome {
-    let outcome = request.carried_out();
-    let pages = match pages_deleted(command, request, &outcome) {
-        Some(pages) => pages,
-        None => return outcome,
-    };
-    let mut asked = request.clone();
-    asked.reader.settings.origins = [NONE; 2];
-    let mut outcome = asked.carried_out();
-    outcome.reader.settings.origins = request.reader.settings.origins;
-    (0..2).filter(|&buffer| such(&request.reader, buffer, &pages)).for_each(|buffer| outcome.reader.wipe(buffer));
-    outcome
+/// The pages that a DeletChar or an Empty with this code names.
+fn pages_with(command: u8, code: u8, good: &Good) -> Option<Range<usize>> {
+    let all = 0..good.old().capacity();
+    good.gets(command, code).then(|| if command == EMPTY { all } else { pages(good.content()) })
 }
 
-/// The pages of a DeletChar or an Empty that gets 00h.
-fn pages_deleted(command: u8, request: &Request, outcome: &Outcome) -> Option<Range<usize>> {
-    let packet = find(&request.run).1.filter(|_| fine(command, request, outcome))?;
-    Some(if command == EMPTY { 0..request.reader.capacity() } else { range(packet.content) })
+/// A command that gets this code wipes the buffers whose origin it names.
+fn wipes_all_the_same(command: u8, code: u8) -> impl Makes {
+    for_named_buffers(command, code, |now, _, buffer| now.wipe(buffer))
+}
+
+/// A command leaves these parts of the buffers that it wipes.
+fn leaves_part(command: u8, parts: &'static [fn(&mut Reader, &Reader, usize)]) -> impl Makes {
+    for_named_buffers(command, 0x00, |now, old, buffer| parts.iter().for_each(|keep| keep(now, old, buffer)))
+}
+
+/// A command that gets this code also has this effect for each buffer whose origin it names.
+fn for_named_buffers(command: u8, code: u8, effect: impl Fn(&mut Reader, &Reader, usize) + 'static) -> impl Makes {
+    move |request: &Request| {
+        let good = Good::of(request);
+        let pages = pages_with(command, code, &good);
+        let mut outcome = good.outcome;
+        for buffer in 0..2 {
+            if pages.as_ref().map_or(false, |pages| request.reader.settings.origins[buffer].among(pages)) {
+                effect(&mut outcome.reader, &request.reader, buffer);
+            }
+        }
+        outcome
+    }
+}
+
+fn none(old: &Reader, buffer: usize) -> bool {
+    old.settings.origins[buffer] == NONE
 }
 
 /// The first of two buffers whose pages were deleted.
-fn one_of_two(reader: &Reader, buffer: usize, deleted: bool) -> bool {
-    let [one, other] = reader.settings.origins;
+fn one_of_two(old: &Reader, buffer: usize, deleted: bool) -> bool {
+    let [one, other] = old.settings.origins;
     deleted && (buffer == 0 || one != other)
 }
 
-/// Both buffers are wiped where one should be.
-fn wipes_two_for_one(command: u8, request: &Request) -> Outcome {
-    let either =
-        |reader: &Reader, pages: &Range<usize>| reader.settings.origins.iter().any(|origin| origin.among(pages));
-    wipes_by_pages(command, |reader, _, pages| either(reader, pages), request)
-}
-
-/// A buffer without an origin, too.
-fn or_without_origin(reader: &Reader, buffer: usize, deleted: bool) -> bool {
-    deleted || reader.settings.origins[buffer] == NONE
-}
-
-/// A buffer with an origin, whether its page was deleted or not.
-fn any_origin(reader: &Reader, buffer: usize, _: bool) -> bool {
-    reader.settings.origins[buffer] != NONE
+/// Both buffers, where one should be wiped.
+fn either_deleted(old: &Reader, _: usize, pages: &Range<usize>) -> bool {
+    old.settings.origins.iter().any(|origin| origin.among(pages))
 }
 
 /// Page 0 is no origin.
-fn not_origin_0(reader: &Reader, buffer: usize, deleted: bool) -> bool {
-    deleted && reader.settings.origins[buffer] != Origin(0)
+fn not_origin_0(old: &Reader, buffer: usize, deleted: bool) -> bool {
+    deleted && old.settings.origins[buffer] != Origin(0)
 }
 
 /// A buffer whose bytes are those of the page deleted.
-fn same_bytes_only(reader: &Reader, buffer: usize, deleted: bool) -> bool {
-    let same = |page| reader.template(page) == reader.buffers[buffer];
-    deleted && reader.settings.origins[buffer].page().map_or(false, same)
+fn same_bytes_only(old: &Reader, buffer: usize, deleted: bool) -> bool {
+    let same = |page| old.template(page) == old.buffers[buffer];
+    deleted && old.settings.origins[buffer].page().map_or(false, same)
 }
 
 /// A page from 256 on is no origin.
-fn below_256(reader: &Reader, buffer: usize, deleted: bool) -> bool {
-    deleted && reader.settings.origins[buffer].0 < 256
+fn below_256(old: &Reader, buffer: usize, deleted: bool) -> bool {
+    deleted && old.settings.origins[buffer].0 < 256
 }
 
-/// DeletChar also wipes a filled buffer whose bytes are those of a stored page that it deletes.
-fn delet_char_wipes_same_bytes_too(request: &Request) -> Outcome {
-    let such = |reader: &Reader, buffer: usize, pages: &Range<usize>| {
-        let same = |page: usize| reader.stored(page) && reader.template(page) == reader.buffers[buffer];
-        reader.settings.filled[buffer].is_set() && pages.clone().any(same)
-            || reader.settings.origins[buffer].among(pages)
-    };
-    wipes_by_pages(DELET_CHAR, such, request)
+/// Also a filled buffer whose bytes are those of a stored page deleted.
+fn same_bytes_too(old: &Reader, buffer: usize, pages: &Range<usize>) -> bool {
+    let same = |page: usize| old.stored(page) && old.template(page) == old.buffers[buffer];
+    old.settings.filled[buffer].is_set() && pages.clone().any(same) || old.settings.origins[buffer].among(pages)
 }
 
-/// DeletChar compares pages and origins modulo 256.
-fn delet_char_compares_in_8_bits(request: &Request) -> Outcome {
-    let such = |reader: &Reader, buffer: usize, pages: &Range<usize>| {
-        let origin = reader.settings.origins[buffer];
-        origin.page().map_or(false, |origin| pages.clone().any(|page| page % 256 == origin % 256))
-    };
-    wipes_by_pages(DELET_CHAR, such, request)
+/// A buffer whose origin is a page deleted modulo 256.
+fn same_in_8_bits(old: &Reader, buffer: usize, pages: &Range<usize>) -> bool {
+    let origin = old.settings.origins[buffer].page();
+    origin.map_or(false, |origin| pages.clone().any(|page| page % 256 == origin % 256))
 }
 
-/// A DeletChar that gets this code wipes buffers all the same.
-fn refused_delete(due: u8, request: &Request) -> Outcome {
-    refused_wipes(DELET_CHAR, due, request)
+fn bytes_of(now: &mut Reader, old: &Reader, buffer: usize) {
+    now.buffers[buffer] = old.buffers[buffer].clone();
 }
 
-/// An Empty that gets 21h wipes buffers all the same.
-fn locked_empty_wipes(request: &Request) -> Outcome {
-    refused_wipes(EMPTY, 0x21, request)
+fn mark_of(now: &mut Reader, old: &Reader, buffer: usize) {
+    now.settings.filled[buffer] = old.settings.filled[buffer];
 }
 
-/// A command with this code that gets that acknowledge code wipes the buffers whose origin it names.
-fn refused_wipes(command: u8, due: u8, request: &Request) -> Outcome {
-    let mut outcome = request.carried_out();
-    let such = is_command(request, command) && code(&outcome) == Some(due);
-    if let Some(packet) = find(&request.run).1.filter(|_| such) {
-        let pages = if command == EMPTY { 0..request.reader.capacity() } else { range(packet.content) };
-        let named = |buffer: &usize| request.reader.settings.origins[*buffer].among(&pages);
-        (0..2).filter(named).for_each(|buffer| outcome.reader.wipe(buffer));
-    }
-    outcome
-}
-
-/// A command with this code leaves a part of the buffers that it wipes: to the reader after it, from the one before it.
-fn leaves(command: u8, part: fn(&mut Reader, &Reader, usize), request: &Request) -> Outcome {
-    let mut outcome = request.carried_out();
-    if let Some(pages) = pages_deleted(command, request, &outcome) {
-        let before = &request.reader;
-        let wiped = |buffer: &usize| before.settings.origins[*buffer].among(&pages);
-        (0..2).filter(wiped).for_each(|buffer| part(&mut outcome.reader, before, buffer));
-    }
-    outcome
-}
-
-fn bytes_of(after: &mut Reader, before: &Reader, buffer: usize) {
-    after.buffers[buffer] = before.buffers[buffer].clone();
-}
-
-fn mark_of(after: &mut Reader, before: &Reader, buffer: usize) {
-    after.settings.filled[buffer] = before.settings.filled[buffer];
-}
-
-fn origin_of(after: &mut Reader, before: &Reader, buffer: usize) {
-    after.settings.origins[buffer] = before.settings.origins[buffer];
-}
-
-fn all_but_origin_of(after: &mut Reader, before: &Reader, buffer: usize) {
-    bytes_of(after, before, buffer);
-    mark_of(after, before, buffer);
-}
-
-fn all_but_mark_of(after: &mut Reader, before: &Reader, buffer: usize) {
-    bytes_of(after, before, buffer);
-    origin_of(after, before, buffer);
+fn origin_of(now: &mut Reader, old: &Reader, buffer: usize) {
+    now.settings.origins[buffer] = old.settings.origins[buffer];
 }
