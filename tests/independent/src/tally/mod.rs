@@ -1,0 +1,269 @@
+//! Counts what the calls brought about, to show that the cases reach everything.
+
+pub mod kinds;
+mod origins;
+mod parameters;
+mod search;
+
+use crate::compare::frame::{self, Outcome, Request};
+use crate::tally::kinds::{Awaited::UpTo, *};
+use crate::reader::*;
+use crate::reader::receiver::Receiver;
+use crate::tally::parameters::Done;
+use std::collections::BTreeMap;
+
+#[derive(Default)]
+pub struct Tally {
+    pub calls: usize,
+    counts: BTreeMap<(usize, usize), usize>,
+    /// What was done last that matters to a ReadSysPara, and the settings that it left.
+    pub last: Option<(Done, Settings)>,
+}
+
+impl Tally {
+    pub fn add(&mut self, request: &Request, outcome: &Outcome) {
+        self.calls += 1;
+        let refusal = outcome.answer.refusal;
+        if let Some(receiver) = request.kind.receiver() {
+            self.add_receiver(request, receiver, refusal);
+        }
+        let marks = if request.kind == frame::Kind::FreshSettings {
+            self.count(FRESH, request.reader.refusal(request.room.len()));
+            self.count(FRESH_SIZES, request.reader.settings.size_code);
+            FRESH_MARKS
+        } else if request.kind == frame::Kind::BringOver {
+            self.add_bringing_over(request, refusal);
+            MARKS_BROUGHT_OVER
+        } else if request.kind.is_line_switch() {
+            self.count(SWITCHES, refusal);
+            MARKS_SWITCHED
+        } else {
+            self.count(REFUSALS, refusal);
+            self.add_call(request, outcome);
+            MARKS
+        };
+        if !request.reader.settings.marks_legal() {
+            self.count(marks, refusal);
+        }
+        self.add_origins(request, outcome);
+        self.add_search(request, outcome);
+        self.add_parameters(request, outcome);
+    }
+
+    fn add_bringing_over(&mut self, request: &Request, refusal: u8) {
+        let (stored, lent) = (request.run.len(), request.reader.index.len());
+        match (refusal, stored == SHORT_INDEX, lent == INDEX) {
+            (0, ..) => self.count(BROUGHT_OVER, request.reader.refusal(request.room.len())),
+            (_, _, true) => self.count(STORED_INDEXES_REFUSED, stored),
+            (_, true, _) => self.count(LENT_INDEXES_REFUSED, lent),
+            _ => self.count(BOTH_INDEXES_REFUSED, stored),
+        }
+    }
+
+    fn add_call(&mut self, request: &Request, outcome: &Outcome) {
+        if outcome.answer.refusal != 0 {
+            self.add_refused(request);
+            return;
+        }
+        self.count(CAPACITIES, request.reader.capacity());
+        let run = request.whole_run();
+        self.add_header(&run);
+        if let Some(packet) = find(&run).1 {
+            self.add_packet(&packet, request, outcome);
+        }
+    }
+
+    /// A refused call, by what it alone was refused for.
+    fn add_refused(&mut self, request: &Request) {
+        let Reader { settings, index, .. } = &request.reader;
+        let capacity = request.reader.capacity();
+        if refused_for(|reader| reader.settings.size_code = Settings::fresh().size_code, request) {
+            self.count(SIZES_REFUSED, settings.size_code);
+        }
+        let with_most_pages = |reader: &mut Reader| {
+            reader.templates.truncate(PAGE * MOST_PAGES);
+            reader.chip.scores.truncate(MOST_PAGES);
+        };
+        if capacity > MOST_PAGES && refused_for(with_most_pages, request) {
+            self.count(CAPACITIES_REFUSED, capacity);
+        }
+        if refused_for(|reader| reader.index = vec![0; INDEX], request) {
+            match request.reader.bit_beyond() {
+                Some(page) if index.len() == INDEX => self.count(BITS_REFUSED, page / 8 / INDEX_PAGE),
+                _ => self.count(INDEX_LENGTHS_REFUSED, index.len()),
+            }
+        }
+    }
+
+    fn add_header(&mut self, run: &[u8]) {
+        let header = match header(run) {
+            Some(header) => header,
+            None => return,
+        };
+        let whole = run.len() >= header.end();
+        match header.length {
+            257 if whole => self.count(HEADERS_257, header.identifier),
+            258 if whole => self.count(HEADERS_258, header.identifier),
+            _ if find(run).0 == header.place => self.count(UNFINISHED, run.len() - header.place),
+            _ => {}
+        }
+    }
+
+    fn add_packet(&mut self, packet: &Packet, request: &Request, outcome: &Outcome) {
+        let before = &request.reader.settings;
+        if outcome.answer.length > 0 {
+            self.add_reply(packet, outcome.room[9], before.size());
+            self.add_pages(packet, request, outcome);
+            self.add_store(request, outcome.room[9]);
+        } else if before.transfer != 0 && outcome.reader.settings.transfer == 0 {
+            self.count(DOWNLOADS, before.size());
+        }
+        let data = [DATA, LAST_DATA].contains(&packet.identifier);
+        if data && packet.sum_right && packet.address == before.address {
+            self.add_data(packet.content.len() + 2, before);
+        }
+    }
+
+    fn add_reply(&mut self, packet: &Packet, code: u8, size: usize) {
+        self.count(ACKNOWLEDGES, code);
+        if code == 0x00 {
+            self.count(FINE, packet.content[0]);
+        }
+        match (packet.content, code) {
+            ([UP_CHAR, ..], 0x00) => self.count(UPLOADS, size),
+            ([SET_SYS_PARA, 6, size_code], 0x00) => self.count(SIZES_SET, *size_code),
+            ([SET_SYS_PARA, 6, size_code], 0x1B) => self.count(SIZES_NOT_SET, *size_code),
+            _ => {}
+        }
+    }
+
+    /// A reply to a command that names pages or tells the valid count.
+    fn add_pages(&mut self, packet: &Packet, request: &Request, outcome: &Outcome) {
+        let (code, listed) = (outcome.room[9], &outcome.room[10..outcome.answer.length - 2]);
+        match (packet.content, code) {
+            ([READ_INDEX_TABLE, page], 0x00) => {
+                self.count(INDEX_PAGES_READ, *page);
+                if listed.iter().any(|&byte| byte != 0) {
+                    self.count(INDEX_PAGES_NOT_ZERO, *page);
+                }
+            }
+            ([READ_INDEX_TABLE, page], 0x0B) => self.count(INDEX_PAGES_REFUSED, *page),
+            ([STORE, _, page @ ..], 0x00) => self.count(PAGES_STORED, number(page)),
+            ([LOAD_CHAR, _, page @ ..], 0x00) => self.count(PAGES_LOADED, number(page)),
+            ([STORE | LOAD_CHAR, _, page @ ..], 0x0B) if request.reader.capacity() > 256 => {
+                self.count(PAGES_BEYOND, number(page));
+            }
+            ([DELET_CHAR, numbers @ ..], 0x00) => self.add_delete(number(&numbers[..2]), number(&numbers[2..])),
+            ([TEMPLETE_NUM], 0x00) => self.count(NUMBERS_TOLD, number(listed)),
+            _ => {}
+        }
+    }
+
+    /// A DeletChar that was carried out, by page and N.
+    fn add_delete(&mut self, page: usize, count: usize) {
+        if count > 0 {
+            self.count(PAGES_DELETED, page);
+        }
+        if page < 256 && page + count > 256 {
+            self.count(DELETES_ACROSS, count);
+        }
+    }
+
+    /// The code of a Store, by what it found.
+    fn add_store(&mut self, request: &Request, code: u8) {
+        let before = &request.reader;
+        let (buffer, page) = match request.buffer_and_page(STORE) {
+            Some(named) => named,
+            None => return,
+        };
+        let template = before.template(page);
+        if before.stored(page) {
+            self.count(if template == before.buffers[buffer] { STORES_SAME } else { STORES_OTHER }, code);
+            if before.settings.transfer != 0 {
+                self.count(STORES_IN_TRANSFER, code);
+            }
+        } else {
+            self.count(STORES_VACANT, code);
+            if template.iter().any(|&byte| byte != 0) {
+                self.count(STORES_VACANT_BYTES, code);
+            }
+        }
+    }
+
+    /// A data packet of this length that is for the reader and has the right sum.
+    fn add_data(&mut self, length: usize, before: &Settings) {
+        let kind = match (length, before.transfer) {
+            (257, 0) => STRAY_257,
+            (258, 0) => STRAY_258,
+            (257, _) => DATA_257,
+            (258, _) => DATA_258,
+            _ => return,
+        };
+        self.count(kind, before.size());
+    }
+
+    fn add_receiver(&mut self, request: &Request, receiver: &Receiver, refusal: u8) {
+        if request.kind.is_line_switch() {
+            if !receiver.legal() {
+                self.count(COUNTS_SWITCHED, refusal);
+            }
+            return;
+        }
+        if !receiver.legal() {
+            self.count(COUNTS, refusal);
+        }
+        if receiver.past().iter().any(|&cell| cell != 0) {
+            self.count(PAST, refusal);
+        }
+        if request.reader.settings.locked() {
+            self.count(LOCKED, refusal);
+        }
+        if refusal == 0 {
+            self.count(PIECES, request.run.len());
+            self.count(HELD, receiver.held().len());
+        }
+    }
+
+    pub fn count(&mut self, kind: usize, which: impl Into<usize>) {
+        *self.counts.entry((kind, which.into())).or_default() += 1;
+    }
+
+    /// A line for each of these kinds.
+    pub fn lines(&self, kinds: &[usize]) -> Vec<String> {
+        let each = |&place: &usize| {
+            let kind = &KINDS[place];
+            let number = |which| self.number(place, which);
+            let counts: Vec<String> = match kind.awaited {
+                UpTo(most) => {
+                    let least = (0..=most).map(number).min().unwrap_or(0);
+                    vec![format!("each from 0 to {most}, {least} times or more")]
+                }
+                _ => kind.awaited().map(|which| format!("{}={}", kind.label(which), number(which))).collect(),
+            };
+            format!("{}: {}", kind.name, counts.join(" "))
+        };
+        kinds.iter().map(each).collect()
+    }
+
+    /// What of these kinds did not occur.
+    pub fn gaps(&self, kinds: &[usize]) -> Vec<String> {
+        let mut gaps = Vec::new();
+        for &place in kinds {
+            let kind = &KINDS[place];
+            let missing = kind.awaited().filter(|&which| self.number(place, which) == 0);
+            gaps.extend(missing.map(|which| format!("{}: {}", kind.name, kind.label(which))));
+        }
+        gaps
+    }
+
+    fn number(&self, kind: usize, which: usize) -> usize {
+        self.counts.get(&(kind, which)).copied().unwrap_or(0)
+    }
+}
+
+/// Whether a refused call would be carried out with this change of the reader.
+pub fn refused_for(change: fn(&mut Reader), request: &Request) -> bool {
+    let mut asked = request.clone();
+    change(&mut asked.reader);
+    asked.carried_out().answer.refusal == 0
+}
