@@ -40,7 +40,7 @@ abbrev pub marksOf : Settings → Marks
 marksOf s = record { verified = s .verified; filled1 = s .filled1; filled2 = s .filled2; found = s .found }
 
 -- the transfer of a record's two numbers: buffer 1 or 2 and the bytes got so far, or none, which is 0 and 0; other numbers, and any beside a mark that is not
--- fit, are kept as they lie, which refusal 3 finds
+-- fit, are kept as they lie, and refusal 3 finds them
 unfoldable pub transferOf : Marks → ℕ → ℕ → Transfer
 transferOf m b k = cond (fitMarks m && isBuffer b) (opened (second b) k) (cond (fitMarks m && eqb b 0 && eqb k 0) closed (unfit b k m))
 

@@ -1,5 +1,5 @@
 -- Marks as bytes: 0 and 1 are fit, and are what the bit says; and what the transfer beside them is.
-use mathlib.Core.Bool.{Bool, true, false, _&&_, _||_, cond}
+use mathlib.Core.Bool.{Bool, true, false, _&&_}
 use mathlib.Core.Path.{_≡_, refl}
 use Prim.Native.Nat.{ℕ, zero, suc, _≤_}
 use native.Mathlib.Omega.{arith}
@@ -56,14 +56,14 @@ pub transfer-kinds : (m : Marks) (b k : ℕ) (P : Transfer → Type 0) → (fitM
 unfolding transferOf isBuffer
 transfer-kinds m b k P none one two u = go (fitMarks m) (eqb b 1) (eqb b 2) (eqb b 0) (eqb k 0) refl refl refl refl refl
   where
-    go : (f p q x y : Bool) → fitMarks m ≡ f → eqb b 1 ≡ p → eqb b 2 ≡ q → eqb b 0 ≡ x → eqb k 0 ≡ y → P (cond (f && (p || q)) (opened q k) (cond (f && x && y) closed (unfit b k m)))
-    go false p q x y c d e g h = u
-    go true true true x y c d e g h = two c (eqb-true b 2 e)
-    go true false true x y c d e g h = two c (eqb-true b 2 e)
-    go true true false x y c d e g h = one c (eqb-true b 1 d)
-    go true false false true true c d e g h = none c (eqb-true b 0 g) (eqb-true k 0 h)
-    go true false false true false c d e g h = u
-    go true false false false y c d e g h = u
+    go : (f p q x y : Bool) → fitMarks m ≡ f → eqb b 1 ≡ p → eqb b 2 ≡ q → eqb b 0 ≡ x → eqb k 0 ≡ y → P (transferOf m b k)
+    go false p q x y c d e g h = rw c u
+    go true true true x y c d e g h = rw (c, d, e) (two c (eqb-true b 2 e))
+    go true false true x y c d e g h = rw (c, d, e) (two c (eqb-true b 2 e))
+    go true true false x y c d e g h = rw (c, d, e) (one c (eqb-true b 1 d))
+    go true false false true true c d e g h = rw (c, d, e, g, h) (none c (eqb-true b 0 g) (eqb-true k 0 h))
+    go true false false true false c d e g h = rw (c, d, e, g, h) u
+    go true false false false y c d e g h = rw (c, d, e, g) u
 
 module _ (m : Marks) (e : fitMarks m ≡ true) where
   pub none-beside : (b k : ℕ) → b ≡ 0 → k ≡ 0 → transferOf m b k ≡ closed
@@ -81,7 +81,3 @@ module _ (m : Marks) (e : fitMarks m ≡ true) where
   same-beside n f (suc zero) k l z = rw (e, f) refl
   same-beside n f (suc (suc zero)) k l z = rw (e, f) refl
   same-beside n f (suc (suc (suc b))) k l z = absurd (omega arith)
-
-pub unfit-beside : (m : Marks) (b k : ℕ) → fitMarks m ≡ false → transferOf m b k ≡ unfit b k m
-unfolding transferOf
-unfit-beside m b k e = rw e refl

@@ -156,10 +156,11 @@ transfer-means p g z (opened false got) = into p g false got z
 transfer-means p g z (opened true got) = into p g true got z
 transfer-means p g z (unfit b k m) = (λ t. t, λ t. t)
 
--- "transfer: none, or buffer 1 or 2 with the bytes got so far": two numbers of the settings record, and none is 0 and 0; and each of its marks is 0 or 1
+-- two numbers of a settings record: 0 and 0, which is none, or those of a buffer and the bytes got so far
 abbrev pub Numbered : Plain → Guarded → ℕ → ℕ → Type 0
 Numbered p g b got = ((b ≡ 0) × (got ≡ 0)) ⊎ ((b ≡ 1) × Into p (g .buffer1 .filled) got) ⊎ ((b ≡ 2) × Into p (g .buffer2 .filled) got)
 
+-- "transfer: none, or buffer 1 or 2 with the bytes got so far", beside marks of 0 and 1
 pub transfer-numbers : (p : Plain) (g : Guarded) (m : Marks) (b got : ℕ) → LegalTransfer p g (transferOf m b got) ↔ (Marked m × Numbered p g b got)
 transfer-numbers p g m b got = (to, from)
   where

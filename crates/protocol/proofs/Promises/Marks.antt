@@ -1,6 +1,7 @@
--- Demand 1: "any settings". A mark of the settings record may be any byte: one that is neither 0 nor 1 is a setting that is not legal, so that refusals 1 and 2
--- come before it and 3 is its own (`call-refusals`, `receive-refusals`); refused, the very record comes back; carried out, its marks are 0 and 1; and a
--- line switch takes any byte and leaves 0. A contract says `endedOf c .. ≡ callOf core (readerOf s ..) ..`, and so for the others: `q` is that.
+-- Demand 1: "any settings". A mark of the settings record may be any byte, and its transfer any two numbers: a mark that is neither 0 nor 1, or numbers that
+-- name no buffer, are not legal, so that refusals 1 and 2 come before them and 3 is their own (`call-refusals`, `receive-refusals`); refused, the very record
+-- comes back; carried out, its marks are 0 and 1; and a line switch takes any byte and leaves 0. A contract says
+-- `endedOf c .. ≡ callOf core (readerOf s ..) ..`, and so for the others: `q` is that.
 use mathlib.Core.Path.{_≡_, refl, sym, ap, _∙_, subst}
 use mathlib.Core.Logic.{inl, inr, _≢_}
 use mathlib.Core.List.{List}
