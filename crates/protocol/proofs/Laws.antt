@@ -20,4 +20,3 @@ pub mod Holding
 pub mod History
 pub mod Sizes
 pub mod Best
-pub mod Entries

@@ -1,0 +1,3 @@
+pub mod FirstDownload
+pub mod LongData
+pub mod LongLimits

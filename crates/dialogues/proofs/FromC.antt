@@ -1,0 +1,5 @@
+pub mod Entries
+pub mod Steps
+pub mod Lines
+pub mod Cuts
+pub mod Secrets
