@@ -21,7 +21,7 @@ use Rattle.protocol.specs.Reader.{capacity}
 use Rattle.protocol.specs.Search.{Chip}
 use Rattle.protocol.specs.Call.{core, Lent, fitChip, fitRoom, Typed, refused}
 use Rattle.protocol.specs.Receiver.{bytesIn, Line, line, Handed, fitting, runOf, handed, receiveOf}
-use Rattle.protocol.specs.Caller.{Ran, replied, drained}
+use Rattle.dialogues.specs.Caller.{Ran, replied, drained}
 use Rattle.protocol.specs.Records.{readerOf, chipOf, lentOf, receivedOf}
 use Rattle.protocol.proofs.Laws.Logic.{and-l, and-r}
 use Rattle.protocol.proofs.Laws.Finder.{used-in}

@@ -1,4 +1,3 @@
-pub mod Entries
 pub mod Steps
 pub mod Lines
 pub mod Cuts

@@ -1,3 +1,4 @@
+pub mod Laws
 pub mod Library
 pub mod Lines
 pub mod Downloads

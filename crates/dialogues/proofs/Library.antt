@@ -1,3 +1,4 @@
+pub mod Seen
 pub mod ValidCount
 pub mod Untouched
 pub mod BroughtOver

@@ -10,10 +10,11 @@ use Rattle.protocol.specs.declared.Line.{Line}
 use Rattle.protocol.specs.Numbers.{holds}
 use Rattle.protocol.specs.Reader.{Reader}
 use Rattle.protocol.specs.Call.{core, Told, Ended}
-use Rattle.protocol.specs.Dialogue.{Event, received, switch, on, Exchange}
+use Rattle.protocol.specs.Dialogue.{Event, received, switch, on}
+use Rattle.dialogues.specs.History.{Exchange}
 use Rattle.protocol.specs.Receiver.{Handed}
 use Rattle.protocol.specs.Receiver as receivers
-use Rattle.protocol.specs.Caller.{onLine}
+use Rattle.dialogues.specs.Caller.{onLine}
 use Rattle.protocol.specs.Records.{readerOf, lineOf}
 
 -- ---- what lies with the caller between two calls

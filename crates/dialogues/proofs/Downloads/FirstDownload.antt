@@ -19,14 +19,16 @@ use Rattle.protocol.specs.Data.{acknowledge, packets}
 use Rattle.protocol.specs.Step.{order, piece, hearAs, hear, ended, rested}
 use Rattle.protocol.specs.Call.{Lent, fitLent, legal, replyOf, callOf, core, Ended}
 use Rattle.protocol.specs.Records.{freshOf}
-use Rattle.protocol.specs.Dialogue.{Event, received, on, finally, Exchange, exchanges}
-use Rattle.protocol.proofs.Laws.History.{call-capacity}
+use Rattle.protocol.specs.Dialogue.{Event, received, on, finally}
+use Rattle.dialogues.specs.History.{Exchange, exchanges}
+use Rattle.dialogues.proofs.Laws.History.{call-capacity}
 use Rattle.protocol.proofs.Promises.Words.Told.{Replies, Leaves, Gives, Numbered, number-is, blank, WithBuffer}
 use Rattle.protocol.proofs.Promises.Packets.Packets.{Data, accepts-means, data-accepted}
 use Rattle.protocol.proofs.Promises.Refusals.LegalMeans.{core-holds}
 use Rattle.protocol.proofs.Promises.Refusals.StaysLegal.{Legal, stays-legal}
 use Rattle.protocol.proofs.Promises.Commands.Pieces.{GoesIn, none-ends, piece-fails, piece-ignored}
-use Rattle.protocol.proofs.Promises.Commands.Download.{heard-packet, deliver, Silent, downloaded, template}
+use Rattle.dialogues.proofs.Downloads.Download.{deliver, Silent, downloaded, template}
+use Rattle.protocol.proofs.Promises.Packets.ReadBack.{heard-packet}
 use Rattle.protocol.proofs.Promises.Commands.Settings.{sets-size}
 use Rattle.protocol.proofs.Promises.Commands.Moves.{down-awaits}
 use Rattle.protocol.proofs.Promises.Commands.Parameters.{parameters, asked-by}

@@ -21,8 +21,8 @@ use Rattle.protocol.specs.Table.{apply, rule, publicOf, freeRule}
 use Rattle.protocol.specs.Step.{hearAs, hearAt, hear, carryAs, carry, carryFree, obey, heed, ended, rested, answer, stepOf}
 use Rattle.protocol.specs.Call.{core, Lent}
 use Rattle.protocol.specs.Receiver.{bytesIn, holding, line}
-use Rattle.protocol.specs.Caller.{Try, Ran, replied, offers, served, Rests, resting, atRest, drain, drained}
-use Rattle.protocol.specs.Bench.{started}
+use Rattle.dialogues.specs.Caller.{Try, Ran, replied, offers, served, Rests, resting, atRest, drain, drained}
+use Rattle.dialogues.specs.Bench.{started}
 use Rattle.protocol.specs.Records.{originOf, freshOf}
 use Rattle.protocol.proofs.Promises.Refusals.LegalMeans.{core-holds}
 use Rattle.dialogues.proofs.Lines.Cuts.{Searchless, rests-drained, none-sees}

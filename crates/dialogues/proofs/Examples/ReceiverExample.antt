@@ -17,7 +17,7 @@ use Rattle.protocol.specs.Table.{apply, isBuffer, inRange, withParameter, statu
 use Rattle.protocol.specs.Step.{hearAs, hearAt, hear, silence, says, carryAs, carry, carryFree, obey, heed, ended, rested, fits, takeAs, takeIn, answer, stepOf, wiped, switched}
 use Rattle.protocol.specs.Call.{fitRoom, refusalOf, callAs, callOf, refused, carried, replyOf, core, fitLibrary, fitBuffers, fitLengths, fitPlain, fitTransfer, fitOrigin, fitOrigins, sound, legal, fitChip}
 use Rattle.protocol.specs.Receiver.{bytesIn, holding, line, fitting, runOf, handed, receiveRefusal, receiveAs, receiveOf}
-use Rattle.protocol.specs.Caller.{Try, replied, offers, served, resting, atRest, drain, drained}
+use Rattle.dialogues.specs.Caller.{Try, replied, offers, served, resting, atRest, drain, drained}
 use Rattle.dialogues.proofs.Examples.Examples.{fresh10}
 
 toA : List ℕ → List ℕ

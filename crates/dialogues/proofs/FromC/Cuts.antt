@@ -13,7 +13,7 @@ use Rattle.protocol.specs.Step.{order, hear, stepOf}
 use Rattle.protocol.specs.Call.{core, Lent, carried}
 use Rattle.protocol.specs.Dialogue.{Event, received, switch}
 use Rattle.protocol.specs.Receiver.{Line, Handed, runOf, handed, receiveOf}
-use Rattle.protocol.specs.Caller.{Try, Ran, offers, served, SearchesSee, Rests, resting, onLine}
+use Rattle.dialogues.specs.Caller.{Try, Ran, offers, served, SearchesSee, Rests, resting, onLine}
 use Rattle.dialogues.specs.Doors.{LineVault, lineIn, Entry, lastOf, handed as back, Receives}
 use Rattle.protocol.proofs.Laws.Holding.{holding-sized, few-held, Carried, accepted}
 use Rattle.dialogues.proofs.Lines.Cuts.{cut-free, offers-nothing, answers-nothing, stops-at-rest}

@@ -14,15 +14,16 @@ use Rattle.protocol.specs.Bytes.{Bytes}
 use Rattle.protocol.specs.Tests.{countBelow}
 use Rattle.protocol.specs.Reader.{fromPage, Reader, capacity}
 use Rattle.protocol.specs.Call.{core, Lent, Told, replyOf}
-use Rattle.protocol.specs.Dialogue.{Event, received, switch, Exchange, exchanges, history, live}
+use Rattle.protocol.specs.Dialogue.{Event, received, switch}
+use Rattle.dialogues.specs.History.{Exchange, exchanges, history, live}
 use Rattle.protocol.specs.Receiver.{bytesIn, fitting, runOf, Handed, receiveOf, lineSwitchOf}
 use Rattle.protocol.specs.Receiver as receivers
-use Rattle.protocol.specs.Caller.{onLine, finallyOn, runs, seen}
+use Rattle.dialogues.specs.Caller.{onLine, finallyOn, runs, seen}
 use Rattle.protocol.specs.Services.{countService}
 use Rattle.protocol.specs.Records.{lineOf, lentOf, receivedOf, emptiedOf, receivedAt, emptiedAt}
 use Rattle.dialogues.specs.Doors.{Memory, LineVault, readerAt, lineIn, Entry, lastOf, eventsOf, handed, Receives, seesOn, sawOn}
 use Rattle.protocol.proofs.Laws.Lines.{Line as Unless, unless, Follows}
-use Rattle.protocol.proofs.Laws.History.{ever-capacity}
+use Rattle.dialogues.proofs.Laws.History.{ever-capacity}
 use Rattle.protocol.proofs.Promises.Words.Told.{has, buffer}
 use Rattle.protocol.proofs.Promises.Refusals.LegalMeans.{core-holds, Lengths, Settled, legal-means}
 use Rattle.protocol.proofs.Promises.Refusals.Refused.{ChipLengths}

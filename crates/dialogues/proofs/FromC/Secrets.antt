@@ -18,11 +18,11 @@ use Rattle.protocol.specs.Step.{wiped}
 use Rattle.protocol.specs.Call.{core, Lent, Told, Ended, replyOf, callOf}
 use Rattle.protocol.specs.Dialogue.{Event, received, switch, on, Dialogue, over, first, dialogue, kept, Paired}
 use Rattle.protocol.specs.Receiver.{bytesIn, line, Handed, fitting, runOf, receiveOf}
-use Rattle.protocol.specs.Caller.{onLine, Talk, endsAt, begins, talk}
+use Rattle.dialogues.specs.Caller.{onLine, Talk, endsAt, begins, talk}
 use Rattle.protocol.specs.Records.{fitMark, originOf, isSet, markOf, marksOf, transferOf, plainOf}
 use Rattle.dialogues.specs.Doors.{Memory, Vault, LineVault, readerAt, readerIn, lineIn, Entry, lastOf, eventsOf, toldOf, Until, Steps, Receives}
 use Rattle.protocol.proofs.Laws.Marks.{mark-is, same-beside}
-use Rattle.dialogues.proofs.FromC.Entries.{paired-long, Tale, whole, goes-whole, goes-through}
+use Rattle.dialogues.proofs.Laws.Entries.{paired-long, Tale, whole, goes-whole, goes-through}
 use Rattle.protocol.proofs.Promises.Words.Words as words
 use Rattle.protocol.proofs.Promises.Refusals.Marks.{FitRecord}
 use Rattle.protocol.proofs.Promises.Words.OneResult.{same-origin, transfer-same}

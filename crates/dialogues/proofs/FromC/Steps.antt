@@ -13,13 +13,14 @@ use Rattle.protocol.specs.Bytes.{Bytes}
 use Rattle.protocol.specs.Tests.{countBelow}
 use Rattle.protocol.specs.Reader.{fromPage, Reader, capacity}
 use Rattle.protocol.specs.Call.{core, Lent, Told, Ended, replyOf, callOf, switchOf}
-use Rattle.protocol.specs.Dialogue.{Event, received, switch, on, finally, Exchange, exchanges, Act, history, live}
+use Rattle.protocol.specs.Dialogue.{Event, received, switch, on, finally}
+use Rattle.dialogues.specs.History.{Exchange, exchanges, Act, history, live}
 use Rattle.protocol.specs.Services.{countService}
 use Rattle.protocol.specs.Records.{marksOf, originOf, readerOf, lentOf, endedOf, switchedOf, calledAt, switchedAt}
 use Rattle.dialogues.specs.Doors.{Memory, Vault, readerAt, readerIn, Entry, lastOf, eventsOf, toldOf, Until, ended, Steps, sees, saw}
 use borrow.Author.Tests.{eqb-true, ne-eqb}
 use Rattle.protocol.proofs.Laws.Lines.{Line, unless, Follows}
-use Rattle.protocol.proofs.Laws.History.{ever-capacity}
+use Rattle.dialogues.proofs.Laws.History.{ever-capacity}
 use Rattle.protocol.proofs.Promises.Words.Told.{has, buffer}
 use Rattle.protocol.proofs.Promises.Refusals.LegalMeans.{core-holds, Lengths, Settled, legal-means}
 use Rattle.protocol.proofs.Promises.Refusals.Refused.{Unused, Ends, ChipLengths, call-refusals, Switches, switch-refusals}

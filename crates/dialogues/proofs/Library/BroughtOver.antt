@@ -21,7 +21,8 @@ use Rattle.protocol.specs.Commands.{readIndexTable, barred, command, Barred, se
 use Rattle.protocol.specs.Table.{Effect, keep, fillPage, erase, eraseAll, fillBuffer, await, note, remember, settle, apply, Row, rule, publicOf}
 use Rattle.protocol.specs.Step.{order, hear, stepOf, wiped, switched, Heard, nothing, piece, Said, silence, says, carryAs, carry, carryFree, obey, heed, ended, rested, fits, takeAs, takeIn, answer}
 use Rattle.protocol.specs.Call.{Shape, core, fitBuffers, fitTransfer, legal, Typed, Ended, refused, carried, replyOf, callOf, switchRefusal, switchAs, switchOf, fitChip, fitRoom}
-use Rattle.protocol.specs.Dialogue.{Event, received, switch, on, finally, Exchange, exchanges, Act, history, live}
+use Rattle.protocol.specs.Dialogue.{Event, received, switch, on, finally}
+use Rattle.dialogues.specs.History.{Exchange, exchanges, Act, history, live}
 use Rattle.protocol.proofs.Laws.Logic.{and-l, and-r, verdict-passed}
 use Rattle.protocol.proofs.Laws.Lists.{part-left, part-right, part-zeros}
 use Rattle.protocol.proofs.Laws.Index.{Fine, length-over, stored-over, fine-over, clear-above, clear-to, byte-over, stored-past}

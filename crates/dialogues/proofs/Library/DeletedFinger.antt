@@ -15,7 +15,7 @@ use Rattle.protocol.specs.Call.{core, Lent, fitLent, Ended, callOf}
 use Rattle.protocol.specs.Dialogue.{received, on}
 use Rattle.protocol.proofs.Laws.Answers.{spared}
 use Rattle.protocol.proofs.Laws.Locked.{rested-still}
-use Rattle.protocol.proofs.Laws.History.{call-capacity}
+use Rattle.dialogues.proofs.Laws.History.{call-capacity}
 use Rattle.protocol.proofs.Laws.Legal.{Good}
 use Rattle.protocol.proofs.Promises.Words.Told.{Replies, Says, pages, Numbered, buffer, blank, buffer-is}
 use Rattle.protocol.proofs.Promises.Refusals.LegalMeans.{core-holds}

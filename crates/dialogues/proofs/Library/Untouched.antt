@@ -18,14 +18,15 @@ use Rattle.protocol.specs.Commands.{Barred, searchFor, store, loadChar, upChar,
 use Rattle.protocol.specs.Data.{acknowledge}
 use Rattle.protocol.specs.Step.{Heard, nothing, order, piece, hear, rested}
 use Rattle.protocol.specs.Call.{Shape, core, Lent, fitLent, legal, Ended, callOf}
-use Rattle.protocol.specs.Dialogue.{Event, received, on, finally, Exchange, exchanges, Act, put, cut, cutAll, actsOf, actsIn, addressee, asks, grants, actsSeen, history}
+use Rattle.protocol.specs.Dialogue.{Event, received, on, finally}
+use Rattle.dialogues.specs.History.{Exchange, exchanges, Act, put, cut, cutAll, actsOf, actsIn, addressee, asks, grants, actsSeen, history}
 use Rattle.protocol.proofs.Laws.Logic.{eqb-same}
 use Rattle.protocol.proofs.Laws.Lists.{same-eq}
 use Rattle.protocol.proofs.Laws.Index.{Fine, not-among, stored-with, stored-span, fine-with, fine-span, fine-zeros}
 use Rattle.protocol.proofs.Laws.Effects.{away}
 use Rattle.protocol.proofs.Laws.Answers.{spared}
 use Rattle.protocol.proofs.Laws.Locked.{rested-still}
-use Rattle.protocol.proofs.Laws.History.{call-capacity, Library, Keeps, events-keep}
+use Rattle.dialogues.proofs.Laws.History.{call-capacity, Library, Keeps, events-keep}
 use Rattle.protocol.proofs.Promises.Words.Told.{Replies, Says, pages, page, has, Numbered, buffer, other}
 use Rattle.protocol.proofs.Promises.Refusals.StaysLegal.{Legal, good, rested-closed, stays-legal}
 use Rattle.protocol.proofs.Promises.Commands.Moves.{Forgets, Stored, store-moves, Deleted, delete-moves}

@@ -15,10 +15,11 @@ use Rattle.protocol.specs.Commands.{templeteNum, barred, command}
 use Rattle.protocol.specs.Data.{acknowledge}
 use Rattle.protocol.specs.Step.{order, hear, rested}
 use Rattle.protocol.specs.Call.{Shape, Lent, fitLent, legal, callOf}
-use Rattle.protocol.specs.Dialogue.{Event, finally, Exchange, exchanges, Act, history, live}
+use Rattle.protocol.specs.Dialogue.{Event, finally}
+use Rattle.dialogues.specs.History.{Exchange, exchanges, Act, history, live}
 use Rattle.protocol.proofs.Laws.Index.{Fine, stored-with, stored-span, stored-zeros, fine-with, fine-span, fine-zeros}
 use Rattle.protocol.proofs.Laws.Count.{count-ext}
-use Rattle.protocol.proofs.Laws.History.{ever-capacity, Keeps, events-keep}
+use Rattle.dialogues.proofs.Laws.History.{ever-capacity, Keeps, events-keep}
 use Rattle.protocol.proofs.Laws.Answers.{spared}
 use Rattle.protocol.proofs.Promises.Words.Told.{Gives, word}
 use Rattle.protocol.proofs.Promises.Refusals.StaysLegal.{Legal, ever-legal}

@@ -16,9 +16,9 @@ use Rattle.protocol.specs.Step.{Heard, order, hear, IsSearch, a-search, stepOf}
 use Rattle.protocol.specs.Call.{Shape, Lent, fitLent, legal, Told, replyOf, callOf}
 use Rattle.protocol.specs.Dialogue.{Event, received, switch}
 use Rattle.protocol.specs.Receiver.{bytesIn, holding, Line, line, Handed, fitting, runOf, receiveOf, lineSwitchOf}
-use Rattle.protocol.specs.Caller.{Try, Ran, replied, offers, served, SearchesSee, resting, atRest, drained, onLine, finallyOn, seen, Talk, endsAt, begins, talk}
+use Rattle.dialogues.specs.Caller.{Try, Ran, replied, offers, served, SearchesSee, resting, atRest, drained, onLine, finallyOn, seen, Talk, endsAt, begins, talk}
 use Rattle.protocol.proofs.Laws.Logic.{and-l, and-r, and-i, eq→eqb}
-use Rattle.protocol.proofs.Laws.Drain.{drained-rest, drained-call}
+use Rattle.dialogues.proofs.Laws.Drain.{drained-rest, drained-call}
 use Rattle.dialogues.proofs.Lines.Cuts.{drains-by-call}
 
 -- a reply, unless it is silence

@@ -16,12 +16,12 @@ use Rattle.protocol.specs.Step.{stepOf}
 use Rattle.protocol.specs.Call.{Shape, Lent, fitLent, Ended, replyOf, carried}
 use Rattle.protocol.specs.Dialogue.{Event, received, switch, on, finally}
 use Rattle.protocol.specs.Receiver.{bytesIn, holding, Line, line, Handed, fitting, runOf, handed, receiveOf, lineSwitchOf}
-use Rattle.protocol.specs.Caller.{Try, Ran, replied, offers, served, SearchesSee, Rests, resting, onLine, finallyOn}
+use Rattle.dialogues.specs.Caller.{Try, Ran, replied, offers, served, SearchesSee, Rests, resting, onLine, finallyOn}
 use Rattle.protocol.proofs.Laws.Logic.{and-l, and-r, and-i, eq→eqb}
 use Rattle.protocol.proofs.Laws.Answers.{call-legal}
 use Rattle.protocol.proofs.Laws.Finder.{used-in}
 use Rattle.protocol.proofs.Laws.Holding.{in-holding, holding-sized, few-in, few-held, receive-kinds, receive-legal, switch-kinds}
-use Rattle.protocol.proofs.Laws.History.{call-capacity, ever-capacity}
+use Rattle.dialogues.proofs.Laws.History.{call-capacity, ever-capacity}
 use Rattle.protocol.proofs.Promises.Refusals.StaysLegal.{Legal, stays-legal}
 use Rattle.protocol.proofs.Promises.Packets.ZeroUsed.{empty-run}
 use Rattle.dialogues.proofs.Lines.Cuts.{run-left, idle, run-same, fits-nil, cut-free, none-fits, length-held, full-drops, count-after, took-is}

@@ -19,14 +19,14 @@ use Rattle.protocol.specs.Search.{Chip}
 use Rattle.protocol.specs.Step.{nothing, hear, IsSearch, stepOf}
 use Rattle.protocol.specs.Call.{Shape, Lent, fitLent, legal, replyOf, carried, callOf}
 use Rattle.protocol.specs.Receiver.{bytesIn, holding, Line, line, Handed, fitting, runOf, handed, receiveOf}
-use Rattle.protocol.specs.Caller.{Try, Ran, replied, offers, served, SearchesSee, Rests, resting, atRest, drained}
+use Rattle.dialogues.specs.Caller.{Try, Ran, replied, offers, served, SearchesSee, Rests, resting, atRest, drained}
 use Rattle.protocol.proofs.Laws.Logic.{and-l, and-r}
 use Rattle.protocol.proofs.Laws.Lists.{take-lay, lay-nothing}
 use Rattle.protocol.proofs.Laws.Answers.{call-legal}
 use Rattle.protocol.proofs.Laws.ChipFree.{chip-free}
 use Rattle.protocol.proofs.Laws.Finder.{used-in}
-use Rattle.protocol.proofs.Laws.Growth.{Grows, settled, goes-on, grows, zero-silent}
-use Rattle.protocol.proofs.Laws.Drain.{drained-rest, others, settled-left, goes-on-left, drained-more, step-rest}
+use Rattle.dialogues.proofs.Laws.Growth.{Grows, settled, goes-on, grows, zero-silent}
+use Rattle.dialogues.proofs.Laws.Drain.{drained-rest, others, settled-left, goes-on-left, drained-more, step-rest}
 use Rattle.protocol.proofs.Laws.Holding.{in-holding, all-in, few-held, length-run, reply-taken, receive-legal, Carried, accepted}
 use Rattle.protocol.proofs.Promises.Packets.ZeroUsed.{Waiting, empty-run, found-waits}
 

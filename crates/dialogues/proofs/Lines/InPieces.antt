@@ -22,21 +22,22 @@ use Rattle.protocol.specs.Data.{acknowledge, packets}
 use Rattle.protocol.specs.Step.{nothing, hearAs, hearAt, hear, IsSearch, stepOf}
 use Rattle.protocol.specs.Call.{Lent, fitRoom, fitLent, replyOf, callOf, core, fitChip}
 use Rattle.protocol.specs.Records.{freshOf}
-use Rattle.protocol.specs.Dialogue.{received, on, finally, exchanges}
+use Rattle.protocol.specs.Dialogue.{received, on, finally}
+use Rattle.dialogues.specs.History.{exchanges}
 use Rattle.protocol.specs.Receiver.{bytesIn, holding, line}
-use Rattle.protocol.specs.Caller.{Try, Ran, replied, offers, served, SearchesSee, Rests, resting, atRest, drain, drained}
+use Rattle.dialogues.specs.Caller.{Try, Ran, replied, offers, served, SearchesSee, Rests, resting, atRest, drain, drained}
 use Rattle.protocol.proofs.Laws.Logic.{and-l, and-i}
 use Rattle.protocol.proofs.Laws.Finder.{length-packet, accepts-most}
 use Rattle.protocol.proofs.Laws.Sizes.{Size, sizes}
-use Rattle.protocol.proofs.Laws.Growth.{used-nil}
-use Rattle.protocol.proofs.Laws.Drain.{drained-more}
-use Rattle.protocol.proofs.Laws.History.{call-capacity}
+use Rattle.dialogues.proofs.Laws.Growth.{used-nil}
+use Rattle.dialogues.proofs.Laws.Drain.{drained-more}
+use Rattle.dialogues.proofs.Laws.History.{call-capacity}
 use Rattle.protocol.proofs.Laws.Holding.{accepted}
 use Rattle.protocol.proofs.Promises.Words.Told.{Numbered, blank, WithBuffer}
 use Rattle.protocol.proofs.Promises.Refusals.LegalMeans.{core-holds}
 use Rattle.protocol.proofs.Promises.Refusals.StaysLegal.{Legal, stays-legal}
 use Rattle.protocol.proofs.Promises.Packets.ReadBack.{ReadsAs, packet-reads}
-use Rattle.protocol.proofs.Promises.Commands.Download.{deliver}
+use Rattle.dialogues.proofs.Downloads.Download.{deliver}
 use Rattle.dialogues.proofs.Lines.Cuts.{rests-drained, Searchless, none-left, searchless-more, none-sees, drains-by-call}
 use Rattle.dialogues.proofs.Lines.Caller.{spoken, replied-is}
 use Rattle.dialogues.proofs.Lines.ComesToRest.{Ready, offers-ready}

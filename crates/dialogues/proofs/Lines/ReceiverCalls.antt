@@ -15,9 +15,10 @@ use Rattle.protocol.specs.Commands.{templeteNum, barred, command}
 use Rattle.protocol.specs.Data.{acknowledge}
 use Rattle.protocol.specs.Step.{order, hear, rested, stepOf}
 use Rattle.protocol.specs.Call.{Shape, Lent, fitLent, Ended, replyOf, carried, callOf, switchOf}
-use Rattle.protocol.specs.Dialogue.{Event, received, switch, on, finally, Exchange, exchanges, Dialogue, over, first, dialogue}
+use Rattle.protocol.specs.Dialogue.{Event, received, switch, on, finally, Dialogue, over, first, dialogue}
+use Rattle.dialogues.specs.History.{Exchange, exchanges}
 use Rattle.protocol.specs.Receiver.{holding, Line, Handed, runOf, handed, receiveOf, lineSwitchOf}
-use Rattle.protocol.specs.Caller.{onLine, finallyOn, runs, seen, Talk, endsAt, begins, talk}
+use Rattle.dialogues.specs.Caller.{onLine, finallyOn, runs, seen, Talk, endsAt, begins, talk}
 use Rattle.protocol.proofs.Laws.Logic.{T→true}
 use Rattle.protocol.proofs.Laws.Answers.{switch-stays}
 use Rattle.protocol.proofs.Laws.Holding.{few-held, handedBy, receive-kinds, receive-call, switch-tells, switch-kinds}

@@ -16,7 +16,7 @@ use Rattle.protocol.specs.Step.{wiped}
 use Rattle.protocol.specs.Call.{Shape, Lent, legal, Told, Ended, replyOf, refused, refusalOf, callOf, switchOf, fitChip, fitRoom}
 use Rattle.protocol.specs.Dialogue.{Event, received, switch, kept, Paired}
 use Rattle.protocol.specs.Receiver.{bytesIn, holding, Line, line, Handed, fitting, runOf, handed, declined, receiveOf, lineSwitchOf}
-use Rattle.protocol.specs.Caller.{onLine, Talk, endsAt, begins, talk}
+use Rattle.dialogues.specs.Caller.{onLine, Talk, endsAt, begins, talk}
 use Rattle.protocol.proofs.Laws.Locked.{veiled, toldBy, plainBy, shut-of, locked-call, plain-or, locked-switch, wiped-legal}
 use Rattle.protocol.proofs.Laws.Holding.{handedBy, overfull, receive-call, receive-over, refusal-legal, switch-tells, switch-kinds}
 use Rattle.protocol.proofs.Promises.Secrets.Lock.{mark, Bars, ButStatus, Alike, FirstHalf, marked-legal, first-half}

@@ -5,7 +5,6 @@ pub mod Codes
 pub mod Rows
 pub mod Moves
 pub mod Upload
-pub mod Download
 pub mod Settings
 pub mod Opens
 pub mod Switch

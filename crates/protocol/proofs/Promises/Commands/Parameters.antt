@@ -17,7 +17,7 @@ use Rattle.protocol.specs.Step.{Heard, order, hearAs, hear}
 use Rattle.protocol.proofs.Laws.Lists.{from}
 use Rattle.protocol.proofs.Laws.Commands.{Each, At, row-law, own-code, Fits, order-fits}
 use Rattle.protocol.proofs.Promises.Packets.Finding.{WholeAt, contentOf, content-long, first-content, Hears, no-packet, another, answered, ordered, more, last, heard, hears}
-use Rattle.protocol.proofs.Promises.Commands.Download.{heard-packet}
+use Rattle.protocol.proofs.Promises.Packets.ReadBack.{heard-packet}
 
 -- the content is a right packet's, and reads as this command
 abbrev Reads : List ℕ → Command → Type 0

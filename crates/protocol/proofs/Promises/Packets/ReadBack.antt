@@ -13,9 +13,10 @@ use Rattle.protocol.specs.Numbers.{headBytes, frameBytes, fourBytes}
 use Rattle.protocol.specs.Bytes.{two, byteAt, wordAt}
 use Rattle.protocol.specs.Packet.{lengthOf, sumOf, packet, accepts, addressAt, identifierAt, lengthAt, contentAt, endAt, rightAt, Made, buildRefusal, buildAs, buildOf}
 use Rattle.protocol.specs.Finder.{marksAt, startOf, findOf, usedOf}
+use Rattle.protocol.specs.Step.{hearAs, hearAt, hear}
 use Rattle.protocol.proofs.Laws.Logic.{eqb-same, verdict-passed, and-l}
 use Rattle.protocol.proofs.Laws.Lists.{by-four, two-bytes, take-lay}
-use Rattle.protocol.proofs.Laws.Finder.{length-packet, accepts-most, longest-word, found-at}
+use Rattle.protocol.proofs.Laws.Finder.{length-packet, accepts-most, longest-word, found-at, heard-at}
 
 -- the run s starts with the packet of this address, identifier and content, and its sum is right
 pub record ReadsAs (s a : List ℕ) (i : ℕ) (c : List ℕ) : Type 0 where
@@ -100,3 +101,11 @@ built-back a i c room h = go (buildRefusal i c room) refl
           reads = rw (take-lay p room) back;
         }
     go (suc k) e z = absurd (omega arith)
+
+-- what a packet for the address a says to its reader
+pub heard-packet : (a : List ℕ) (i : ℕ) (c : List ℕ) → length a ≡ fourBytes → T (accepts i (lengthOf c)) → hear a (packet a i c) ≡ hearAs i true c
+unfolding hear
+heard-packet a i c h t =
+    let s : List ℕ = packet a i c in
+    let b : ReadsAs s a i c = packet-reads a i c h t in
+    ap (hearAt a s) (b .found) ∙ heard-at a s 0 (lengthOf c) (b .address) ∙ rw (b .right, b .identifier, b .content) refl

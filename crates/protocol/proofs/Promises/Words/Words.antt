@@ -15,7 +15,7 @@ use Rattle.protocol.specs.Index.{bit, stored, setBits}
 use Rattle.protocol.specs.Reader.{Marks, closed, opened, unfit, Plain, noOrigin, fromPage, Buffer, Guarded, Reader, capacity, sizeOf, keyed, locked, bufferOf, emptied, loadedFrom, storedOn, fresh, zeroed}
 use Rattle.protocol.specs.Table.{isBuffer, second, statusOf}
 use Rattle.protocol.specs.Call.{Shape, core, Lent, Told, replyOf, callOf, switchOf}
-use Rattle.protocol.specs.Dialogue.{Event, received, switch, on, finally, over, first, dialogue, exchanges}
+use Rattle.protocol.specs.Dialogue.{Event, received, switch, on, finally, over, first, dialogue}
 use Rattle.protocol.specs.Records.{fitMark, fitMarks, transferOf, originOf, freshOf}
 use Rattle.protocol.proofs.Laws.Logic.{T→true, T→false, and-l, and-r, and-i}
 use Rattle.protocol.proofs.Laws.Marks.{fit-marks, fit-verified, fit-filled1, fit-filled2, fit-found, transfer-kinds, none-beside, into-beside}
@@ -276,11 +276,6 @@ pub record Sequences (σ : Shape) : Type 0 where
   pub finally-none : (r : Reader) → finally σ r [] ≡ r
   pub finally-run : (r : Reader) (s : List ℕ) (lent : Lent) (es : List Event) → finally σ r (received s lent ∷ es) ≡ finally σ (callOf σ r s lent .after) es
   pub finally-switch : (r : Reader) (es : List Event) → finally σ r (switch ∷ es) ≡ finally σ (switchOf r .after) es
-  -- what the host saw: the run of each call and the reply to it, the front of the reply room; of a line switch nothing
-  pub seen-none : (r : Reader) → exchanges σ r [] ≡ []
-  pub seen-run : (r : Reader) (s : List ℕ) (lent : Lent) (es : List Event) → exchanges σ r (received s lent ∷ es)
-      ≡ record { run = s; reply = take (callOf σ r s lent .told .length) (callOf σ r s lent .told .room) } ∷ exchanges σ (callOf σ r s lent .after) es
-  pub seen-switch : (r : Reader) (es : List Event) → exchanges σ r (switch ∷ es) ≡ exchanges σ (switchOf r .after) es
   -- a dialogue tells all that each event got back; it stops behind the first that leaves the verified mark set, and goes on behind every other
   pub dialogue-none : (r : Reader) → dialogue σ r [] ≡ record { events = []; told = []; last = r }
   pub dialogue-stops : (r : Reader) (e : Event) (es : List Event) → on σ r e .after .plain .verified ≡ true
@@ -291,7 +286,7 @@ pub record Sequences (σ : Shape) : Type 0 where
       record { events = e ∷ d .events; told = on σ r e .told ∷ d .told; last = d .last })
 
 pub sequences : (σ : Shape) → Sequences σ
-unfolding finally on exchanges replyOf dialogue over first
+unfolding finally on dialogue over first
 sequences σ =
     record {
       on-run = λ r s lent. refl;
@@ -299,9 +294,6 @@ sequences σ =
       finally-none = λ r. refl;
       finally-run = λ r s lent es. refl;
       finally-switch = λ r es. refl;
-      seen-none = λ r. refl;
-      seen-run = λ r s lent es. refl;
-      seen-switch = λ r es. refl;
       dialogue-none = λ r. refl;
       dialogue-stops = λ r e es v. rw v refl;
       dialogue-goes-on = λ r e es v. rw v refl;

@@ -6,13 +6,14 @@ use mathlib.Core.List.{List, [], _∷_}
 use Prim.Native.Nat.{ℕ, zero, suc}
 use lib.Dec.{eqb}
 use lib.ListN.{length, take, drop}
 use Rattle.protocol.specs.Finder.{findOf, usedOf}
 use Rattle.protocol.specs.Reader.{Reader}
 use Rattle.protocol.specs.Search.{Chip}
 use Rattle.protocol.specs.Step.{hear, IsSearch, stepOf}
 use Rattle.protocol.specs.Call.{Shape, Lent, Told, replyOf}
-use Rattle.protocol.specs.Dialogue.{Event, received, switch, Exchange}
+use Rattle.protocol.specs.Dialogue.{Event, received, switch}
+use Rattle.dialogues.specs.History.{Exchange}
 use Rattle.protocol.specs.Receiver.{bytesIn, holding, Line, line, Handed, runOf, receiveOf, lineSwitchOf}
 
 -- ---- "the caller offers the rest, then an empty piece"
 

@@ -8,25 +8,26 @@ use Prim.Native.Nat.{ℕ, zero, suc, _+_, _*_, _/_, _≤_, _<_}
 use native.Mathlib.Omega.{arith}
 use lib.Dec.{T, leb→le, ltb→lt, eqb·suc-zero}
 use lib.ListN.{length, length-replicate}
 use Rattle.protocol.specs.declared.Found.{Found}
 use Rattle.protocol.specs.declared.Found.the-variants.{Noise, Unfinished, Unfit, Whole}
 use Rattle.protocol.specs.Numbers.{pageBytes, done}
 use Rattle.protocol.specs.Bytes.{two, zeros, same, lay, follow}
 use Rattle.protocol.specs.Packet.{packet, addressAt, identifierAt, rightAt, contentAt}
 use Rattle.protocol.specs.Finder.{findOf}
 use Rattle.protocol.specs.Index.{stored, setBit, clearBits}
 use Rattle.protocol.specs.Reader.{Transfer, closed, opened, unfit, Reader, capacity, bufferOf, emptied, withLibrary, withNotepad, withBuffer, withoutPages, withFound}
 use Rattle.protocol.specs.Commands.{Barred, searchFor, store, loadChar, upChar, downChar, deletChar, empty, setSysPara, setPassword, setAddress, writeNotepad, readNotepad, templeteNum, readIndexTable, barred, command}
 use Rattle.protocol.specs.Data.{acknowledge}
 use Rattle.protocol.specs.Search.{Chip}
 use Rattle.protocol.specs.Table.{second, rule, apply}
 use Rattle.protocol.specs.Step.{Heard, nothing, order, hearAs, hearAt, hear, Said, silence, says, carryAs, carryFree, ended, rested, takeAs, answer, stepOf, switched, wiped}
 use Rattle.protocol.specs.Call.{Shape, Lent, fitBuffers, fitLengths, legal, Ended, replyOf, refused, carried, callOf, switchRefusal, switchAs, switchOf}
-use Rattle.protocol.specs.Dialogue.{Event, received, switch, on, finally, exchanges, Act, put, cut, cutAll, actsOf, actsIn, addressee, asks, grants, actsSeen, history}
+use Rattle.protocol.specs.Dialogue.{Event, received, switch, on, finally}
+use Rattle.dialogues.specs.History.{exchanges, Act, put, cut, cutAll, actsOf, actsIn, addressee, asks, grants, actsSeen, history}
 use Rattle.protocol.proofs.Laws.Logic.{T→false, and-l, and-r, passed}
 use Rattle.protocol.proofs.Laws.Lists.{same-refl, same-eq, same-front, take-lay, length-lay}
 use Rattle.protocol.proofs.Laws.Answers.{spared, answer-kinds, call-kinds}
 use Rattle.protocol.proofs.Laws.Legal.{buffer-long, fit-buffer, Shelf, shelf}
 
 -- templates t of c pages, and an index x of m bytes that has a bit for each
 pub record Library (m : ℕ) (t x : List ℕ) (c : ℕ) : Type 0 where

@@ -8,38 +8,30 @@ use lib.Dec.{T, eqb, eqb·suc-zero}
 use borrow.Author.Tests.{lt-ltb}
 use lib.ListN.{length, take, drop, length-drop, take-append-drop}
 use lib.Seq.{take-all, length-take-le}
 use Rattle.protocol.specs.Numbers.{pageBytes, fourBytes, dataPacket, lastPacket}
 use Rattle.protocol.specs.Bytes.{lay}
-use Rattle.protocol.specs.Packet.{packet, lengthOf, accepts}
+use Rattle.protocol.specs.Packet.{packet, accepts}
 use Rattle.protocol.specs.Reader.{Transfer, closed, opened, Plain, Origin, noOrigin, Buffer, Guarded, Reader, sizeOf, bufferOf, locked, withTransfer, withBuffer, reader, capacity}
 use Rattle.protocol.specs.Search.{Chip}
 use Rattle.protocol.specs.Commands.{barred, downChar, command}
 use Rattle.protocol.specs.Data.{acknowledge, packets}
-use Rattle.protocol.specs.Step.{order, hearAs, hearAt, hear, silence, rested, fits, laidIn, takeAs, takeIn, answer, stepOf}
+use Rattle.protocol.specs.Step.{order, hearAs, hear, silence, rested, fits, laidIn, takeAs, takeIn, answer, stepOf}
 use Rattle.protocol.specs.Call.{Shape, Lent, fitLent, fitTransfer, replyOf, carried, callOf, Ended}
-use Rattle.protocol.specs.Dialogue.{Event, received, on, finally, Exchange, exchanges}
+use Rattle.protocol.specs.Dialogue.{Event, received, on, finally}
+use Rattle.dialogues.specs.History.{Exchange, exchanges}
 use Rattle.protocol.proofs.Laws.Logic.{eqb-same}
 use Rattle.protocol.proofs.Laws.Lists.{length-lay, head-lay, last-lay}
-use Rattle.protocol.proofs.Laws.Finder.{heard-at}
 use Rattle.protocol.proofs.Laws.Effects.{buffer-same, buffer-own}
 use Rattle.protocol.proofs.Laws.Origins.{unfilled-none}
 use Rattle.protocol.proofs.Laws.Answers.{call-legal}
-use Rattle.protocol.proofs.Laws.History.{call-capacity}
+use Rattle.dialogues.proofs.Laws.History.{call-capacity}
 use Rattle.protocol.proofs.Laws.Legal.{buffer-long, Good, Moving, moving}
 use Rattle.protocol.proofs.Laws.Sizes.{Size}
 use Rattle.protocol.proofs.Promises.Words.Told.{Leaves, Numbered, number, blank, WithBuffer, with-buffer, number-is}
 use Rattle.protocol.proofs.Promises.Commands.Moves.{down-awaits}
-use Rattle.protocol.proofs.Promises.Packets.ReadBack.{ReadsAs, packet-reads}
+use Rattle.protocol.proofs.Promises.Packets.ReadBack.{heard-packet}
 use Rattle.protocol.proofs.Promises.Refusals.ReplyFits.{size-of}
 use Rattle.protocol.proofs.Promises.Refusals.StaysLegal.{Legal, good, stays-legal}
-
--- what a packet for the address a says to its reader
-pub heard-packet : (a : List ℕ) (i : ℕ) (c : List ℕ) → length a ≡ fourBytes → T (accepts i (lengthOf c)) → hear a (packet a i c) ≡ hearAs i true c
-unfolding hear
-heard-packet a i c h t =
-    let s : List ℕ = packet a i c in
-    let b : ReadsAs s a i c = packet-reads a i c h t in
-    ap (hearAt a s) (b .found) ∙ heard-at a s 0 (lengthOf c) (b .address) ∙ rw (b .right, b .identifier, b .content) refl
 
 buffer-twice : (w : Bool) (a b : Buffer) (g : Guarded) → withBuffer w b (withBuffer w a g) ≡ withBuffer w b g
 unfolding withBuffer
