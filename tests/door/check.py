@@ -125,7 +125,7 @@ def build_again(copy):
     os.close(locked)
     os.utime(copy.path("crates/wire/src/finder.rt"))
     run(copy, "a source with a new time", 0)
-    append(copy.path("crates/probe/src/main.rt"), "// more\n")
+    append(copy.path("crates/step/src/lib.rt"), "// more\n")
     run(copy, "a change where the reader does not stand on it", 0)
     times = os.stat(copy.path("crates/wire/src/finder.rt"))
     append(copy.path("crates/wire/src/finder.rt"), "// more\n")

@@ -21,14 +21,14 @@ use Rattle.protocol.specs.Reader.{capacity}
 use Rattle.protocol.specs.Search.{Chip}
 use Rattle.protocol.specs.Call.{core, Lent, fitChip, fitRoom, Typed, refused}
 use Rattle.protocol.specs.Receiver.{bytesIn, Line, line, Handed, fitting, runOf, handed, receiveOf}
-use Rattle.protocol.specs.Caller.{Ran, replied, drained}
+use Rattle.dialogues.specs.Caller.{Ran, replied, drained}
 use Rattle.protocol.specs.Records.{readerOf, chipOf, lentOf, receivedOf}
 use Rattle.protocol.proofs.Laws.Logic.{and-l, and-r}
 use Rattle.protocol.proofs.Laws.Finder.{used-in}
 use Rattle.protocol.proofs.Laws.Holding.{receive-kinds, receive-legal}
-use Rattle.protocol.proofs.Promises.LegalMeans.{core-holds}
-use Rattle.protocol.proofs.Promises.Cuts.{offered, count-after, took-is, length-held, all-drained}
-use Rattle.protocol.proofs.Promises.ReceiverCalls.{line-fits}
+use Rattle.protocol.proofs.Promises.Refusals.LegalMeans.{core-holds}
+use Rattle.dialogues.proofs.Lines.Cuts.{offered, count-after, took-is, length-held, all-drained}
+use Rattle.dialogues.proofs.Lines.ReceiverCalls.{line-fits}
 use Rattle.bench.specs.Offer.{noScores, noThresholds, isLast, Offered, Drained}
 
 -- ---- one call

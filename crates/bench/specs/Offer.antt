@@ -9,7 +9,7 @@ use Rattle.protocol.specs.Numbers.{holds, benchPages, levels}
 use Rattle.protocol.specs.Bytes.{zeros}
 use Rattle.protocol.specs.Call.{core, Lent}
 use Rattle.protocol.specs.Receiver.{bytesIn, Line, Handed, receiveOf}
-use Rattle.protocol.specs.Caller.{drained}
+use Rattle.dialogues.specs.Caller.{drained}
 use Rattle.protocol.specs.Records.{chipOf}
 
 -- what the program lends for want of a chip: a score of 0 for each of its 64 pages, and five thresholds of 0

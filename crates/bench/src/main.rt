@@ -7,7 +7,7 @@ ghost use mathlib.Core.Path.{_≡_};
 ghost use lib.ListN.{length};
 ghost use Rattle.protocol.specs.Receiver.{line};
 ghost use Rattle.protocol.specs.Records.{readerOf};
-ghost use Rattle.protocol.specs.Bench.{started};
+ghost use Rattle.dialogues.specs.Bench.{started};
 ghost use Rattle.bench.specs.Offer.{Drained};
 ghost use Rattle.bench.specs.Start.{Zeroed};
 use libc::STDERR_FILENO;

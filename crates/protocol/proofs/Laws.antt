@@ -14,10 +14,6 @@ pub mod Legal
 pub mod Proper
 pub mod Locked
 pub mod ChipFree
-pub mod Growth
-pub mod Drain
 pub mod Holding
-pub mod History
 pub mod Sizes
 pub mod Best
-pub mod Entries

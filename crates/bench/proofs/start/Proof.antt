@@ -8,7 +8,7 @@ use Rattle.protocol.specs.declared.Receiver.{Receiver}
 use Rattle.protocol.specs.Reader.{emptied, zeroed}
 use Rattle.protocol.specs.Receiver.{holding, line}
 use Rattle.protocol.specs.Records.{originOf, readerOf, freshOf}
-use Rattle.protocol.specs.Bench.{started}
+use Rattle.dialogues.specs.Bench.{started}
 use Rattle.bench.specs.Start.{Zeroed}
 use Rattle.bench.proofs.start.Statement.{statement}
 use Rattle.bench.proofs.start.Tie as tie

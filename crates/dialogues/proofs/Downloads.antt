@@ -1,0 +1,4 @@
+pub mod Download
+pub mod FirstDownload
+pub mod LongData
+pub mod LongLimits

@@ -1,0 +1,4 @@
+pub mod ReceiverExample
+pub mod Met
+pub mod Examples
+pub mod Bench

@@ -1,0 +1,4 @@
+pub mod Steps
+pub mod Lines
+pub mod Cuts
+pub mod Secrets

@@ -1,0 +1,4 @@
+pub mod Growth
+pub mod Drain
+pub mod History
+pub mod Entries

@@ -1,0 +1,7 @@
+pub mod Seen
+pub mod ValidCount
+pub mod Untouched
+pub mod BroughtOver
+pub mod DeletedFinger
+pub mod Faithful
+pub mod SizeCode

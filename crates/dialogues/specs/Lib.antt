@@ -1,0 +1,4 @@
+pub mod History
+pub mod Caller
+pub mod Doors
+pub mod Bench

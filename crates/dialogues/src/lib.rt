@@ -1,0 +1,1 @@
+// What follows of many calls: theorems alone, and no function.

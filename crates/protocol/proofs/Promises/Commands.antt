@@ -1,0 +1,14 @@
+pub mod Order
+pub mod Pieces
+pub mod Parameters
+pub mod Codes
+pub mod Rows
+pub mod Moves
+pub mod Upload
+pub mod Settings
+pub mod Opens
+pub mod Switch
+pub mod Ones
+pub mod Searches
+pub mod Fitter
+pub mod Services
