@@ -5,7 +5,7 @@
 /* Prints the tables of instruction counts. */
 int print_counts(void);
 
-/* Compares paths and replies of pairs of locked readers, of ours or of the reader in plain C. */
-int compare_traces(int of_plain);
+/* Compares paths and replies of pairs of locked readers, of ours or of the reader in plain C, on whole runs or in pieces. */
+int compare_traces(int of_plain, int pieces);
 
 #endif

@@ -1,6 +1,6 @@
 /*
  * Pairs of legal locked readers that differ only in guarded contents get the same runs and line switches, up to and
- * including the right password; first whole, by the step, and then in pieces, by receivers that hold the same. The
+ * including the right password; whole, by the step, or in pieces, by receivers that hold the same. The
  * addresses of a call's instructions must be the same in both, and so must the bytes of the reply.
  */
 #include "benchmarks.h"
@@ -375,14 +375,12 @@ static int compare_pairs(const char *name, size_t pairs, size_t round) {
     return differ == 0 && unlocked_differ == pairs;
 }
 
-int compare_traces(int of_plain) {
+int compare_traces(int of_plain, int pieces) {
     if (command_of(READ_SYS_PARA_NUMBER, 1).content[0] != 0x0F) fail("ReadSysPara is not where it is looked for");
     step = of_plain ? plain_step : bystrodol_step;
     line_switch = of_plain ? plain_line_switch : bystrodol_line_switch;
     receive = of_plain ? plain_receive : bystrodol_receive;
     receiver_switch = of_plain ? plain_receiver_switch : bystrodol_receiver_switch;
-    int is_well = compare_pairs("traces", ROUNDS * KINDS * CAPACITIES, KINDS * CAPACITIES);
-    in_pieces = 1;
-    is_well &= compare_pairs("traces in pieces", ROUNDS * KINDS, KINDS);
-    return !is_well;
+    in_pieces = pieces;
+    return pieces ? !compare_pairs("traces in pieces", ROUNDS * KINDS, KINDS) : !compare_pairs("traces", ROUNDS * KINDS * CAPACITIES, KINDS * CAPACITIES);
 }
