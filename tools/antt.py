@@ -139,9 +139,9 @@ def arrows(text):
     return [" ".join(part.split()) for part in parts]
 
 
-def arguments(head):
-    """The arguments of a record, by the line that declares it, and their types."""
-    return {name: kind for names, kind in re.findall(r"\(([^():]+) : ([^()]+)\)", head) for name in names.split()}
+def arguments(record):
+    """The arguments of a record that is declared so, and their types."""
+    return {name: kind for names, kind in re.findall(r"\(([^():]+) : ([^()]+)\)", record.split(" where")[0]) for name in names.split()}
 
 
 Edit = namedtuple("Edit", "start end text")
@@ -192,7 +192,7 @@ class Definitions:
             if found := re.match(r"(?:pub )?(data|record) (\w+)", head):
                 if found[1] == "record":
                     self.records[found[2]] = dict(inside)
-                    self.types[found[2]] = [*arguments(head).values(), "Type 0"]
+                    self.types[found[2]] = [*arguments(block).values(), "Type 0"]
                 else:
                     self.variants(inside)
             elif found := re.fullmatch(r"(\w+) = (0x[0-9a-f]+|\d+)", block):
@@ -247,9 +247,9 @@ class Definitions:
 
     def records_of(self, source):
         for start, block in source.blocks:
-            if not (head := re.match(r"pub record (\S+) .*where", block)):
+            if not (head := re.match(r"pub record (\S+) ", block)):
                 continue
-            known, facts = arguments(head[0]), []
+            known, facts = arguments(block), []
             for field in re.finditer(r"^  pub (\S+) : (.*?)(?=\n  \S|\Z)", block, re.M | re.S):
                 left = Node("name", start + field.start(), start + field.end(1), [], field[1])
                 right = self.parsed(source, start + field.start(2), start + field.end())

@@ -174,27 +174,30 @@ VALUES = 0, 1, 2, 8, 255, 256, 999, 1000
 
 
 def tests_at(d, s, e, n):
-    """What tells one value from others at a piece: the booleans and numbers of the equation that are known there."""
+    """What tells one value from others at a piece: of each boolean and each number of the equation that is known there, its tests."""
     outside = {let.more for let in pieces(e.right) if let.kind == "let" and not let.parts[1].start <= n.start < let.parts[1].end}
+    tests = {}
     for piece in [*(part for part in pieces(e.left) if part.kind == "name"), *pieces(e.right)]:
-        names = {part.more for part in pieces(piece) if part.kind == "name"}
-        if not names & {*e.types} or names & outside or piece.start <= n.start and n.end < piece.end or s.of(piece).startswith("cond "):
+        text, names = grouped(s.of(piece)), {part.more for part in pieces(piece) if part.kind == "name"}
+        if not names & {*e.types} or names & outside or piece.start <= n.start and n.end < piece.end or text.startswith("(cond "):
             continue
         kind = d.type_of(piece, e.types)
         if kind == "Bool" and piece.kind in ("name", "field"):
-            yield s.of(piece)
+            tests[text] = [text]
         elif kind == "ℕ" and piece.kind in ("name", "field", "apply"):
-            yield from [f"eqb {grouped(s.of(piece))} {value}" for value in VALUES] + [f"leb 256 {grouped(s.of(piece))}"]
+            tests[text] = [f"(eqb {text} {value})" for value in VALUES] + [f"(leb 256 {text})"]
+    return tests
 
 
 def at_one_value(d, s, e, edit, seed):
-    """A change of another rule, at one value: the smallest piece around it that is a number or a boolean is decided by a test, drawn by the seed."""
+    """A change of another rule at one value, drawn by the seed: a test decides the smallest piece around it that is a number or a boolean."""
     around = [n for n in pieces(e.right) if n.start <= edit.start and edit.end <= n.end and n.kind != "group" and d.type_of(n, e.types) in ("ℕ", "Bool")]
     for n in sorted(around, key=lambda n: n.end - n.start)[:1]:
         new = s.text[n.start:edit.start] + edit.text + s.text[edit.end:n.end]
         key = f"{seed} {s.name} {s.of(e.left)} {edit.start - e.left.start} {new}"
-        for test in sorted(set(tests_at(d, s, e, n)), key=lambda test: mixed(key, test))[:1]:
-            yield Edit(n.start, n.end, f"(cond {grouped(test)} {grouped(new)} {grouped(s.of(n))})"), brought(s, "cond", *{"eqb", "leb"} & {test.split()[0]})
+        for _, tests in sorted(tests_at(d, s, e, n).items(), key=lambda known: mixed(key, known[0]))[:1]:
+            test = min(tests, key=lambda test: mixed(key, test))
+            yield Edit(n.start, n.end, f"(cond {test} {grouped(new)} {grouped(s.of(n))})"), brought(s, "cond", *{"eqb", "leb"} & {test[1:4]})
 
 
 # ---- the fields of a record: each left out; and of one with arguments, whose fields are facts, another fact added that narrows it
@@ -218,7 +221,7 @@ def a_field_more(d, s, r):
 
 
 def numbers_of(d, name, kind):
-    """The numbers in an argument: itself, its length, or the fields of its fields."""
+    """The numbers in an argument: itself, its length, or those in its fields."""
     if kind in ("ℕ", "List ℕ"):
         return [name if kind == "ℕ" else f"length {name}"]
     return [number for field, inner in d.records.get(kind, {}).items() if inner != "List ℕ" for number in numbers_of(d, f"{name} .{field}", inner)]
@@ -245,10 +248,10 @@ def mixed(seed, key):
 
 
 def crates_of(root):
-    """The crates that have definitions, each with those that it stands on. Those of the probe are of its frames alone, and stay apart."""
+    """The crates that have definitions, each with those that it stands on. The probe's are of its frames alone, and stay apart."""
     lines = [line.split("#")[0].split(":") for line in (root / "crates.txt").read_text(encoding="utf-8").split("\n")]
-    found = {line[0].strip(): line[1].split() for line in lines if len(line) == 2}
-    return {name: [other for other in others if other in found] for name, others in found.items() if (root / "crates" / name / "specs").is_dir() and name != "probe"}
+    deps = {line[0].strip(): line[1].split() for line in lines if len(line) == 2}
+    return {name: [dep for dep in deps[name] if dep in deps] for name in deps if name != "probe" and (root / "crates" / name / "specs").is_dir()}
 
 
 def made_in(d, s, seed):
@@ -261,18 +264,18 @@ def made_in(d, s, seed):
         for edit, needs, rule in [(*made, rule) for n in pieces(e.right) for rule in RULES for made in rule(d, s, e, n)]:
             yield e.left, e.name, edit, needs, rule
             for corner, more in at_one_value(d, s, e, edit, seed):
-                yield e.left, e.name, corner, [*needs, *more], at_one_value
+                yield e.left, e.name, corner, [*{*needs, *more}], at_one_value
 
 
 def all_changes(root, seed):
     """Every change, in the order of the crates, the files and the places in them. What two rules make alike is there once."""
-    found, seen, crates = [], set(), crates_of(root)
-    for crate, others in crates.items():
+    found, seen = [], set()
+    for crate, deps in crates_of(root).items():
         d = Definitions(LIBRARY)
-        for name in [*others, crate]:
-            for path in sorted((root / "crates" / name / "src").rglob("*.rt")):
+        for known in [*deps, crate]:
+            for path in sorted((root / "crates" / known / "src").rglob("*.rt")):
                 d.of_code(path.read_text(encoding="utf-8"))
-            sources = [Source(path) for path in sorted((root / "crates" / name / "specs").glob("*.antt"))]
+            sources = [Source(path) for path in sorted((root / "crates" / known / "specs").glob("*.antt"))]
             for s in sources:
                 d.of_file(s)
         for s in sources:
@@ -284,5 +287,6 @@ def all_changes(root, seed):
                     old, new = (" ".join(words.split()) for words in (s.text[edit.start:edit.end], edit.text))
                     key = f"{crate} {s.name} {s.of(left)} {edit.start - left.start} {old} {new}"
                     line, column = s.text.count("\n", 0, edit.start) + 1, edit.start - s.text.rfind("\n", 0, edit.start)
-                    found.append(Change(len(found) + 1, crate, s.name + ".antt", line, column, name, rule.__name__.replace("_", " "), old, new, [edit, *needs], key))
+                    rule = rule.__name__.replace("_", " ")
+                    found.append(Change(len(found) + 1, crate, s.name + ".antt", line, column, name, rule, old, new, [edit, *needs], key))
     return found
