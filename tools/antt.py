@@ -1,18 +1,19 @@
-"""Reads files of antt definitions: what they declare, and each equation as a tree whose pieces know their places in the text."""
+"""Reads files of antt: what definitions declare, each equation and each fact as a tree whose pieces know their places in the text, and theorems."""
 
 import re
 import sys
 from collections import namedtuple
 
-TOKEN = re.compile(r"--[^\n]*|λ[^.]*\.|(?<=\s)\.\w+|0x[0-9a-fA-F]+|\d+|\[\]|&&|\|\||\+\+|[-∷+*/%^,;=(){}]|[^\W\d]\w*(?:-\w+)*|\S")
-LEVELS = [",", "∷ ++", "||", "&&", "+ -", "* / %", "^"]  # operators, from the loosest to the tightest
+TOKEN = re.compile(r"--[^\n]*|λ[^.]*\.|(?<=\s)\.\w+′?|0x[0-9a-fA-F]+|\d+|\[\]|&&|\|\||\+\+|[-∷+*/%^,;=(){}]|[^\W\d]\w*′?(?:-\w+)*|\S")
+LEVELS = [",", "→", "×", "≡ ≤ <", "∷ ++", "||", "&&", "+ -", "* / %", "^"]  # operators, from the loosest to the tightest
+RESULTS = {**dict.fromkeys(["||", "&&"], "Bool"), **dict.fromkeys("+-*/%^", "ℕ")}
 WORDS = {"let", "in", "record"}
 
 Token = namedtuple("Token", "text start end")
 
-# A piece of an equation. Its kind is number, name, nil, group, record, apply, field, chain, let or lambda; its parts are the pieces
-# inside it; more is what is no piece: a number's or a name's text, the name that a let binds, a chain's operators,
-# a record's field names, a projection's field.
+# A piece of an equation. Its kind is number, name, nil, implicit, group, binder, record, apply, field, chain, let or lambda; its parts are the pieces
+# inside it; more is what is no piece: a number's or a name's text, the name that a let binds, those that a binder binds and their type,
+# a chain's operators, a record's field names, a projection's field.
 Node = namedtuple("Node", "kind start end parts more")
 
 
@@ -21,7 +22,7 @@ class Parser:
 
     def __init__(self, text, start, end):
         self.tokens = [Token(m.group(), m.start(), m.end()) for m in TOKEN.finditer(text, start, end) if not m.group().startswith("--")]
-        self.at = 0
+        self.text, self.at = text, 0
 
     def peek(self):
         return self.tokens[self.at].text if self.at < len(self.tokens) else ""
@@ -68,6 +69,8 @@ class Parser:
 
     def binding(self):
         start, name = self.take("let").start, self.take().text
+        while self.peek() != "=":
+            self.take()  # its type, if it has one
         self.take("=")
         bound = self.chain(0)
         self.take("in")
@@ -76,19 +79,31 @@ class Parser:
 
     def starts_atom(self):
         text = self.peek()
-        return text in ("(", "[]", "record") or text[:1].isdigit() or is_name(text)
+        return text in ("(", "{", "[]", "record") or text[:1].isdigit() or is_name(text)
 
     def atom(self):
         token = self.take()
         if token.text == "(":
-            inside = self.chain(0)
-            return Node("group", token.start, self.take(")").end, [inside], None)
+            bound = self.binder()
+            inside = [] if bound else [self.chain(0)]
+            return Node("binder" if bound else "group", token.start, self.take(")").end, inside, bound)
+        if token.text == "{":
+            while self.peek() != "}":
+                self.take()
+            return Node("implicit", token.start, self.take().end, [], None)
         if token.text == "record":
             return self.record(token.start)
         if token.text == "[]" or token.text[0].isdigit() or is_name(token.text):
             kind = "nil" if token.text == "[]" else "number" if token.text[0].isdigit() else "name"
             return Node(kind, token.start, token.end, [], token.text)
         raise SyntaxError(token.text)
+
+    def binder(self):
+        """The names and the type of `x y : T`, up to the parenthesis behind them; None where no such thing stands here."""
+        found = re.compile(r"([^():]+) : ((?:[^()]|\([^()]*\))*)\)").match(self.text, self.tokens[self.at].start)
+        while found and self.tokens[self.at].start < found.end() - 1:
+            self.at += 1
+        return found and (found[1].split(), found[2])
 
     def record(self, start):
         self.take("{")
@@ -103,7 +118,7 @@ class Parser:
 
 
 def is_name(text):
-    return text[:1].isalpha() and text[0] != "λ" and text not in WORDS
+    return text == "⊥" or text[:1].isalpha() and text[0] != "λ" and text not in WORDS
 
 
 def pieces(node):
@@ -124,8 +139,14 @@ def arrows(text):
     return [" ".join(part.split()) for part in parts]
 
 
+def arguments(record):
+    """The arguments of a record that is declared so, and their types."""
+    return {name: kind for names, kind in re.findall(r"\(([^():]+) : ([^()]+)\)", record.split(" where")[0]) for name in names.split()}
+
+
 Edit = namedtuple("Edit", "start end text")
 Equation = namedtuple("Equation", "name left right types")  # types: of its variables, where they are known
+Record = namedtuple("Record", "name arguments facts end")  # facts: an Equation for each field, if it has arguments; end: behind the last one
 
 
 class Source:
@@ -135,25 +156,26 @@ class Source:
         self.name, self.text = path.stem, path.read_text(encoding="utf-8")
         starts = [m.start() for m in re.finditer(r"^\S", self.text, re.M)] + [len(self.text)]
         self.blocks = [(a, self.text[a:b].rstrip()) for a, b in zip(starts, starts[1:]) if not self.text.startswith("--", a)]
-        self.uses = [(a + len(block) - 1, set(re.split(r"[\s,]+", block[block.index("{") + 1:-1])))
-                     for a, block in self.blocks if block.startswith("use ") and block.endswith("}")]
+        self.uses = [(found[1], a + found.end(2), set(re.split(r"[\s,]+", found[2])))
+                     for a, block in self.blocks if (found := re.fullmatch(r"use (.*)\.\{(.*)\}", block, re.S))]
 
     def of(self, node):
         return self.text[node.start:node.end]
 
-    def importing(self, name, beside, module=None):
-        """What brings a name in from the module that another name of this file comes from, or else from the module that is named."""
-        if module and not any({name, beside} & names for _, names in self.uses):
-            first = self.blocks[0][0]
-            return [Edit(first, first, f"use {module}.{{{name}}}\n")]
-        return [Edit(end, end, ", " + name) for end, names in self.uses if beside in names and name not in names]
+    def importing(self, name, beside):
+        """What brings a name in from the module that another name of this file comes from."""
+        return [Edit(end, end, ", " + name) for _, end, names in self.uses if beside in names and name not in names]
+
+    def needing(self, **modules):
+        """What brings names in, each from its module of the prover's library."""
+        return [edit for name, module in modules.items() if not any(name in names for _, _, names in self.uses)
+                for edit in [Edit(end, end, ", " + name) for known, end, _ in self.uses if known == module] or [Edit(0, 0, f"use {module}.{{{name}}}\n")]]
 
 
 class Definitions:
     """What some files of definitions declare."""
 
-    def __init__(self, sources, library, code):
-        self.sources = sources
+    def __init__(self, library):
         self.types = {}         # of each name: its arguments' types and its result's
         self.families = []      # names that are declared together, in order
         self.constructors = {}  # of each one: all of its type
@@ -161,18 +183,16 @@ class Definitions:
         self.values = {}        # of the names that are numbers
         for group in library.strip().split("\n\n"):
             self.family(line.split(" : ") for line in group.split("\n"))
-        self.of_code(code)
-        for source in sources:
-            self.of_file(source)
 
     def of_file(self, source):
         declared = []
         for _, block in source.blocks:
             head, *lines = block.split("\n")
-            inside = re.findall(r"^ +(?:pub )?(\w+) : (.+)$", "\n".join(lines), re.M)
+            inside = re.findall(r"^ +(?:pub )?(\S+) : (.+)$", "\n".join(lines), re.M)
             if found := re.match(r"(?:pub )?(data|record) (\w+)", head):
                 if found[1] == "record":
                     self.records[found[2]] = dict(inside)
+                    self.types[found[2]] = [*arguments(block).values(), "Type 0"]
                 else:
                     self.variants(inside)
             elif found := re.fullmatch(r"(\w+) = (0x[0-9a-f]+|\d+)", block):
@@ -183,10 +203,10 @@ class Definitions:
 
     def of_code(self, text):
         """The enums and structs of the code that the definitions name."""
-        kinds = {"usize": "ℕ", "u8": "ℕ", "u16": "ℕ", "bool": "Bool", "[u8; 4]": "List ℕ"}
+        kinds = {"usize": "ℕ", "u8": "ℕ", "u16": "ℕ", "bool": "Bool", "[u8": "List ℕ"}
         for shape, name, body in re.findall(r"pub (enum|struct) (\w+) \{\n(.*?)\n\}", text, re.S):
             if shape == "struct":
-                self.records[name] = {field: kinds.get(kind, kind) for field, kind in re.findall(r"pub (\w+): ([^,\n]+)", body)}
+                self.records[name] = {field: kinds.get(kind, kind) for field, kind in re.findall(r"pub (\w+): ([^,;\n]+)", body)}
             else:
                 self.variants([(variant, "ℕ → " * fields.count(":") + name) for variant, fields in re.findall(r"(\w+)(?: \{(.*?)\})?,", body)])
 
@@ -199,23 +219,43 @@ class Definitions:
         self.types.update(names)
         self.families.append([name for name, _ in names])
 
+    def parsed(self, source, start, end):
+        """The piece between two places; None, with a word about it, where its form is not known."""
+        try:
+            return Parser(source.text, start, end).whole()
+        except SyntaxError as form:
+            print(f"{source.name}.antt: passed over, for the form at '{form}': {source.text[start:end].splitlines()[0]}", file=sys.stderr)
+
     def equations(self, source):
-        """The equations of a file, those that define types apart."""
         for start, block in source.blocks:
             sign, name = re.search(r"\s=\s", block), block.split()[0]
-            if not sign or name in ("pub", "use", "unfoldable", "abbrev") or self.types.get(name, [""])[-1].startswith("Type"):
+            if not sign or name in ("pub", "use", "unfoldable", "abbrev"):
                 continue
-            try:
-                left = Parser(source.text, start, start + sign.start()).whole()
-                right = Parser(source.text, start + sign.end(), start + len(block)).whole()
-            except SyntaxError as form:
-                print(f"{source.name}.antt: passed over, for the form at '{form}': {block.splitlines()[0]}", file=sys.stderr)
+            left, right = self.parsed(source, start, start + sign.start()), self.parsed(source, start + sign.end(), start + len(block))
+            if left and right:
+                types = {}
+                self.bind(left.parts[1:], self.types.get(name, []), types)
+                yield self.equation(name, left, right, types)
+
+    def equation(self, name, left, right, types):
+        for piece in pieces(right):
+            if piece.kind == "let":
+                types[piece.more] = self.type_of(piece.parts[0], types)
+            elif piece.kind == "binder":
+                types.update(dict.fromkeys(*piece.more))
+        return Equation(name, left, right, types)
+
+    def records_of(self, source):
+        for start, block in source.blocks:
+            if not (head := re.match(r"pub record (\S+) ", block)):
                 continue
-            types = {}
-            self.bind(left.parts[1:], self.types.get(name, []), types)
-            for let in [piece for piece in pieces(right) if piece.kind == "let"]:
-                types[let.more] = self.type_of(let.parts[0], types)
-            yield Equation(name, left, right, types)
+            known, facts = arguments(block), []
+            for field in re.finditer(r"^  pub (\S+) : (.*?)(?=\n  \S|\Z)", block, re.M | re.S):
+                left = Node("name", start + field.start(), start + field.end(1), [], field[1])
+                right = self.parsed(source, start + field.start(2), start + field.end())
+                if right:
+                    facts.append(self.equation(head[1], left, right, dict(known)))
+            yield Record(head[1], known, facts, start + len(block))
 
     def bind(self, patterns, kinds, types):
         """Finds the types of the variables in patterns."""
@@ -229,11 +269,41 @@ class Definitions:
                 self.bind(inner.parts, [kind.removeprefix("List ").strip("()"), kind], types)
 
     def type_of(self, node, types):
-        """The type of a variable, a constant, a field, or a function with all its arguments; None of anything else."""
+        """The type of a piece, where it is known: of a number, a variable, a constant, a field, a function with all its arguments, and what is made of these."""
+        if node.kind in ("group", "let"):
+            return self.type_of(node.parts[-1], types)
+        if node.kind in ("number", "chain"):
+            return "ℕ" if node.kind == "number" else RESULTS.get(node.more[0].text)
         if node.kind == "field":
             return self.records.get(self.type_of(node.parts[0], types), {}).get(node.more.text[1:])
         head, *rest = node.parts if node.kind == "apply" else [node]
-        known = self.types.get(head.more, []) if head.kind == "name" else []
-        if node.kind == "name" and node.more in types:
-            return types[node.more]
+        if head.kind != "name":
+            return None
+        if head.more == "cond" and len(rest) == 3:
+            return self.type_of(rest[1], types) or self.type_of(rest[2], types)
+        kind = types.get(head.more) or ""
+        known = arrows(kind[1:-1] if kind.startswith("(") else kind) if head.more in types else self.types.get(head.more, [])
         return known[-1] if len(known) == len(rest) + 1 else None
+
+
+# ---- theorems
+
+DECLARED = re.compile(r"( *)((?:unfoldable |abbrev |pub )*)(?:(record|data) \w|([^\s(){}]+) : )")
+
+
+def theorems(text):
+    """The lines of a file's public theorems, each with the theorem's name and whether it is of the proof. Neither fields nor what is below a `where` is one."""
+    lines, name, depth, proof, below, block = {}, None, 0, False, False, None
+    for number, line in enumerate(text.split("\n"), 1):
+        indent = len(line) - len(line.lstrip())
+        if not line or block is not None and indent > block or below and indent > depth:
+            continue
+        found, block = DECLARED.match(line), None
+        if found:
+            name, depth, proof, block = found[4] if found[2] == "pub " else None, indent, False, indent if found[3] else None
+        elif indent <= depth:
+            proof = True
+        below = line.strip() == "where"
+        if name and not below:
+            lines[number] = name, proof
+    return lines

@@ -1,5 +1,6 @@
-"""One-place changes of the definitions in crates/protocol/specs, each made by a rule of the table RULES."""
+"""One-place changes of the definitions in the crates' specs, each made by a rule."""
 
+import hashlib
 import re
 from collections import namedtuple
 
@@ -22,9 +23,15 @@ not : Bool → Bool
 suc : ℕ → ℕ
 
 set : List ℕ → ℕ → ℕ → List ℕ
+
+getD : List ℕ → ℕ → ℕ → ℕ
+
+length : List ℕ → ℕ
 """
+MODULES = {"cond": "mathlib.Core.Bool", "not": "mathlib.Core.Bool", "eqb": "lib.Dec", "leb": "lib.Dec",
+           "suc": "Prim.Native.Nat", "length": "lib.ListN", "_≡_": "mathlib.Core.Path"}
 COND = ["Bool", "A", "A", "A"]
-OTHER_OPERATOR = {"&&": "||", "||": "&&", "+": "-", "-": "+", "*": "+", "/": "%", "%": "/", "^": "*"}
+OTHER_OPERATOR = {"&&": "||", "||": "&&", "+": "-", "-": "+", "*": "+", "/": "%", "%": "/", "^": "*", "≤": "<", "<": "≤"}
 EVEN = {"eqb", "same"}  # an exchange of their arguments means the same, and so does one of the rows of `commands`
 NOTHING = {"ℕ": "0", "List ℕ": "[]", "Bool": "false", "Transfer": "closed", "Buffer": "emptied"}
 
@@ -33,6 +40,14 @@ def near(names, name):
     """The next one and the one before, round the end."""
     at = names.index(name)
     return sorted({names[(at + step) % len(names)] for step in (1, -1)} - {name})
+
+
+def grouped(text):
+    return f"({text})" if " " in text else text
+
+
+def brought(s, *names):
+    return s.needing(**{name: MODULES[name] for name in names})
 
 
 # ---- the rules: each takes the definitions d, a file s, an equation e and a piece n of its right side. It yields edits, each with what
@@ -76,12 +91,12 @@ def a_variable_for_its_sibling(d, s, e, n):
 
 
 def a_part_left_out(d, s, e, n):
-    """A test, a row, an element, or one side of an operator."""
-    if n.kind == "chain" and n.more[0].text != ",":
+    """A test, a row, an element, a premise, or one side of an operator."""
+    if n.kind == "chain" and n.more[0].text not in ",≡≤<":
         for part, following, sign in zip(n.parts, n.parts[1:], n.more):
-            if sign.text not in "-/%^":
+            if sign.text not in "-/%^" and part.kind != "binder":
                 yield Edit(part.start, following.start, ""), []
-        if n.more[-1].text != "∷":
+        if n.more[-1].text not in "∷→":
             yield Edit(n.parts[-2].end, n.end, ""), []
 
 
@@ -126,7 +141,7 @@ def a_not_added(d, s, e, n):
     if n.kind == "chain" and n.more[0].text in ("&&", "||", ","):
         for test in n.parts[:1] if n.more[0].text == "," else n.parts:
             if not s.of(test).startswith("not "):
-                yield Edit(test.start, test.end, f"not ({s.of(test)})"), s.importing("not", "Bool", "mathlib.Core.Bool")
+                yield Edit(test.start, test.end, f"not ({s.of(test)})"), brought(s, "not")
 
 
 def a_part_of_a_record_kept_or_lost(d, s, e, n):
@@ -153,13 +168,72 @@ RULES = [a_number_for_its_neighbour, a_name_for_its_sibling, an_operator_for_its
          a_variable_for_its_sibling, a_part_left_out, two_neighbours_exchanged, an_argument_for_the_whole,
          a_constructor_for_one_that_takes_nothing, a_not_added, a_part_of_a_record_kept_or_lost, a_row_added]
 
-# ---- the changes. The text is the whole file's with the change in it; the key names the change where line and number may move.
+# ---- the same changes at one value only: one capacity, one buffer, one identifier, pages and bits from 256 on
 
-Change = namedtuple("Change", "number file line column definition rule old new text key")
+VALUES = 0, 1, 2, 8, 255, 256, 999, 1000
+
+
+def tests_at(d, s, e, n):
+    """What tells one value from others at a piece: of each boolean and each number of the equation that is known there, its tests."""
+    outside = {let.more for let in pieces(e.right) if let.kind == "let" and not let.parts[1].start <= n.start < let.parts[1].end}
+    tests = {}
+    for piece in [*(part for part in pieces(e.left) if part.kind == "name"), *pieces(e.right)]:
+        text, names = grouped(s.of(piece)), {part.more for part in pieces(piece) if part.kind == "name"}
+        if not names & {*e.types} or names & outside or piece.start <= n.start and n.end < piece.end or text.startswith("(cond "):
+            continue
+        kind = d.type_of(piece, e.types)
+        if kind == "Bool" and piece.kind in ("name", "field"):
+            tests[text] = [text]
+        elif kind == "ℕ" and piece.kind in ("name", "field", "apply"):
+            tests[text] = [f"(eqb {text} {value})" for value in VALUES] + [f"(leb 256 {text})"]
+    return tests
+
+
+def at_one_value(d, s, e, edit, seed):
+    """A change of another rule at one value, drawn by the seed: a test decides the smallest piece around it that is a number or a boolean."""
+    around = [n for n in pieces(e.right) if n.start <= edit.start and edit.end <= n.end and n.kind != "group" and d.type_of(n, e.types) in ("ℕ", "Bool")]
+    for n in sorted(around, key=lambda n: n.end - n.start)[:1]:
+        new = s.text[n.start:edit.start] + edit.text + s.text[edit.end:n.end]
+        key = f"{seed} {s.name} {s.of(e.left)} {edit.start - e.left.start} {new}"
+        for _, tests in sorted(tests_at(d, s, e, n).items(), key=lambda known: mixed(key, known[0]))[:1]:
+            test = min(tests, key=lambda test: mixed(key, test))
+            yield Edit(n.start, n.end, f"(cond {test} {grouped(new)} {grouped(s.of(n))})"), brought(s, "cond", *{"eqb", "leb"} & {test[1:4]})
+
+
+# ---- the fields of a record: each left out; and of one with arguments, whose fields are facts, another fact added that narrows it
+
+def a_field_less(d, s, r):
+    for fact in r.facts:
+        yield Edit(fact.left.start - 1, fact.right.end, ""), []
+
+
+def a_field_more(d, s, r):
+    """The next number in place of a fact's own, or an argument that is nothing."""
+    for fact in r.facts if r.arguments else []:
+        if fact.right.kind == "chain" and fact.right.more[0].text in "≡≤<":
+            (low, high), sign = fact.right.parts, fact.right.more[0].text
+            if d.type_of(high, fact.types) == "ℕ":
+                low, high = (s.of(low), f"suc {grouped(s.of(high))}") if sign == "≡" else (f"suc {grouped(s.of(low))}", s.of(high))
+                yield Edit(r.end, r.end, f"\n  pub more : {low} {sign} {high}"), brought(s, "suc")
+    for name, kind in r.arguments.items():
+        for number in numbers_of(d, name, kind)[:1]:
+            yield Edit(r.end, r.end, f"\n  pub more : {number} ≡ 0"), brought(s, "_≡_", *{"length"} & {number.split()[0]})
+
+
+def numbers_of(d, name, kind):
+    """The numbers in an argument: itself, its length, or those in its fields."""
+    if kind in ("ℕ", "List ℕ"):
+        return [name if kind == "ℕ" else f"length {name}"]
+    return [number for field, inner in d.records.get(kind, {}).items() if inner != "List ℕ" for number in numbers_of(d, f"{name} .{field}", inner)]
+
+
+# ---- the changes. The key names a change where line and number may move.
+
+Change = namedtuple("Change", "number crate file line column definition rule old new edits key")
 
 
 def shown(c):
-    return f"#{c.number} {c.file}:{c.line}:{c.column} {c.definition}: {c.rule}: `{c.old}` -> `{c.new}`"
+    return f"#{c.number} {c.crate}/{c.file}:{c.line}:{c.column} {c.definition}: {c.rule}: `{c.old}` -> `{c.new}`"
 
 
 def applied(text, edits):
@@ -168,21 +242,51 @@ def applied(text, edits):
     return text
 
 
-def all_changes(crate):
-    """Every change, in the order of the files and the places in them. What two rules make alike is there once."""
-    sources = [Source(path) for path in sorted((crate / "specs").glob("*.antt"))]
-    d = Definitions(sources, LIBRARY, (crate / "src/lib.rt").read_text(encoding="utf-8"))
+def mixed(seed, key):
+    """A place in an order that is fixed by a seed."""
+    return hashlib.sha256(f"{seed} {key}".encode()).digest()
+
+
+def crates_of(root):
+    """The crates that have definitions, each with those that it stands on. The probe's are of its frames alone, and stay apart."""
+    lines = [line.split("#")[0].split(":") for line in (root / "crates.txt").read_text(encoding="utf-8").split("\n")]
+    deps = {line[0].strip(): line[1].split() for line in lines if len(line) == 2}
+    return {name: [dep for dep in deps[name] if dep in deps] for name in deps if name != "probe" and (root / "crates" / name / "specs").is_dir()}
+
+
+def made_in(d, s, seed):
+    """The changes of a file: where each counts from, its name, its edit, what else the file then needs, and its rule."""
+    for r in d.records_of(s):
+        for rule in (a_field_less, a_field_more):
+            for edit, needs in rule(d, s, r):
+                yield r.facts[0].left, r.name, edit, needs, rule
+    for e in [*d.equations(s), *(fact for r in d.records_of(s) if r.arguments for fact in r.facts)]:
+        for edit, needs, rule in [(*made, rule) for n in pieces(e.right) for rule in RULES for made in rule(d, s, e, n)]:
+            yield e.left, e.name, edit, needs, rule
+            for corner, more in at_one_value(d, s, e, edit, seed):
+                yield e.left, e.name, corner, [*{*needs, *more}], at_one_value
+
+
+def all_changes(root, seed):
+    """Every change, in the order of the crates, the files and the places in them. What two rules make alike is there once."""
     found, seen = [], set()
-    for s in sources:
-        for e in d.equations(s):
-            made = [(edit, needs, rule.__name__.replace("_", " ")) for n in pieces(e.right) for rule in RULES for edit, needs in rule(d, s, e, n)]
-            for edit, needs, rule in sorted(made):
-                text = applied(s.text, [edit] + needs)
-                form = s.name, re.sub(r"\((\([^()]*\))\)", r"\1", text)
+    for crate, deps in crates_of(root).items():
+        d = Definitions(LIBRARY)
+        for known in [*deps, crate]:
+            for path in sorted((root / "crates" / known / "src").rglob("*.rt")):
+                d.of_code(path.read_text(encoding="utf-8"))
+            sources = [Source(path) for path in sorted((root / "crates" / known / "specs").glob("*.antt"))]
+            for s in sources:
+                d.of_file(s)
+        for s in sources:
+            for left, name, edit, needs, rule in sorted(made_in(d, s, seed), key=lambda made: made[2]):
+                text = applied(s.text, [edit, *needs])
+                form = crate, s.name, re.sub(r"\((\([^()]*\))\)", r"\1", text)
                 if text != s.text and form not in seen:
                     seen.add(form)
                     old, new = (" ".join(words.split()) for words in (s.text[edit.start:edit.end], edit.text))
-                    key = f"{s.name} {s.of(e.left)} {edit.start - e.left.start} {old} {new}"
+                    key = f"{crate} {s.name} {s.of(left)} {edit.start - left.start} {old} {new}"
                     line, column = s.text.count("\n", 0, edit.start) + 1, edit.start - s.text.rfind("\n", 0, edit.start)
-                    found.append(Change(len(found) + 1, s.name + ".antt", line, column, e.name, rule, old, new, text, key))
+                    rule = rule.__name__.replace("_", " ")
+                    found.append(Change(len(found) + 1, crate, s.name + ".antt", line, column, name, rule, old, new, [edit, *needs], key))
     return found
