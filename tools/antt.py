@@ -5,7 +5,7 @@ import sys
 from collections import namedtuple
 
 TOKEN = re.compile(r"--[^\n]*|λ[^.]*\.|(?<=\s)\.\w+′?|0x[0-9a-fA-F]+|\d+|\[\]|&&|\|\||\+\+|[-∷+*/%^,;=(){}]|[^\W\d]\w*′?(?:-\w+)*|\S")
-LEVELS = [",", "→", "×", "≡ ≤ <", "∷ ++", "||", "&&", "+ -", "* / %", "^"]  # operators, from the loosest to the tightest
+LEVELS = [",", "→", "×", "≡ ≢ ≤ <", "∷ ++", "||", "&&", "+ -", "* / %", "^"]  # operators, from the loosest to the tightest
 RESULTS = {**dict.fromkeys(["||", "&&"], "Bool"), **dict.fromkeys("+-*/%^", "ℕ")}
 WORDS = {"let", "in", "record"}
 

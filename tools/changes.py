@@ -92,7 +92,7 @@ def a_variable_for_its_sibling(d, s, e, n):
 
 def a_part_left_out(d, s, e, n):
     """A test, a row, an element, a premise, or one side of an operator."""
-    if n.kind == "chain" and n.more[0].text not in ",≡≤<":
+    if n.kind == "chain" and n.more[0].text not in ",≡≢≤<":
         for part, following, sign in zip(n.parts, n.parts[1:], n.more):
             if sign.text not in "-/%^" and part.kind != "binder":
                 yield Edit(part.start, following.start, ""), []
@@ -248,10 +248,10 @@ def mixed(seed, key):
 
 
 def crates_of(root):
-    """The crates that have definitions, each with those that it stands on. The probe's are of its frames alone, and stay apart."""
+    """The crates that have definitions, each with those that it stands on."""
     lines = [line.split("#")[0].split(":") for line in (root / "crates.txt").read_text(encoding="utf-8").split("\n")]
     deps = {line[0].strip(): line[1].split() for line in lines if len(line) == 2}
-    return {name: [dep for dep in deps[name] if dep in deps] for name in deps if name != "probe" and (root / "crates" / name / "specs").is_dir()}
+    return {name: [dep for dep in deps[name] if dep in deps] for name in deps if (root / "crates" / name / "specs").is_dir()}
 
 
 def made_in(d, s, seed):
