@@ -22,9 +22,13 @@ pub record Shape : Type 0 where
   pub indexed : ℕ
   pub noted : ℕ
 
--- document 01's reader, its pages and its index by request [6]
+-- with a notepad of n bytes; the pages and the index are request [6]'s
+abbrev pub shaped : ℕ → Shape
+shaped n = record { least = leastPages; most = mostPages; indexed = indexBytes; noted = n }
+
+-- document 01's reader
 unfoldable pub core : Shape
-core = record { least = leastPages; most = mostPages; indexed = indexBytes; noted = notepadBytes }
+core = shaped notepadBytes
 
 -- the lent lengths as numbers: of c pages the templates, the index and the notepad; and both buffers
 abbrev pub libraryFits : Shape → ℕ → ℕ → ℕ → ℕ → Bool

@@ -14,7 +14,7 @@ use Rattle.protocol.specs.declared.Found.the-variants.{Noise, Unfinished, Unfit
 use Rattle.protocol.proofs.Found.{the-type}
 use denote.Enum.Declared.{tagOf}
 use types.Run.{OneOf}
-use Rattle.protocol.specs.Numbers.{pageBytes, mostPages, replyRoom, headBytes}
+use Rattle.protocol.specs.Numbers.{pageBytes, mostPages, indexBytes, replyRoom, headBytes}
 use Rattle.protocol.specs.Bytes.{same}
 use Rattle.protocol.specs.Tests.{within, verdict}
 use Rattle.protocol.specs.Packet.{addressAt, identifierAt, rightAt}
@@ -22,7 +22,7 @@ use Rattle.protocol.specs.Finder.{findOf, usedOf}
 use Rattle.protocol.specs.Reader.{Guarded, Reader, capacity}
 use Rattle.protocol.specs.Search.{Chip}
 use Rattle.protocol.specs.Step.{nothing, hearAs, hearAt, hear, Said, silence, answer, stepOf}
-use Rattle.protocol.specs.Call.{core, fitLibrary, fitBuffers, fitLengths, fitChip, fitRoom, Lent, sound, refusalOf, refused, carried, callAs, callOf}
+use Rattle.protocol.specs.Call.{shaped, fitLibrary, fitBuffers, fitLengths, fitChip, fitRoom, Lent, sound, refusalOf, refused, carried, callAs, callOf}
 use Rattle.protocol.proofs.Laws.Logic.{T→true, and-l, and-r}
 use Rattle.protocol.proofs.Laws.Lists.{lay-nothing}
 use Rattle.protocol.proofs.Laws.Finder.{Within, found-in, used-in, accepts-least, accepts-most, longest-word}
@@ -83,30 +83,29 @@ whole-lies s p n e =
 
 -- ---- what passed refusals say
 
-pub lengths-are : (g : Guarded) (χ : Chip)
-    → (fitLengths core g && fitChip (capacity g) χ)
-    ≡ lengthsFit (length (g .templates)) (length (g .index)) (length (g .notepad)) (length (g .buffer1 .bytes)) (length (g .buffer2 .bytes)) (length (χ .scores)) (length (χ .thresholds))
+pub lengths-are : (v : ℕ) (g : Guarded) (χ : Chip)
+    → (fitLengths (shaped v) g && fitChip (capacity g) χ)
+    ≡ lengthsFit v (length (g .templates)) (length (g .index)) (length (g .notepad)) (length (g .buffer1 .bytes)) (length (g .buffer2 .bytes)) (length (χ .scores)) (length (χ .thresholds))
 unfolding fitLengths fitLibrary fitBuffers fitChip capacity lengthsFit
-lengths-are g χ = refl
+lengths-are v g χ = refl
 
-module _ (t i n b c k h : ℕ) (e : lengthsFit t i n b c k h ≡ true) where
+module _ (v t i n b c k h : ℕ) (e : lengthsFit v t i n b c k h ≡ true) where
   pub few-pages : t / pageBytes ≤ mostPages
-  unfolding lengthsFit within core
-  few-pages = let y : T (lengthsFit t i n b c k h) = rw e tt in leb→le (t / pageBytes) mostPages (search (and-l, and-r) depth 9)
+  unfolding lengthsFit within
+  few-pages = let y : T (lengthsFit v t i n b c k h) = rw e tt in leb→le (t / pageBytes) mostPages (search (and-l, and-r) depth 9)
 
   pub all-scored : k ≡ t / pageBytes
   unfolding lengthsFit
-  all-scored = let y : T (lengthsFit t i n b c k h) = rw e tt in eqb→eq k (t / pageBytes) (search (and-l, and-r) depth 9)
+  all-scored = let y : T (lengthsFit v t i n b c k h) = rw e tt in eqb→eq k (t / pageBytes) (search (and-l, and-r) depth 9)
 
-pub fit-says : (s : Settings) (t i n b c : List ℕ) (k h : ℕ) → lengthsFit (length t) (length i) (length n) (length b) (length c) k h ≡ true → Legal s → Fit s t i n b c
+pub fit-says : (s : Settings) (t i b c : List ℕ) (v n k h : ℕ) → lengthsFit v (length t) (length i) n (length b) (length c) k h ≡ true → Legal s → Fit s t i b c
 unfolding lengthsFit within
-fit-says s t i n b c k h e m =
-    let y : T (lengthsFit (length t) (length i) (length n) (length b) (length c) k h) = rw e tt in
+fit-says s t i b c v n k h e m =
+    let y : T (lengthsFit v (length t) (length i) n (length b) (length c) k h) = rw e tt in
     record {
       pages = eqb→eq (length t) (pageBytes * (length t / pageBytes)) (search (and-l, and-r) depth 9);
-      within = few-pages (length t) (length i) (length n) (length b) (length c) k h e;
-      index = eqb→eq (length i) (core .indexed) (search (and-l, and-r) depth 9);
-      notepad = eqb→eq (length n) (core .noted) (search (and-l, and-r) depth 9);
+      within = few-pages v (length t) (length i) n (length b) (length c) k h e;
+      index = eqb→eq (length i) indexBytes (search (and-l, and-r) depth 9);
       buffer1 = eqb→eq (length b) pageBytes (search (and-l, and-r) depth 9);
       buffer2 = eqb→eq (length c) pageBytes (search (and-l, and-r) depth 9);
       legal = m;
@@ -120,34 +119,34 @@ legal-passed s i n e = let h : T (soundOf n i s) = rw e tt in legal-says s (T→
 -- ---- a call at each way out
 
 -- lengths that are fit, and those of scores and thresholds
-module _ (r : Reader) (χ : Chip) (s y : List ℕ) where
+module _ (v : ℕ) (r : Reader) (χ : Chip) (s y : List ℕ) where
   abbrev lent : Lent
   lent = record { chip = χ; room = y }
 
-  pub call-bad-length : (fitLengths core (r .guarded) && fitChip (capacity (r .guarded)) χ) ≡ false → refused 1 r y ≡ callOf core r s lent
+  pub call-bad-length : (fitLengths (shaped v) (r .guarded) && fitChip (capacity (r .guarded)) χ) ≡ false → refused 1 r y ≡ callOf (shaped v) r s lent
   unfolding callOf callAs refusalOf verdict
-  call-bad-length = go (fitLengths core (r .guarded)) (fitChip (capacity (r .guarded)) χ) refl refl
+  call-bad-length = go (fitLengths (shaped v) (r .guarded)) (fitChip (capacity (r .guarded)) χ) refl refl
     where
-      go : (a b : Bool) → fitLengths core (r .guarded) ≡ a → fitChip (capacity (r .guarded)) χ ≡ b → (a && b) ≡ false → refused 1 r y ≡ callOf core r s lent
+      go : (a b : Bool) → fitLengths (shaped v) (r .guarded) ≡ a → fitChip (capacity (r .guarded)) χ ≡ b → (a && b) ≡ false → refused 1 r y ≡ callOf (shaped v) r s lent
       go false b d e h = rw d refl
       go true false d e h = rw (d, e) refl
       go true true d e h = absurd (true≢false h)
 
-  module _ (l : (fitLengths core (r .guarded) && fitChip (capacity (r .guarded)) χ) ≡ true) where
-    fits : fitLengths core (r .guarded) ≡ true
-    fits = let t : T (fitLengths core (r .guarded) && fitChip (capacity (r .guarded)) χ) = rw l tt in T→true (fitLengths core (r .guarded)) (search and-l)
+  module _ (l : (fitLengths (shaped v) (r .guarded) && fitChip (capacity (r .guarded)) χ) ≡ true) where
+    fits : fitLengths (shaped v) (r .guarded) ≡ true
+    fits = let t : T (fitLengths (shaped v) (r .guarded) && fitChip (capacity (r .guarded)) χ) = rw l tt in T→true (fitLengths (shaped v) (r .guarded)) (search and-l)
 
     chips : fitChip (capacity (r .guarded)) χ ≡ true
-    chips = let t : T (fitLengths core (r .guarded) && fitChip (capacity (r .guarded)) χ) = rw l tt in T→true (fitChip (capacity (r .guarded)) χ) (search and-r)
+    chips = let t : T (fitLengths (shaped v) (r .guarded) && fitChip (capacity (r .guarded)) χ) = rw l tt in T→true (fitChip (capacity (r .guarded)) χ) (search and-r)
 
-    pub call-bad-room : length y < replyRoom → refused 2 r y ≡ callOf core r s lent
+    pub call-bad-room : length y < replyRoom → refused 2 r y ≡ callOf (shaped v) r s lent
     unfolding callOf callAs refusalOf verdict fitRoom
     call-bad-room h = rw (fits, chips, lt-leb replyRoom (length y) h) refl
 
-    pub call-bad-setting : replyRoom ≤ length y → sound r ≡ false → refused 3 r y ≡ callOf core r s lent
+    pub call-bad-setting : replyRoom ≤ length y → sound r ≡ false → refused 3 r y ≡ callOf (shaped v) r s lent
     unfolding callOf callAs refusalOf verdict fitRoom
     call-bad-setting h k = rw (fits, chips, le-leb replyRoom (length y) h, k) refl
 
-    pub call-goes : replyRoom ≤ length y → sound r ≡ true → carried (stepOf χ r s) y ≡ callOf core r s lent
+    pub call-goes : replyRoom ≤ length y → sound r ≡ true → carried (stepOf χ r s) y ≡ callOf (shaped v) r s lent
     unfolding callOf callAs refusalOf verdict fitRoom
     call-goes h k = rw (fits, chips, le-leb replyRoom (length y) h, k) refl

@@ -7,7 +7,7 @@ use lib.ListN.{length}
 use Rattle.protocol.specs.Numbers.{pageBytes, replyRoom, headBytes, shortest}
 use Rattle.protocol.specs.Reader.{sizeOf}
 use Rattle.protocol.specs.Step.{Said}
-use Rattle.protocol.specs.Call.{core, libraryFits, buffersFit, chipFits, Ended, carried}
+use Rattle.protocol.specs.Call.{shaped, libraryFits, buffersFit, chipFits, Ended, carried}
 use Rattle.protocol.specs.declared.Settings.{Settings}
 use Rattle.protocol.specs.declared.Called.{Called}
 use Rattle.protocol.specs.declared.Switched.{Switched}
@@ -21,8 +21,8 @@ pub record Lies (s : List ℕ) (p n : ℕ) : Type 0 where
   pub high : n ≤ 65535
 
 -- what `hear_packet` needs: fit memory and legal settings, a score for each page, a whole packet in its run, and a reply room
-pub record HearNeeds (s : Settings) (t i n b c scores x : List ℕ) (at len : ℕ) (y : List ℕ) : Type 0 where
-  pub fit : Fit s t i n b c
+pub record HearNeeds (s : Settings) (t i b c scores x : List ℕ) (at len : ℕ) (y : List ℕ) : Type 0 where
+  pub fit : Fit s t i b c
   pub scored : length scores ≡ length t / pageBytes
   pub whole : Lies x at len
   pub room : replyRoom ≤ length y
@@ -42,9 +42,9 @@ called refusal used length s = record { settings = s; refusal = refusal; used = 
 abbrev pub switched : ℕ → Settings → Switched
 switched refusal s = record { settings = s; refusal = refusal }
 
--- the lent lengths (refusal 1): templates, index, notepad, both buffers, scores and thresholds
-unfoldable pub lengthsFit : ℕ → ℕ → ℕ → ℕ → ℕ → ℕ → ℕ → Bool
-lengthsFit t i n b c scores thresholds = (libraryFits core (t / pageBytes) t i n && buffersFit b c) && chipFits (t / pageBytes) scores thresholds
+-- the lent lengths (refusal 1), with the notepad's as it must be first: templates, index, notepad, both buffers, scores and thresholds
+unfoldable pub lengthsFit : ℕ → ℕ → ℕ → ℕ → ℕ → ℕ → ℕ → ℕ → Bool
+lengthsFit noted t i n b c scores thresholds = (libraryFits (shaped noted) (t / pageBytes) t i n && buffersFit b c) && chipFits (t / pageBytes) scores thresholds
 
 -- an answer carried into the reply room, with the bytes used
 abbrev pub carriedOf : ℕ → Said → List ℕ → Ended

@@ -4,9 +4,8 @@ use mathlib.Core.Path.{_≡_}
 use Prim.Native.Nat.{ℕ, _*_, _/_, _≤_}
 use lib.ListN.{length}
 use Rattle.protocol.specs.declared.Settings.{Settings}
-use Rattle.protocol.specs.Numbers.{pageBytes, mostPages}
+use Rattle.protocol.specs.Numbers.{pageBytes, mostPages, indexBytes}
 use Rattle.protocol.specs.Packet.{lengthOf}
-use Rattle.protocol.specs.Call.{core}
 use Rattle.protocol.specs.Search.{Chip}
 use Rattle.protocol.specs.Commands.{Free, Barred}
 use Rattle.protocol.specs.Table.{rule, freeRule, publicOf}
@@ -18,25 +17,24 @@ use Rattle.reader.specs.declared.answers.Answer.{Answer}
 use Rattle.reader.specs.Answers.{saidOf, Ready}
 
 -- the facts that refusals 1 to 3 leave, as the commands use them
-pub record Fit (s : Settings) (t i n b c : List ℕ) : Type 0 where
+pub record Fit (s : Settings) (t i b c : List ℕ) : Type 0 where
   pub pages : length t ≡ pageBytes * (length t / pageBytes)
   pub within : length t / pageBytes ≤ mostPages
-  pub index : length i ≡ core .indexed
-  pub notepad : length n ≡ core .noted
+  pub index : length i ≡ indexBytes
   pub buffer1 : length b ≡ pageBytes
   pub buffer2 : length c ≡ pageBytes
   pub legal : Legal s
 
 -- what `act` and `command` need: fit memory and legal settings, a score for each page, and a content of a code at least, no longer than a length field says
-pub record CommandNeeds (s : Settings) (t i n b c scores x : List ℕ) : Type 0 where
-  pub fit : Fit s t i n b c
+pub record CommandNeeds (s : Settings) (t i b c scores x : List ℕ) : Type 0 where
+  pub fit : Fit s t i b c
   pub scored : length scores ≡ length t / pageBytes
   pub some : 1 ≤ length x
   pub high : length x ≤ 65535
 
 -- what `row` needs: fit memory and legal settings, a score for each page, and a code that the gate lets pass
-pub record RowNeeds (code : ℕ) (s : Settings) (t i n b c scores x : List ℕ) : Type 0 where
-  pub fit : Fit s t i n b c
+pub record RowNeeds (code : ℕ) (s : Settings) (t i b c scores x : List ℕ) : Type 0 where
+  pub fit : Fit s t i b c
   pub scored : length scores ≡ length t / pageBytes
   pub admits : Admitted code (lengthOf x) (plainOf s)
 

@@ -8,7 +8,7 @@ ghost use Rattle.protocol.specs.Numbers.{headBytes, mostPages};
 ghost use Rattle.protocol.specs.Bytes.{same};
 ghost use Rattle.protocol.specs.Packet.{addressAt, rightAt};
 ghost use Rattle.protocol.specs.Step.{hearAs, hearAt, answer};
-ghost use Rattle.protocol.specs.Call.{core, callOf, switchOf};
+ghost use Rattle.protocol.specs.Call.{core, shaped, callOf, switchOf};
 ghost use Rattle.protocol.specs.Records.{readerOf, chipOf, lentOf, endedOf, switchedOf};
 ghost use Rattle.reader.specs.Answers.{saidOf, Ready};
 ghost use Rattle.rules.specs.Settings.{soundOf};
@@ -46,8 +46,11 @@ pub(crate) fn act(
     identifier: u8,
     right: bool,
 ) -> Answer
-    requires { ⌜ CommandNeeds settings (now templates) (now index) (now notepad) (now buffer1) (now buffer2) (now scores) (now content) ⌝ }
-    ensures { λ r. ⌜ (saidOf r (now (templates .exit)) (now (index .exit)) (now (notepad .exit)) (now (buffer1 .exit)) (now (buffer2 .exit)) ≡ answer (chipOf (now (scores .entry)) (now (thresholds .entry))) (readerOf settings (now (templates .entry)) (now (index .entry)) (now (notepad .entry)) (now (buffer1 .entry)) (now (buffer2 .entry))) (hearAs identifier right (now (content .entry)))) × Ready r ⌝ }
+    requires { ⌜ CommandNeeds settings (now templates) (now index) (now buffer1) (now buffer2) (now scores) (now content) ⌝ }
+    ensures { λ r. ⌜ (saidOf r (now (templates .exit)) (now (index .exit)) (now (notepad .exit)) (now (buffer1 .exit)) (now (buffer2 .exit))
+        ≡ answer (chipOf (now (scores .entry)) (now (thresholds .entry)))
+        (readerOf settings (now (templates .entry)) (now (index .entry)) (now (notepad .entry)) (now (buffer1 .entry)) (now (buffer2 .entry)))
+        (hearAs identifier right (now (content .entry)))) × Ready r ⌝ }
 {
     if identifier == numbers::COMMAND_PACKET {
         let s = transfer::end_transfer(settings, buffer1, buffer2);
@@ -119,8 +122,13 @@ pub(crate) fn hear_packet(
     len: usize,
     reply: &mut [u8],
 ) -> Called
-    requires { ⌜ HearNeeds settings (now templates) (now index) (now notepad) (now buffer1) (now buffer2) (now scores) (now run) at len (now reply) ⌝ }
-    ensures { λ r. ⌜ endedOf r (now (templates .exit)) (now (index .exit)) (now (notepad .exit)) (now (buffer1 .exit)) (now (buffer2 .exit)) (now (reply .exit)) ≡ carriedOf (at + headBytes + len) (answer (chipOf (now (scores .entry)) (now (thresholds .entry))) (readerOf settings (now (templates .entry)) (now (index .entry)) (now (notepad .entry)) (now (buffer1 .entry)) (now (buffer2 .entry))) (hearAt (settings .address) (now (run .entry)) (Whole at len))) (now (reply .entry)) ⌝ }
+    requires { ⌜ HearNeeds settings (now templates) (now index) (now buffer1) (now buffer2) (now scores) (now run) at len (now reply) ⌝ }
+    ensures { λ r. ⌜ endedOf r (now (templates .exit)) (now (index .exit)) (now (notepad .exit)) (now (buffer1 .exit)) (now (buffer2 .exit)) (now (reply .exit))
+        ≡ carriedOf (at + headBytes + len)
+        (answer (chipOf (now (scores .entry)) (now (thresholds .entry)))
+        (readerOf settings (now (templates .entry)) (now (index .entry)) (now (notepad .entry)) (now (buffer1 .entry)) (now (buffer2 .entry)))
+        (hearAt (settings .address) (now (run .entry)) (Whole at len)))
+        (now (reply .entry)) ⌝ }
 {
     let used = at + numbers::HEAD + len;
     let ours = is_ours(settings, run, at);
@@ -149,8 +157,9 @@ pub(crate) fn hear_packet(
     called_of(refusals::ACCEPTED, used, n, s)
 }
 
-// Whether the lent lengths are right, the reply room's apart (refusal 1).
+// Whether the lent lengths are right, the reply room's apart (refusal 1): the notepad's is `noted`.
 pub fn is_fit(
+    noted: usize,
     t: usize,
     i: usize,
     n: usize,
@@ -159,7 +168,7 @@ pub fn is_fit(
     scores: usize,
     thresholds: usize,
 ) -> bool
-    ensures { λ r. ⌜ r ≡ lengthsFit t i n b c scores thresholds ⌝ }
+    ensures { λ r. ⌜ r ≡ lengthsFit noted t i n b c scores thresholds ⌝ }
 {
     let pages = t / numbers::PAGE;
     if t != numbers::PAGE * pages {
@@ -174,7 +183,7 @@ pub fn is_fit(
     if i != numbers::INDEX {
         return false;
     }
-    if n != numbers::NOTEPAD {
+    if n != noted {
         return false;
     }
     if b != numbers::PAGE {
@@ -205,8 +214,9 @@ pub(crate) fn is_sound(settings: Settings, index: &[u8], pages: usize) -> bool
     origins::are_fit(settings, index, pages)
 }
 
-// A call: the settings and lent memory of a reader, scores and thresholds, a received run, and a reply room.
-pub fn step(
+// A call of a reader with a notepad of `noted` bytes: its settings and lent memory, scores and thresholds, a received run, and a reply room.
+pub fn step_shaped(
+    noted: usize,
     settings: Settings,
     templates: &mut [u8],
     index: &mut [u8],
@@ -218,9 +228,13 @@ pub fn step(
     run: &[u8],
     reply: &mut [u8],
 ) -> Called
-    ensures { λ r. ⌜ endedOf r (now (templates .exit)) (now (index .exit)) (now (notepad .exit)) (now (buffer1 .exit)) (now (buffer2 .exit)) (now (reply .exit)) ≡ callOf core (readerOf settings (now (templates .entry)) (now (index .entry)) (now (notepad .entry)) (now (buffer1 .entry)) (now (buffer2 .entry))) (now (run .entry)) (lentOf (now (scores .entry)) (now (thresholds .entry)) (now (reply .entry))) ⌝ }
+    ensures { λ r. ⌜ endedOf r (now (templates .exit)) (now (index .exit)) (now (notepad .exit)) (now (buffer1 .exit)) (now (buffer2 .exit)) (now (reply .exit))
+        ≡ callOf (shaped noted)
+        (readerOf settings (now (templates .entry)) (now (index .entry)) (now (notepad .entry)) (now (buffer1 .entry)) (now (buffer2 .entry)))
+        (now (run .entry)) (lentOf (now (scores .entry)) (now (thresholds .entry)) (now (reply .entry))) ⌝ }
 {
     let fit = is_fit(
+        noted,
         templates.len(),
         index.len(),
         notepad.len(),
@@ -259,6 +273,39 @@ pub fn step(
     )
 }
 
+// A call of document 01's reader, whose notepad has 512.
+pub fn step(
+    settings: Settings,
+    templates: &mut [u8],
+    index: &mut [u8],
+    notepad: &mut [u8],
+    buffer1: &mut [u8],
+    buffer2: &mut [u8],
+    scores: &[u16],
+    thresholds: &[u16],
+    run: &[u8],
+    reply: &mut [u8],
+) -> Called
+    ensures { λ r. ⌜ endedOf r (now (templates .exit)) (now (index .exit)) (now (notepad .exit)) (now (buffer1 .exit)) (now (buffer2 .exit)) (now (reply .exit))
+        ≡ callOf core
+        (readerOf settings (now (templates .entry)) (now (index .entry)) (now (notepad .entry)) (now (buffer1 .entry)) (now (buffer2 .entry)))
+        (now (run .entry)) (lentOf (now (scores .entry)) (now (thresholds .entry)) (now (reply .entry))) ⌝ }
+{
+    step_shaped(
+        numbers::NOTEPAD,
+        settings,
+        templates,
+        index,
+        notepad,
+        buffer1,
+        buffer2,
+        scores,
+        thresholds,
+        run,
+        reply,
+    )
+}
+
 fn switched_of(refusal: u8, settings: Settings) -> Switched
     ensures { λ r. ⌜ r ≡ switched refusal settings ⌝ }
 {
@@ -267,7 +314,8 @@ fn switched_of(refusal: u8, settings: Settings) -> Switched
 
 // The line switch: any settings and both buffers; marks and status bit 1 cleared, transfer closed, buffers zeroed, origins none. It knows only refusal 1.
 pub fn line_switch(settings: Settings, buffer1: &mut [u8], buffer2: &mut [u8]) -> Switched
-    ensures { λ r. ⌜ ((t i n : List ℕ) → switchedOf r t i n (now (buffer1 .exit)) (now (buffer2 .exit)) ≡ switchOf (readerOf settings t i n (now (buffer1 .entry)) (now (buffer2 .entry)))) ⌝ }
+    ensures { λ r. ⌜ ((t i n : List ℕ) → switchedOf r t i n (now (buffer1 .exit)) (now (buffer2 .exit))
+        ≡ switchOf (readerOf settings t i n (now (buffer1 .entry)) (now (buffer2 .entry)))) ⌝ }
 {
     if buffer1.len() != numbers::PAGE {
         return switched_of(refusals::BAD_LENGTH, settings);

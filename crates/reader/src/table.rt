@@ -33,8 +33,11 @@ pub(crate) fn row(
     thresholds: &[u16],
     content: &[u8],
 ) -> Answer
-    requires { ⌜ RowNeeds code settings (now templates) (now index) (now notepad) (now buffer1) (now buffer2) (now scores) (now content) ⌝ }
-    ensures { λ r. ⌜ (saidOf r (now (templates .exit)) (now (index .exit)) (now (notepad .exit)) (now (buffer1 .exit)) (now (buffer2 .exit)) ≡ obey (chipOf (now (scores .entry)) (now (thresholds .entry))) (readerOf settings (now (templates .entry)) (now (index .entry)) (now (notepad .entry)) (now (buffer1 .entry)) (now (buffer2 .entry))) (readOf (rowOf commands code) (now (content .entry)))) × Ready r ⌝ }
+    requires { ⌜ RowNeeds code settings (now templates) (now index) (now buffer1) (now buffer2) (now scores) (now content) ⌝ }
+    ensures { λ r. ⌜ (saidOf r (now (templates .exit)) (now (index .exit)) (now (notepad .exit)) (now (buffer1 .exit)) (now (buffer2 .exit))
+        ≡ obey (chipOf (now (scores .entry)) (now (thresholds .entry)))
+        (readerOf settings (now (templates .entry)) (now (index .entry)) (now (notepad .entry)) (now (buffer1 .entry)) (now (buffer2 .entry)))
+        (readOf (rowOf commands code) (now (content .entry)))) × Ready r ⌝ }
 {
     match code {
         0x04 => {
@@ -87,8 +90,11 @@ pub(crate) fn command(
     content: &[u8],
     right: bool,
 ) -> Answer
-    requires { ⌜ CommandNeeds settings (now templates) (now index) (now notepad) (now buffer1) (now buffer2) (now scores) (now content) ⌝ }
-    ensures { λ r. ⌜ (saidOf r (now (templates .exit)) (now (index .exit)) (now (notepad .exit)) (now (buffer1 .exit)) (now (buffer2 .exit)) ≡ heed (chipOf (now (scores .entry)) (now (thresholds .entry))) (readerOf settings (now (templates .entry)) (now (index .entry)) (now (notepad .entry)) (now (buffer1 .entry)) (now (buffer2 .entry))) (orderOf right (now (content .entry)))) × Ready r ⌝ }
+    requires { ⌜ CommandNeeds settings (now templates) (now index) (now buffer1) (now buffer2) (now scores) (now content) ⌝ }
+    ensures { λ r. ⌜ (saidOf r (now (templates .exit)) (now (index .exit)) (now (notepad .exit)) (now (buffer1 .exit)) (now (buffer2 .exit))
+        ≡ heed (chipOf (now (scores .entry)) (now (thresholds .entry)))
+        (readerOf settings (now (templates .entry)) (now (index .entry)) (now (notepad .entry)) (now (buffer1 .entry)) (now (buffer2 .entry)))
+        (orderOf right (now (content .entry)))) × Ready r ⌝ }
 {
     let code = content[0];
     let stop = commands::gate(right, code, content.len() + 2, settings);

@@ -17,7 +17,7 @@ use Rattle.protocol.specs.Numbers.{holds, replyRoom, badLength, badRoom, badSet
 use Rattle.protocol.specs.Tests.{verdict}
 use Rattle.protocol.specs.Reader.{Reader, capacity}
 use Rattle.protocol.specs.Step.{stepOf}
-use Rattle.protocol.specs.Call.{core, fitLengths, fitChip, fitRoom, sound, Lent, Told, Ended, refused, carried, callOf, switchRefusal, switchAs, switchOf}
+use Rattle.protocol.specs.Call.{Shape, shaped, fitLengths, fitChip, fitRoom, sound, Lent, Told, Ended, refused, carried, callOf, switchRefusal, switchAs, switchOf}
 use Rattle.protocol.specs.Receiver.{holding, Line, line, fitting, runOf, handed, declined, receiveRefusal, receiveAs, receiveOf, lineSwitchAs, lineSwitchOf}
 use Rattle.protocol.specs.Records.{readerOf, chipOf, lentOf, switchedOf, receivedOf, emptiedOf}
 use Rattle.protocol.proofs.Laws.Answers.{call-kinds}
@@ -28,25 +28,25 @@ use Rattle.receiver.specs.Full.{fullRefusal}
 use Rattle.receiver.specs.Made.{received, emptied}
 
 -- a call uses no more than its run has
-pub used-within : (r : Reader) (n : ℕ) (s : List ℕ) (lent : Lent) (e : Ended) → e ≡ callOf core r (take n s) lent → e .told .used ≤ n
+pub used-within : (σ : Shape) (r : Reader) (n : ℕ) (s : List ℕ) (lent : Lent) (e : Ended) → e ≡ callOf σ r (take n s) lent → e .told .used ≤ n
 unfolding refused carried stepOf
-used-within r n s lent e q =
-    let u : e .told .used ≤ length (take n s) = rw q (call-kinds core r (take n s) lent (λ (y : Ended). y .told .used ≤ length (take n s)) (λ k. omega arith) (λ t v. used-in (take n s))) in
+used-within σ r n s lent e q =
+    let u : e .told .used ≤ length (take n s) = rw q (call-kinds σ r (take n s) lent (λ (y : Ended). y .told .used ≤ length (take n s)) (λ k. omega arith) (λ t v. used-in (take n s))) in
     omega (arith, length-take n s)
 
 -- ---- a count above what a receiver holds: refused by the lengths alone
 
-pub full : (h : Receiver) (s : Settings) (t i n b d c o piece room : List ℕ) (k : ℕ) (r : Received)
-    → holds < h .count → k ≡ fullRefusal (length t) (length i) (length n) (length b) (length d) (length c) (length o) (length room) → r ≡ received h s k 0 0
-    → receivedOf r t i n b d room ≡ receiveOf core (line (readerOf s t i n b d) h) piece (lentOf c o room)
+pub full : (v : ℕ) (h : Receiver) (s : Settings) (t i n b d c o piece room : List ℕ) (k : ℕ) (r : Received)
+    → holds < h .count → k ≡ fullRefusal v (length t) (length i) (length n) (length b) (length d) (length c) (length o) (length room) → r ≡ received h s k 0 0
+    → receivedOf r t i n b d room ≡ receiveOf (shaped v) (line (readerOf s t i n b d) h) piece (lentOf c o room)
 unfolding fullRefusal receiveOf receiveAs receiveRefusal verdict fitRoom refused
-full h s t i n b d c o piece room k r l e q =
+full v h s t i n b d c o piece room k r l e q =
     let x : Line = line (readerOf s t i n b d) h in
-    rw (q, e, ← lengths-are (x .reader .guarded) (chipOf c o), lt-leb _ _ l)
-    (go (fitLengths core (x .reader .guarded)) (fitChip (capacity (x .reader .guarded)) (chipOf c o)) (leb replyRoom (length room)) (sound (x .reader)))
+    rw (q, e, ← lengths-are v (x .reader .guarded) (chipOf c o), lt-leb _ _ l)
+    (go (fitLengths (shaped v) (x .reader .guarded)) (fitChip (capacity (x .reader .guarded)) (chipOf c o)) (leb replyRoom (length room)) (sound (x .reader)))
   where
     go : (f χ l w : Bool) → declined (cond (f && χ) (cond l badSetting badRoom) badLength) (line (readerOf s t i n b d) h) room
-        ≡ receiveAs core (line (readerOf s t i n b d) h) piece (lentOf c o room) (cond f (cond χ (cond l (cond w badSetting badSetting) badRoom) badLength) badLength)
+        ≡ receiveAs (shaped v) (line (readerOf s t i n b d) h) piece (lentOf c o room) (cond f (cond χ (cond l (cond w badSetting badSetting) badRoom) badLength) badLength)
     go false χ l w = refl
     go true false l w = refl
     go true true false w = refl
@@ -55,22 +55,22 @@ full h s t i n b d c o piece room k r l e q =
 
 -- ---- a count that it holds: the reader's call on all held bytes decides
 
-module _ (x : Line) (piece : List ℕ) (lent : Lent) (few : x .receiver .count ≤ holds) (run : List ℕ) (w : run ≡ runOf (x .receiver) piece) (e : Ended) (q : e ≡ callOf core (x .reader) run lent) where
-  by-call : receiveOf core x piece lent ≡ handedBy x piece e (e .told .refusal)
+module _ (σ : Shape) (x : Line) (piece : List ℕ) (lent : Lent) (few : x .receiver .count ≤ holds) (run : List ℕ) (w : run ≡ runOf (x .receiver) piece) (e : Ended) (q : e ≡ callOf σ (x .reader) run lent) where
+  by-call : receiveOf σ x piece lent ≡ handedBy x piece e (e .told .refusal)
   by-call =
-      receive-call core x piece lent (le-leb _ _ few)
-      ∙ ap (λ (y : Ended). handedBy x piece y (y .told .refusal)) (sym (q ∙ ap (λ (s : List ℕ). callOf core (x .reader) s lent) w))
+      receive-call σ x piece lent (le-leb _ _ few)
+      ∙ ap (λ (y : Ended). handedBy x piece y (y .told .refusal)) (sym (q ∙ ap (λ (s : List ℕ). callOf σ (x .reader) s lent) w))
 
   -- refused, it used and answered nothing
   unused : e .told .refusal ≢ 0 → e .told ≡ record { refusal = e .told .refusal; used = 0; length = 0; room = e .told .room }
   unfolding refused carried
   unused =
       rw q
-      (call-kinds core (x .reader) run lent (λ (y : Ended). y .told .refusal ≢ 0 → y .told ≡ record { refusal = y .told .refusal; used = 0; length = 0; room = y .told .room })
+      (call-kinds σ (x .reader) run lent (λ (y : Ended). y .told .refusal ≢ 0 → y .told ≡ record { refusal = y .told .refusal; used = 0; length = 0; room = y .told .room })
       (λ k d. refl) (λ t u d. absurd (d refl)))
 
   pub stops : e .told .refusal ≢ 0
-      → record { told = record { refusal = e .told .refusal; used = 0; length = 0; room = e .told .room }; after = line (e .after) (x .receiver) } ≡ receiveOf core x piece lent
+      → record { told = record { refusal = e .told .refusal; used = 0; length = 0; room = e .told .room }; after = line (e .after) (x .receiver) } ≡ receiveOf σ x piece lent
   stops z = sym (by-call ∙ go (e .told .refusal) z ∙ ap (λ (t : Told). record { told = t; after = line (e .after) (x .receiver) }) (unused z))
     where
       go : (k : ℕ) → k ≢ 0 → handedBy x piece e k ≡ record { told = e .told; after = line (e .after) (x .receiver) }
@@ -79,7 +79,7 @@ module _ (x : Line) (piece : List ℕ) (lent : Lent) (few : x .receiver .count �
 
   -- the receiver h holds what was not used
   pub goes : (taken : ℕ) (h : Receiver) → e .told .refusal ≡ 0 → taken ≡ length (fitting (x .receiver) piece) → h ≡ holding (drop (e .told .used) run)
-      → record { told = record { refusal = 0; used = taken; length = e .told .length; room = e .told .room }; after = line (e .after) h } ≡ receiveOf core x piece lent
+      → record { told = record { refusal = 0; used = taken; length = e .told .length; room = e .told .room }; after = line (e .after) h } ≡ receiveOf σ x piece lent
   unfolding handed
   goes taken h z n k = rw (n, k, w) (sym (by-call ∙ ap (handedBy x piece e) z))
 

@@ -2,7 +2,7 @@
 ghost use mathlib.Core.Path.{_≡_};
 ghost use mathlib.Core.List.{List, []};
 ghost use Prim.Native.Nat.{ℕ, min};
-ghost use Rattle.protocol.specs.Call.{core};
+ghost use Rattle.protocol.specs.Call.{core, shaped};
 ghost use Rattle.protocol.specs.Receiver.{holding, receiveOf, lineSwitchOf};
 ghost use Rattle.protocol.specs.Records.{lineOf, lentOf, receivedOf, emptiedOf};
 ghost use Rattle.receiver.specs.Full.{fullRefusal};
@@ -63,6 +63,7 @@ fn emptied_of(receiver: Receiver, settings: Settings, refusal: u8) -> Emptied
 
 // The refusal of a call on a count above what a receiver holds: 1 and 2 come first. The lent lengths are handed over, and that of the reply room.
 fn full_refusal(
+    noted: usize,
     t: usize,
     i: usize,
     n: usize,
@@ -72,9 +73,9 @@ fn full_refusal(
     thresholds: usize,
     room: usize,
 ) -> u8
-    ensures { λ r. ⌜ r ≡ fullRefusal t i n b c scores thresholds room ⌝ }
+    ensures { λ r. ⌜ r ≡ fullRefusal noted t i n b c scores thresholds room ⌝ }
 {
-    let fit = call::is_fit(t, i, n, b, c, scores, thresholds);
+    let fit = call::is_fit(noted, t, i, n, b, c, scores, thresholds);
     if !fit {
         return refusals::BAD_LENGTH;
     }
@@ -84,9 +85,10 @@ fn full_refusal(
     refusals::BAD_SETTING
 }
 
-// A call: takes what fits of the piece behind the bytes held, does the reader's call on all of them, and drops those used. The cells behind
-// what is still held are zero then, and so is the spare byte.
-pub fn receive(
+// A call of a reader with a notepad of `noted` bytes: takes what fits of the piece behind the bytes held, does the reader's call on all of them, and
+// drops those used. The cells behind what is still held are zero then, and so is the spare byte.
+pub fn receive_shaped(
+    noted: usize,
     line: Line,
     templates: &mut [u8],
     index: &mut [u8],
@@ -98,13 +100,17 @@ pub fn receive(
     piece: &[u8],
     reply: &mut [u8],
 ) -> Received
-    ensures { λ r. ⌜ receivedOf r (now (templates .exit)) (now (index .exit)) (now (notepad .exit)) (now (buffer1 .exit)) (now (buffer2 .exit)) (now (reply .exit)) ≡ receiveOf core (lineOf line (now (templates .entry)) (now (index .entry)) (now (notepad .entry)) (now (buffer1 .entry)) (now (buffer2 .entry))) (now (piece .entry)) (lentOf (now (scores .entry)) (now (thresholds .entry)) (now (reply .entry))) ⌝ }
+    ensures { λ r. ⌜ receivedOf r (now (templates .exit)) (now (index .exit)) (now (notepad .exit)) (now (buffer1 .exit)) (now (buffer2 .exit)) (now (reply .exit))
+        ≡ receiveOf (shaped noted)
+        (lineOf line (now (templates .entry)) (now (index .entry)) (now (notepad .entry)) (now (buffer1 .entry)) (now (buffer2 .entry)))
+        (now (piece .entry)) (lentOf (now (scores .entry)) (now (thresholds .entry)) (now (reply .entry))) ⌝ }
 {
     let receiver = line.receiver;
     let settings = line.settings;
     let count = receiver.count as usize;
     if numbers::HOLDS < count {
         let refusal = full_refusal(
+            noted,
             templates.len(),
             index.len(),
             notepad.len(),
@@ -120,7 +126,8 @@ pub fn receive(
     let to = count + taken;
     let mut held = receiver.held;
     bytes::put(&mut held[count..to], &piece[..taken]);
-    let c = call::step(
+    let c = call::step_shaped(
+        noted,
         settings,
         templates,
         index,
@@ -156,9 +163,43 @@ pub fn receive(
     }
 }
 
+// A call of document 01's reader, whose notepad has 512.
+pub fn receive(
+    line: Line,
+    templates: &mut [u8],
+    index: &mut [u8],
+    notepad: &mut [u8],
+    buffer1: &mut [u8],
+    buffer2: &mut [u8],
+    scores: &[u16],
+    thresholds: &[u16],
+    piece: &[u8],
+    reply: &mut [u8],
+) -> Received
+    ensures { λ r. ⌜ receivedOf r (now (templates .exit)) (now (index .exit)) (now (notepad .exit)) (now (buffer1 .exit)) (now (buffer2 .exit)) (now (reply .exit))
+        ≡ receiveOf core
+        (lineOf line (now (templates .entry)) (now (index .entry)) (now (notepad .entry)) (now (buffer1 .entry)) (now (buffer2 .entry)))
+        (now (piece .entry)) (lentOf (now (scores .entry)) (now (thresholds .entry)) (now (reply .entry))) ⌝ }
+{
+    receive_shaped(
+        numbers::NOTEPAD,
+        line,
+        templates,
+        index,
+        notepad,
+        buffer1,
+        buffer2,
+        scores,
+        thresholds,
+        piece,
+        reply,
+    )
+}
+
 // The line switch: the reader's, and the held bytes emptied. It knows only refusal 1, and changes nothing then.
 pub fn line_switch(line: Line, buffer1: &mut [u8], buffer2: &mut [u8]) -> Emptied
-    ensures { λ r. ⌜ ((t i n : List ℕ) → emptiedOf r t i n (now (buffer1 .exit)) (now (buffer2 .exit)) ≡ lineSwitchOf (lineOf line t i n (now (buffer1 .entry)) (now (buffer2 .entry)))) ⌝ }
+    ensures { λ r. ⌜ ((t i n : List ℕ) → emptiedOf r t i n (now (buffer1 .exit)) (now (buffer2 .exit))
+        ≡ lineSwitchOf (lineOf line t i n (now (buffer1 .entry)) (now (buffer2 .entry)))) ⌝ }
 {
     let receiver = line.receiver;
     let settings = line.settings;

@@ -11,17 +11,17 @@ use Rattle.receiver.specs.Full.{fullRefusal}
 use Rattle.receiver.proofs.full_refusal.Statement.{statement}
 use Rattle.receiver.proofs.full_refusal.Tie as tie
 
-module _ (t i n b c s h room : ℕ) (fit : Bool) (e : fit ≡ lengthsFit t i n b c s h) where
-  bad-length : not fit ≡ true → badLength ≡ fullRefusal t i n b c s h room
+module _ (v t i n b c s h room : ℕ) (fit : Bool) (e : fit ≡ lengthsFit v t i n b c s h) where
+  bad-length : not fit ≡ true → badLength ≡ fullRefusal v t i n b c s h room
   unfolding fullRefusal
   bad-length f = rw (← e, not-true fit f)
 
   module _ (f : not fit ≡ false) where
-    bad-room : room < replyRoom → badRoom ≡ fullRefusal t i n b c s h room
+    bad-room : room < replyRoom → badRoom ≡ fullRefusal v t i n b c s h room
     unfolding fullRefusal
     bad-room l = rw (← e, not-false fit f, lt-leb replyRoom room l)
 
-    bad-count : replyRoom ≤ room → badSetting ≡ fullRefusal t i n b c s h room
+    bad-count : replyRoom ≤ room → badSetting ≡ fullRefusal v t i n b c s h room
     unfolding fullRefusal
     bad-count l = rw (← e, not-false fit f, le-leb replyRoom room l)
 

@@ -14,7 +14,7 @@ use Rattle.protocol.specs.Tests.{countBelow}
 use Rattle.protocol.specs.Index.{bit, stored, setBits}
 use Rattle.protocol.specs.Reader.{Marks, closed, opened, unfit, Plain, noOrigin, fromPage, Buffer, Guarded, Reader, capacity, sizeOf, keyed, locked, bufferOf, emptied, loadedFrom, storedOn, fresh, zeroed}
 use Rattle.protocol.specs.Table.{isBuffer, second, statusOf}
-use Rattle.protocol.specs.Call.{Shape, core, Lent, Told, replyOf, callOf, switchOf}
+use Rattle.protocol.specs.Call.{Shape, core, shaped, Lent, Told, replyOf, callOf, switchOf}
 use Rattle.protocol.specs.Dialogue.{Event, received, switch, on, finally, over, first, dialogue}
 use Rattle.protocol.specs.Records.{fitMark, fitMarks, transferOf, originOf, freshOf}
 use Rattle.protocol.proofs.Laws.Logic.{T→true, T→false, and-l, and-r, and-i}
@@ -62,8 +62,9 @@ pub record Memory : Type 0 where
   pub emptied-is : emptied ≡ record { bytes = replicate 512 0; filled = false; origin = noOrigin }
   pub loaded-is : (p : ℕ) (b : List ℕ) → loadedFrom p b ≡ record { bytes = b; filled = true; origin = fromPage p }
   pub stored-is : (p : ℕ) (b : Buffer) → storedOn p b ≡ record { bytes = b .bytes; filled = b .filled; origin = fromPage p }
-  -- C from 1 to 1000, index 128 bytes, notepad 512
+  -- C from 1 to 1000, index 128 bytes, notepad 512; and with a notepad of n bytes
   pub core-is : core ≡ record { least = 1; most = 1000; indexed = 128; noted = 512 }
+  pub shaped-is : (n : ℕ) → shaped n ≡ record { least = 1; most = 1000; indexed = 128; noted = n }
   -- zeroed memory of c pages
   pub zeroed-is : (c i n : ℕ) → zeroed c i n
       ≡ record {
@@ -86,6 +87,7 @@ memory =
       loaded-is = λ p b. refl;
       stored-is = λ p b. refl;
       core-is = refl;
+      shaped-is = λ n. refl;
       zeroed-is = λ c i n. refl;
     }
 

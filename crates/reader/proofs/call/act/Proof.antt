@@ -56,7 +56,6 @@ command-requires c κs =
             pages = f .pages;
             within = f .within;
             index = f .index;
-            notepad = f .notepad;
             buffer1 = search needs;
             buffer2 = search needs;
             legal = search;

@@ -16,7 +16,6 @@ use Rattle.protocol.specs.Search.{Chip}
 use Rattle.protocol.specs.Commands.{Free, Barred, free, barred, commands, rowOf}
 use Rattle.protocol.specs.Table.{freeRule, publicOf}
 use Rattle.protocol.specs.Step.{carryFree, obey}
-use Rattle.protocol.specs.Call.{core}
 use Rattle.protocol.specs.Records.{plainOf, readerOf}
 use Rattle.protocol.proofs.Laws.Logic.{not-true}
 use Rattle.reader.specs.declared.answers.Answer.{Answer}
@@ -98,7 +97,6 @@ unfolding lenOf rowOf commands
 word-at-requires-2 c κs = search inside
 
 search-pages-requires : tie.Need-search-pages-requires
-unfolding core
 search-pages-requires c κs = (search needs, (search needs, (search needs, (search needs, search))))
 
 shared-slice-read-n-2 : tie.Need-shared-slice-read-n-2
@@ -189,7 +187,6 @@ read-note-requires : tie.Need-read-note-requires
 read-note-requires c κs = search needs
 
 count-pages-requires : tie.Need-count-pages-requires
-unfolding core
 count-pages-requires c κs = search needs
 
 shared-slice-read-read-index : tie.Need-shared-slice-read-read-index
