@@ -18,11 +18,11 @@ use Rattle.protocol.specs.Tests.{verdict}
 use Rattle.protocol.specs.Reader.{Reader, capacity}
 use Rattle.protocol.specs.Step.{stepOf}
 use Rattle.protocol.specs.Call.{Shape, shaped, fitLengths, fitChip, fitRoom, sound, Lent, Told, Ended, refused, carried, callOf, switchRefusal, switchAs, switchOf}
-use Rattle.protocol.specs.Receiver.{holding, Line, line, fitting, runOf, handed, declined, receiveRefusal, receiveAs, receiveOf, lineSwitchAs, lineSwitchOf}
+use Rattle.protocol.specs.Receiver.{holding, Line, line, Handed, fitting, runOf, handed, declined, receiveRefusal, receiveAs, receiveOf, lineSwitchAs, lineSwitchOf}
 use Rattle.protocol.specs.Records.{readerOf, chipOf, lentOf, switchedOf, receivedOf, emptiedOf}
 use Rattle.protocol.proofs.Laws.Answers.{call-kinds}
 use Rattle.protocol.proofs.Laws.Finder.{used-in}
-use Rattle.protocol.proofs.Laws.Holding.{handedBy, receive-call}
+use Rattle.protocol.proofs.Laws.Holding.{handedBy, receive-call, receive-kinds}
 use Rattle.reader.proofs.Calls.{lengths-are}
 use Rattle.receiver.specs.Full.{fullRefusal}
 use Rattle.receiver.specs.Made.{received, emptied}
@@ -82,6 +82,35 @@ module _ (σ : Shape) (x : Line) (piece : List ℕ) (lent : Lent) (few : x .rece
       → record { told = record { refusal = 0; used = taken; length = e .told .length; room = e .told .room }; after = line (e .after) h } ≡ receiveOf σ x piece lent
   unfolding handed
   goes taken h z n k = rw (n, k, w) (sym (by-call ∙ ap (handedBy x piece e) z))
+
+-- ---- a refused call: the line that it took is the one that it leaves
+
+module _ (σ : Shape) (h : Receiver) (s : Settings) (t i n b d piece c o room : List ℕ) where
+  abbrev taken-line : Line
+  taken-line = line (readerOf s t i n b d) h
+
+  declines : (e : Handed) → e ≡ receiveOf σ taken-line piece (lentOf c o room) → (e .told .refusal ≡ 0 → ⊥) → e ≡ declined (e .told .refusal) taken-line room
+  unfolding refused handed
+  declines e q =
+      rw q
+      (receive-kinds σ taken-line piece (lentOf c o room) (λ (e : Handed). (e .told .refusal ≡ 0 → ⊥) → e ≡ declined (e .told .refusal) taken-line room)
+      (λ k z. refl) (λ l f m z. absurd (z refl)))
+
+  pub hands-back : (y : Received) (t′ i′ n′ b′ d′ room′ : List ℕ) → receivedOf y t′ i′ n′ b′ d′ room′ ≡ receiveOf σ taken-line piece (lentOf c o room)
+      → (y .refusal ≡ 0 → ⊥) → (r : Received) → r ≡ received h s (y .refusal) 0 0 → receivedOf r t′ i′ n′ b′ d′ room′ ≡ receiveOf σ taken-line piece (lentOf c o room)
+  unfolding refused
+  hands-back y t′ i′ n′ b′ d′ room′ q z r e =
+      let k : receivedOf y t′ i′ n′ b′ d′ room′ ≡ declined (y .refusal) taken-line room = declines (receivedOf y t′ i′ n′ b′ d′ room′) q z in
+      rw (
+        e,
+        ap (λ (e : Handed). e .after .reader .guarded .templates) k,
+        ap (λ (e : Handed). e .after .reader .guarded .index) k,
+        ap (λ (e : Handed). e .after .reader .guarded .notepad) k,
+        ap (λ (e : Handed). e .after .reader .guarded .buffer1 .bytes) k,
+        ap (λ (e : Handed). e .after .reader .guarded .buffer2 .bytes) k,
+        ap (λ (e : Handed). e .told .room) k,
+      )
+      (sym k ∙ q)
 
 -- ---- the line switch
 

@@ -163,7 +163,8 @@ pub fn receive_shaped(
     }
 }
 
-// A call of document 01's reader, whose notepad has 512.
+// A call of document 01's reader, whose notepad has 512. Where it is refused the line is handed back from where it came: then the compiler
+// copies it at no other place.
 pub fn receive(
     line: Line,
     templates: &mut [u8],
@@ -181,7 +182,7 @@ pub fn receive(
         (lineOf line (now (templates .entry)) (now (index .entry)) (now (notepad .entry)) (now (buffer1 .entry)) (now (buffer2 .entry)))
         (now (piece .entry)) (lentOf (now (scores .entry)) (now (thresholds .entry)) (now (reply .entry))) ⌝ }
 {
-    receive_shaped(
+    let received = receive_shaped(
         numbers::NOTEPAD,
         line,
         templates,
@@ -193,7 +194,11 @@ pub fn receive(
         thresholds,
         piece,
         reply,
-    )
+    );
+    if received.refusal != refusals::ACCEPTED {
+        return received_of(line.receiver, line.settings, received.refusal, 0, 0);
+    }
+    received
 }
 
 // The line switch: the reader's, and the held bytes emptied. It knows only refusal 1, and changes nothing then.
