@@ -1,6 +1,6 @@
 /*
  * A reader in an area of memory: its line, and each part that is lent, with guard bytes around it. Memory of bytes begins at odd addresses; what has length 0 is
- * lent as NULL. The reader is called through three doors: without a receiver, with one that is offered the whole run, and with one that already holds half of it.
+ * lent as NULL. The reader is called through three doors: a receiver that is offered the whole run, one that already holds half of it, and none.
  * What a call may change is changed in a copy of the area as it was, and then every byte of the two is compared.
  */
 #include "bystrodol.h"
@@ -30,7 +30,7 @@ static size_t lengths[PARTS];
 static struct bystrodol_answer answer;
 static struct bystrodol_received received;
 
-static enum { STEP, OFFERED, HELD, DOORS } door;
+static enum { OFFERED, HELD, STEP, DOORS } door;
 
 /* The found mark of a reader that is set up. */
 static uint8_t found;
@@ -81,6 +81,7 @@ static inline void *part(int i) { return lengths[i] ? parts[i] : NULL; }
 static inline void step(const uint8_t *run, size_t length) {
     save();
     answer = bystrodol_step(&area.line.settings, MEMORY, run, length, LENT(REPLY));
+    demand("bytes used", answer.used, length), demand("reply length", answer.length, lengths[REPLY]);
 }
 
 /* A piece to the receiver as it is. The bytes used are those that are neither held nor left of it. */
@@ -88,6 +89,7 @@ static inline void offer(const uint8_t *piece, size_t length) {
     size_t held = area.line.receiver.count;
     save();
     received = bystrodol_receive(&area.line, MEMORY, piece, length, LENT(REPLY));
+    demand("bytes taken", received.taken, length), demand("reply length", received.length, lengths[REPLY]);
     answer = (struct bystrodol_answer){received.refusal, held + received.taken - area.line.receiver.count, received.length};
 }
 
@@ -130,10 +132,21 @@ static inline uint8_t *part_was(int i) { return was.bytes + (parts[i] - area.byt
 
 static inline uint8_t *page_was(size_t page) { return part_was(TEMPLATES) + BYSTRODOL_PAGE_BYTES * page; }
 
-/* Every byte of the area is what is expected of it. */
-static inline void is_all(const char *name, size_t which) {
-    check_of(name, which, "a byte of line, memory, reply or guards", differ(&area, &was, extent()), extent());
+static inline const char *name_at(const uint8_t *at) {
+    for (int i = 0; i < PARTS; i++)
+        if (at >= parts[i] && at < parts[i] + lengths[i] * (i <= THRESHOLDS ? 2 : 1)) return names[i];
+    return at < (uint8_t *)&area.line || at >= area.before_scores ? "guards" : at < (uint8_t *)&area.line.receiver ? "settings" : "receiver";
 }
+
+/* Every byte of the area is that of another; of the first that is not, the part is named. */
+static inline void is_like(const char *name, size_t which, const struct area *other) {
+    const uint8_t *const bytes = (uint8_t *)&area, *const others = (const uint8_t *)other;
+    const size_t at = differ(bytes, others, extent());
+    if (at == extent()) passed++;
+    else check_of(name, which, name_at(bytes + at), bytes[at], others[at]);
+}
+
+static inline void is_all(const char *name, size_t which) { is_like(name, which, &was); }
 
 static inline void is_refused(const char *name, size_t which, uint8_t refusal) {
     check_of(name, which, "refusal", answer.refusal, refusal);

@@ -29,6 +29,13 @@ static void check_of(const char *name, size_t which, const char *what, size_t go
     if (++failed == FAILED_MOST) _exit(report("the rest is left out"));
 }
 
+/* What a call says is at most what there is; where it says more, the test ends. */
+static inline void demand(const char *name, size_t got, size_t most) {
+    if (got <= most) return;
+    check_of(name, most, "more than there is", got, most);
+    _exit(report("the rest is left out"));
+}
+
 static void check(const char *name, size_t got, size_t wanted) { check_of(name, 0, "the answer", got, wanted); }
 
 /* The first place where two runs of n bytes differ, or n. */

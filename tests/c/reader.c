@@ -308,9 +308,9 @@ static void checks(void) {
 }
 
 int main(void) {
-    static const char *const doors[DOORS] = {", by bystrodol_step", ", by bystrodol_receive", ", by bystrodol_receive, half held"};
+    static const char *const doors[DOORS] = {", by bystrodol_receive", ", by bystrodol_receive, half held", ", by bystrodol_step"};
     fill_pattern();
-    for (door = STEP; door < DOORS; door++)
+    for (door = OFFERED; door < DOORS; door++)
         for (found = 0, through = doors[door]; found < 2; found++) checks();
     return report("reader");
 }

@@ -79,6 +79,7 @@ static void start(struct outcome *o) { o->replied = o->refusal = o->left = 0; }
 
 /* Keeps a call's reply. */
 static void send_on(struct outcome *o) {
+    demand("reply bytes of a run", o->replied + answer.length, REPLIES_ROOM);
     memcpy(o->replies + o->replied, parts[REPLY], answer.length);
     o->replied += answer.length, o->refusal = answer.refusal;
 }
@@ -87,6 +88,7 @@ static void send_on(struct outcome *o) {
 static void keep_whole(const uint8_t *left, size_t length) {
     memcpy(&whole.area, &area, extent());
     struct bystrodol_receiver *r = &whole.area.line.receiver;
+    demand("bytes left of a run", length, BYSTRODOL_HELD_MOST);
     memset(r, 0, sizeof *r);
     memcpy(r->held, left, length), r->count = (uint16_t)length;
 }
@@ -97,7 +99,7 @@ static void is_whole(const char *name, size_t which) {
     check_of(name, which, "bytes left of a piece", here.left, 0);
     check_of(name, which, "reply bytes", here.replied, whole.replied);
     check_of(name, which, "replies", differ(here.replies, whole.replies, whole.replied), whole.replied);
-    check_of(name, which, "a byte of line, memory, reply or guards", differ(&area, &whole.area, extent()), extent());
+    is_like(name, which, &whole.area);
 }
 
 /* ---- a call: every held count, and a piece of every length */
@@ -130,22 +132,21 @@ static void calls(void) {
 /* ---- the loop: the same run whole, and in pieces */
 
 /* Calls without a receiver, on all that is left, until one uses nothing. */
-static void serve_whole(size_t count) {
+static void serve_whole(void) {
     size_t from = 0;
-    set_up_holding(count), start(&whole);
+    set_up_holding(0), start(&whole);
     do step(run + from, run_length - from), send_on(&whole), from += answer.used;
     while (answer.used != 0);
     keep_whole(run + from, run_length - from);
 }
 
-/* The header's loop. It ends, too, where a call takes more than there is, or makes more replies than the run can have. */
+/* The header's loop. */
 static void serve_piece(const uint8_t *piece, size_t length) {
     size_t held;
     do {
         held = area.line.receiver.count;
         offer(piece, length);
         send_on(&here);
-        if (received.taken > length || here.replied > REPLIES_ROOM - BYSTRODOL_REPLY_BYTES) break;
         piece += received.taken, length -= received.taken;
     } while (received.taken != 0 || area.line.receiver.count != held);
     here.left += length;
@@ -164,14 +165,14 @@ static void is_served(const char *name, size_t size) {
 
 static void loops(void) {
     make_dialogue();
-    serve_whole(0);
+    serve_whole();
     check("an unfinished packet is left of the run", whole.area.line.receiver.count, BYSTRODOL_UNFINISHED_MOST);
     for (size_t size = 1; size <= PIECE_MOST; size++) is_served("pieces", size);
     for (size_t i = 0; i < 200; i++) is_served("pieces of any length", 0);
     is_served("one piece", run_length);
     memset(run, 0x33, NOISE), run_length = NOISE;
     ADD(BYSTRODOL_COMMAND_HAND_SHAKE);
-    serve_whole(0);
+    serve_whole();
     check("a run of more than 65535 bytes", whole.replied, 12);
     is_served("a piece of more than 65535 bytes", run_length);
 }
@@ -180,7 +181,6 @@ static void loops(void) {
 
 static void counts(void) {
     make_dialogue();
-    door = OFFERED;
     for (size_t count = 0; count <= 0xFFFF; count += count < 600 ? 1 : 61) {
         set_up_holding(count);
         lengths[BUFFER1]--, lengths[REPLY]--, offer(run, 12), is_refused("a length, the room and a held count", count, BYSTRODOL_BAD_LENGTH);

@@ -76,40 +76,37 @@ struct bystrodol_settings slipped_fresh(void) {
     templates, templates_length, index, index_length, notepad, notepad_length, buffer1, length1, buffer2, length2, scores, scores_length,          \
         thresholds, thresholds_length, run, run_length, reply, reply_length
 
-/* The slips of both doors, around the right call. */
-#define CALL(settings, right, answer, taken)                                                                                                       \
-    uint8_t *const first = buffer1;                                                                                                                \
-    if (slip("reader: buffers exchanged")) buffer1 = buffer2, buffer2 = first;                                                                     \
-    if (slip("reader: the notepad a byte further")) notepad++;                                                                                     \
-    if (slip("reader: the scores a page further")) scores++;                                                                                       \
-    if (slip("reader: lengths in 16 bits")) scores_length &= 0xFFFF, index_length &= 0xFFFF;                                                       \
-    if (slip("receiver: a run in 16 bits")) run_length &= 0xFFFF;                                                                                  \
-    if (slip("reader: even addresses")) buffer2 -= (size_t)buffer2 % 2;                                                                            \
-    enter(settings);                                                                                                                               \
-    answer = right;                                                                                                                                \
-    leave(settings, 0);                                                                                                                            \
-    if (slip("reader: taken and length")) taken ^= answer.length, answer.length ^= taken, taken ^= answer.length;                                  \
-    if (slip("reader: refusals 2 and 3") && answer.refusal > 1) answer.refusal ^= 1;                                                               \
-    if (slip("reader: refused, a byte written") && answer.refusal == BYSTRODOL_BAD_SETTING) reply[0] ^= 1;                                         \
-    if (slip("reader: a byte behind the reply") && !answer.refusal) reply[answer.length] ^= 1;                                                     \
-    if (slip("reader: a byte behind the templates") && !answer.refusal) templates[templates_length] ^= 1;                                          \
-    if (slip("reader: a byte before the index") && !answer.refusal) index[-1] ^= 1
-
 struct bystrodol_answer slipped_step(struct bystrodol_settings *settings, LENT) {
-    struct bystrodol_answer a;
-    CALL(settings, bystrodol_step(settings, AS_LENT), a, a.used);
-    return a;
+    enter(settings);
+    struct bystrodol_answer a = bystrodol_step(settings, AS_LENT);
+    leave(settings, 0);
+    return slip("reader: used and length") ? (struct bystrodol_answer){a.refusal, a.length, a.used} : a;
 }
 
 struct bystrodol_received slipped_receive(struct bystrodol_line *line, LENT) {
-    struct bystrodol_received r;
-    was.receiver = line->receiver;
-    CALL(&line->settings, bystrodol_receive(line, AS_LENT), r, r.taken);
-    if (slip("receiver: held bytes are taken")) r.taken += was.receiver.count;
-    if (slip("receiver: spare byte left")) line->receiver.spare = was.receiver.spare;
-    if (slip("receiver: last cell left")) line->receiver.held[BYSTRODOL_UNFINISHED_MOST] = was.receiver.held[BYSTRODOL_UNFINISHED_MOST];
-    if (slip("receiver: refused, emptied") && r.refusal) memset(&line->receiver, 0, sizeof line->receiver);
-    return r;
+    struct bystrodol_receiver *const held = &line->receiver;
+    uint8_t *const first = buffer1;
+    was.receiver = *held;
+    if (slip("reader: buffers exchanged")) buffer1 = buffer2, buffer2 = first;
+    if (slip("reader: the notepad a byte further")) notepad++;
+    if (slip("reader: the scores a page further")) scores++;
+    if (slip("reader: even addresses")) buffer2 -= (size_t)buffer2 % 2;
+    if (slip("reader: scores counted in 16 bits")) scores_length &= 0xFFFF;
+    if (slip("receiver: a piece in 16 bits")) run_length &= 0xFFFF;
+    enter(&line->settings);
+    struct bystrodol_received r = bystrodol_receive(line, AS_LENT);
+    leave(&line->settings, 0);
+    if (slip("reader: refusals 2 and 3") && r.refusal > 1) r.refusal ^= 1;
+    if (slip("reader: refused, a byte of the reply room written") && r.refusal == BYSTRODOL_BAD_SETTING) reply[0] ^= 1;
+    if (slip("receiver: refused, emptied") && r.refusal) memset(held, 0, sizeof *held);
+    if (slip("receiver: NULL refused") && !run && !r.refusal) r.refusal = BYSTRODOL_BAD_LENGTH;
+    if (slip("reader: a byte behind the reply") && !r.refusal) reply[r.length] ^= 1;
+    if (slip("reader: a byte behind the templates") && !r.refusal) templates[templates_length] ^= 1;
+    if (slip("reader: a byte before the index") && !r.refusal) index[-1] ^= 1;
+    if (slip("receiver: spare byte left")) held->spare = was.receiver.spare;
+    if (slip("receiver: last cell left")) held->held[BYSTRODOL_UNFINISHED_MOST] = was.receiver.held[BYSTRODOL_UNFINISHED_MOST];
+    if (slip("receiver: held bytes told as taken")) r.taken += was.receiver.count;
+    return slip("receiver: taken and length") ? (struct bystrodol_received){r.refusal, r.length, r.taken} : r;
 }
 
 /* ---- in the line switch and in the services */
