@@ -22,7 +22,7 @@ static struct area {
     uint16_t scores[1026];
     uint8_t before_thresholds[GUARD];
     uint16_t thresholds[11];
-    uint8_t bytes[386 + 3 * 514 + 268 + 702 + MOST + 8 * GUARD];
+    uint8_t bytes[1 + 386 + 3 * 514 + 268 + 702 + MOST + 8 * GUARD];
 } area, was, pattern;
 
 static uint8_t *parts[PARTS];
@@ -32,10 +32,12 @@ static struct bystrodol_received received;
 
 static enum { OFFERED, HELD, STEP, DOORS } door;
 
-/* The found mark of a reader that is set up. */
+/* The found mark and the address of a reader that is set up. */
 static uint8_t found;
+enum { ADDRESS = 0x1A2B3C4D };
 
 #define TWO(number) (uint8_t)((number) >> 8), (uint8_t)(number)
+#define CONTENT(...) (const uint8_t[]){__VA_ARGS__}, sizeof(const uint8_t[]){__VA_ARGS__}
 
 static inline size_t capacity(void) { return lengths[TEMPLATES] / BYSTRODOL_PAGE_BYTES; }
 
@@ -44,8 +46,8 @@ static inline size_t extent(void) { return (size_t)(parts[TEMPLATES] - (uint8_t 
 
 static inline void save(void) { memcpy(&was, &area, extent()); }
 
-/* A legal reader of so many bytes of templates, with fresh settings but for the found mark, bytes in all its memory of which no two pages have the same, and no
- * page stored; a reply room, and no run. Its receiver has any bytes, and a count above 267. */
+/* A legal reader of so many bytes of templates: fresh settings but for found mark and address, bytes in all memory, no two pages alike, and no page stored; a reply
+ * room, and no run. Its receiver has any bytes, and a count above 267. */
 static inline void set_up_bytes(size_t templates) {
     const size_t right[PARTS] = {templates / BYSTRODOL_PAGE_BYTES, BYSTRODOL_THRESHOLDS, BYSTRODOL_INDEX_BYTES, BYSTRODOL_PAGE_BYTES, BYSTRODOL_PAGE_BYTES,
                                  BYSTRODOL_PAGE_BYTES, 0, BYSTRODOL_REPLY_BYTES, templates};
@@ -55,6 +57,7 @@ static inline void set_up_bytes(size_t templates) {
     memcpy(&area, &pattern, extent());
     area.line.settings = bystrodol_fresh();
     area.line.settings.found = found;
+    memcpy(area.line.settings.address, CONTENT(TWO(ADDRESS >> 16), TWO(ADDRESS)));
     memset(parts[INDEX], 0, rooms[INDEX]);
 }
 
@@ -122,7 +125,6 @@ static inline void put(uint8_t identifier, const uint8_t *content, size_t length
 
 static inline void send(uint8_t identifier, const uint8_t *content, size_t length) { put(identifier, content, length), call(); }
 
-#define CONTENT(...) (const uint8_t[]){__VA_ARGS__}, sizeof(const uint8_t[]){__VA_ARGS__}
 #define COMMAND(...) send(BYSTRODOL_PACKET_COMMAND, CONTENT(__VA_ARGS__))
 
 /* ---- what a call leaves */

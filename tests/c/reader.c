@@ -79,17 +79,15 @@ static int is_legal(const struct bystrodol_settings *s) {
     return s->transfer <= 2 && s->got < 512 && s->got % (32 << s->size) == 0 && is_open && !(s->transfer == 1 ? s->filled1 : s->filled2);
 }
 
-/* ReadSysPara tells them, or is refused. The line switch takes them all, and keeps what it does not clear; the receiver has any bytes then. */
-static void any_settings(const char *name, size_t which, const struct bystrodol_settings *s) {
-    area.line.settings = *s;
-    if (is_legal(s)) {
-        is_read(name, which);
-    } else {
-        put(BYSTRODOL_PACKET_COMMAND, CONTENT(BYSTRODOL_COMMAND_READ_SYS_PARA));
-        refuses(name, which, BYSTRODOL_BAD_SETTING);
-    }
-    area.line = pattern.line, area.line.settings = *s;
+/* ReadSysPara tells them, or is refused. The line switch takes them all, and keeps what it does not clear. Whether they are legal is returned. */
+static int any_settings(const char *name, size_t which, const struct bystrodol_settings *s) {
+    set_up_some(), area.line.settings = *s;
+    put(BYSTRODOL_PACKET_COMMAND, CONTENT(BYSTRODOL_COMMAND_READ_SYS_PARA));
+    if (is_legal(s)) is_read(name, which);
+    else refuses(name, which, BYSTRODOL_BAD_SETTING);
+    set_up_some(), area.line.settings = *s;
     is_switched(name, which);
+    return is_legal(s);
 }
 
 /* Legal settings in twelve ways: each buffer filled from a page or not; without a password, locked, and open; with a transfer where there can be one. */
@@ -102,12 +100,10 @@ static struct bystrodol_settings legal_settings(size_t way) {
 /* Every byte of the settings takes every value, the marks among them. */
 static void every_byte(void) {
     static const char *const fields[] = {"password", "address", "level, size code, baud factor and transfer", "sensor type and bytes got", "marks", "origins"};
-    set_up_some();
     for (size_t way = 0; way < 12; way++)
         for (size_t at = 0; at < sizeof(struct bystrodol_settings); at++)
             for (unsigned byte = 0; byte < 256; byte++) {
                 struct bystrodol_settings s = legal_settings(way);
-                if (byte == 0) check_of("legal settings", way, "the answer", is_legal(&s), 1);
                 ((uint8_t *)&s)[at] = (uint8_t)byte;
                 any_settings(fields[at / 4], at << 8 | byte, &s);
             }
@@ -115,7 +111,6 @@ static void every_byte(void) {
 
 /* The bytes got of a transfer, at each size. */
 static void every_got(void) {
-    set_up_some();
     for (unsigned which = 0; which < 8 * 1025; which++) {
         struct bystrodol_settings s = bystrodol_fresh();
         s.transfer = 1 + which % 2, s.size = which / 2 % 4, s.got = (uint16_t)(which / 8);
@@ -123,18 +118,26 @@ static void every_got(void) {
     }
 }
 
+/* Every number as the origin of a buffer that is filled, the other one not. */
+static void every_origin(void) {
+    for (unsigned n = 0; n <= 0xFFFF; n += door == STEP ? 1 : 251)
+        for (size_t way = 1; way <= 2; way++) {
+            struct bystrodol_settings s = legal_settings(way);
+            *(way == 1 ? &s.origin1 : &s.origin2) = (uint16_t)n;
+            any_settings("an origin", n, &s);
+        }
+}
+
 /* Legal settings with up to four random bytes, and settings that are all random. */
 static void random_settings(void) {
     size_t legal = 0;
-    set_up_some();
     for (size_t which = 0; which < 12 * 1024; which++) {
         struct bystrodol_settings s = legal_settings(which % 12);
         for (size_t i = 0; i < which / 12 % 5; i++) ((uint8_t *)&s)[random_below(sizeof s)] = (uint8_t)random_below(256);
         for (size_t i = 0; which % 4 == 0 && i < sizeof s; i++) ((uint8_t *)&s)[i] = (uint8_t)random_below(256);
-        legal += (size_t)is_legal(&s);
-        any_settings("settings of random bytes", which, &s);
+        legal += (size_t)any_settings("settings of random bytes", which, &s);
     }
-    check("settings of random bytes, of which some are legal", legal > 1024 && legal < 11 * 1024, 1);
+    check("settings of random bytes, of which some are legal", legal > 2048 && legal < 10 * 1024, 1);
 }
 
 /* Every bit of an index, below the capacity and not. */
@@ -186,7 +189,11 @@ static void parameters(size_t pages) {
     is_read("ReadSysPara, locked", pages);
     COMMAND(BYSTRODOL_COMMAND_VFY_PWD, 5, 6, 7, 8), s->verified = 1, is_done("VfyPwd");
     is_read("ReadSysPara, open", pages);
-    COMMAND(BYSTRODOL_COMMAND_VFY_PWD, 8, 7, 6, 5), s->verified = 0, is_said("VfyPwd, wrong", pages, BYSTRODOL_CODE_WRONG_PASSWORD);
+    for (size_t i = 0; i < 4; i++) {
+        uint8_t wrong[] = {BYSTRODOL_COMMAND_VFY_PWD, 5, 6, 7, 8};
+        wrong[1 + i] ^= 0x80;
+        send(BYSTRODOL_PACKET_COMMAND, wrong, sizeof wrong), s->verified = 0, is_said("VfyPwd, wrong", i, BYSTRODOL_CODE_WRONG_PASSWORD);
+    }
 }
 
 static void notepad(void) {
@@ -211,7 +218,7 @@ static void transfers(uint8_t number) {
         const uint16_t size = (uint16_t)(32 << code);
         area.line.settings.size = code;
         COMMAND(BYSTRODOL_COMMAND_DOWN_CHAR, number), wipe_what_was(buffer), s->transfer = number, is_done("DownChar");
-        size_t length = bystrodol_build(0xFFFFFFFF, BYSTRODOL_PACKET_ACKNOWLEDGE, &done, 1, reply, sizeof reply);
+        size_t length = bystrodol_build(ADDRESS, BYSTRODOL_PACKET_ACKNOWLEDGE, &done, 1, reply, sizeof reply);
         for (uint16_t got = size; got <= BYSTRODOL_PAGE_BYTES; got += size) {
             const int is_last = got == BYSTRODOL_PAGE_BYTES;
             const uint8_t *const data = pattern.bytes + got, identifier = is_last ? BYSTRODOL_PACKET_LAST_DATA : BYSTRODOL_PACKET_DATA;
@@ -220,7 +227,7 @@ static void transfers(uint8_t number) {
             s->got = got;
             if (is_last) close_what_was(), *(number == 1 ? &s->filled1 : &s->filled2) = 1;
             is_silent("data", got);
-            length += bystrodol_build(0xFFFFFFFF, identifier, data, size, reply + length, sizeof reply - length);
+            length += bystrodol_build(ADDRESS, identifier, data, size, reply + length, sizeof reply - length);
         }
         COMMAND(BYSTRODOL_COMMAND_UP_CHAR, number), is_answered("UpChar", code, reply, length);
     }
@@ -267,17 +274,30 @@ static void search(void) {
 static void codes(void) {
     set_up(10);
     COMMAND(BYSTRODOL_COMMAND_HAND_SHAKE), is_done("HandShake");
-    COMMAND(BYSTRODOL_COMMAND_UP_CHAR, 3), is_said("UpChar of no buffer", 3, BYSTRODOL_CODE_BAD_PACKET);
     COMMAND(BYSTRODOL_COMMAND_UP_CHAR, 1), is_said("UpChar of an empty buffer", 1, BYSTRODOL_CODE_NOTHING_TO_SEND);
+    COMMAND(BYSTRODOL_COMMAND_SEARCH, 1, 0, 9, 0, 1), is_said("Search by an empty buffer", 9, BYSTRODOL_CODE_NOTHING_THERE);
+    COMMAND(BYSTRODOL_COMMAND_SEARCH, 1, 0, 10, 0, 1), is_said("Search past the last page", 10, BYSTRODOL_CODE_BAD_PAGE);
     COMMAND(BYSTRODOL_COMMAND_STORE, 1, 0, 9), is_said("Store of an empty buffer", 9, BYSTRODOL_CODE_NOTHING_THERE);
     COMMAND(BYSTRODOL_COMMAND_STORE, 1, 0, 10), is_said("Store past the last page", 10, BYSTRODOL_CODE_BAD_PAGE);
+    COMMAND(BYSTRODOL_COMMAND_LOAD_CHAR, 1, 0, 9), is_said("LoadChar of a vacant page", 9, BYSTRODOL_CODE_NOTHING_THERE);
+    COMMAND(BYSTRODOL_COMMAND_LOAD_CHAR, 1, 0, 10), is_said("LoadChar past the last page", 10, BYSTRODOL_CODE_BAD_PAGE);
     COMMAND(BYSTRODOL_COMMAND_DELET_CHAR, 0, 9, 0, 2), is_said("DeletChar past the last page", 9, BYSTRODOL_CODE_BAD_RANGE);
     COMMAND(BYSTRODOL_COMMAND_SET_SYS_PARA, BYSTRODOL_PARAMETER_SIZE, 4), is_said("SetSysPara, size 4", 4, BYSTRODOL_CODE_BAD_VALUE);
     COMMAND(BYSTRODOL_COMMAND_SET_SYS_PARA, 7, 1), is_said("SetSysPara, parameter 7", 7, BYSTRODOL_CODE_BAD_PARAMETER);
     COMMAND(BYSTRODOL_COMMAND_READ_NOTEPAD, 16), is_said("ReadNotepad, page 16", 16, BYSTRODOL_CODE_BAD_NOTE_PAGE);
     for (unsigned n = 4; n < 256; n++) COMMAND(BYSTRODOL_COMMAND_READ_INDEX_TABLE, (uint8_t)n), is_said("ReadIndexTable", n, BYSTRODOL_CODE_BAD_PAGE);
-    put(BYSTRODOL_PACKET_COMMAND, CONTENT(BYSTRODOL_COMMAND_HAND_SHAKE)), parts[RUN][lengths[RUN] - 1]++, call();
-    is_said("a wrong sum", 0, BYSTRODOL_CODE_BAD_PACKET);
+    for (unsigned n = 3; n <= 256; n++) {
+        COMMAND(BYSTRODOL_COMMAND_SEARCH, (uint8_t)n, 0, 0, 0, 1), is_said("Search by no buffer", n, BYSTRODOL_CODE_BAD_PACKET);
+        COMMAND(BYSTRODOL_COMMAND_STORE, (uint8_t)n, 0, 0), is_said("Store of no buffer", n, BYSTRODOL_CODE_BAD_PACKET);
+        COMMAND(BYSTRODOL_COMMAND_LOAD_CHAR, (uint8_t)n, 0, 0), is_said("LoadChar to no buffer", n, BYSTRODOL_CODE_BAD_PACKET);
+        COMMAND(BYSTRODOL_COMMAND_UP_CHAR, (uint8_t)n), is_said("UpChar of no buffer", n, BYSTRODOL_CODE_BAD_PACKET);
+        COMMAND(BYSTRODOL_COMMAND_DOWN_CHAR, (uint8_t)n), is_said("DownChar to no buffer", n, BYSTRODOL_CODE_BAD_PACKET);
+    }
+    for (unsigned added = 1; added < 256; added++)
+        for (size_t byte = 1; byte <= 2; byte++) {
+            put(BYSTRODOL_PACKET_COMMAND, CONTENT(BYSTRODOL_COMMAND_HAND_SHAKE)), parts[RUN][lengths[RUN] - byte] += (uint8_t)added, call();
+            is_said("a wrong sum", added, BYSTRODOL_CODE_BAD_PACKET);
+        }
     send(BYSTRODOL_PACKET_ACKNOWLEDGE, CONTENT(BYSTRODOL_COMMAND_HAND_SHAKE)), is_silent("an acknowledge", 0);
     area.line.settings.transfer = 2;
     send(BYSTRODOL_PACKET_DATA, CONTENT(1, 2, 3)), wipe_what_was(BUFFER2), close_what_was(), is_said("data of another size", 3, BYSTRODOL_CODE_TRANSFER_FAILED);
@@ -297,6 +317,7 @@ static void checks(void) {
     order();
     every_byte();
     every_got();
+    every_origin();
     random_settings();
     every_bit();
     every_code();

@@ -19,11 +19,12 @@ static struct outcome {
 
 static uint8_t run[NOISE + RUN_ROOM];
 static size_t run_length;
+static uint32_t to = ADDRESS; /* where packets go */
 
 static void add(const uint8_t *bytes, size_t length) { memcpy(run + run_length, bytes, length), run_length += length; }
 
 static void add_packet(uint8_t identifier, const uint8_t *content, size_t length) {
-    run_length += bystrodol_build(0xFFFFFFFF, identifier, content, length, run + run_length, sizeof run - run_length);
+    run_length += bystrodol_build(to, identifier, content, length, run + run_length, sizeof run - run_length);
 }
 
 #define ADD(...) add_packet(BYSTRODOL_PACKET_COMMAND, CONTENT(__VA_ARGS__))
@@ -33,12 +34,12 @@ static void add_longest(uint8_t identifier) {
     add_packet(identifier, pattern.bytes + identifier, identifier == BYSTRODOL_PACKET_COMMAND ? BYSTRODOL_CONTENT_MOST_OTHER : BYSTRODOL_CONTENT_MOST_DATA);
 }
 
-/* What a host may send: a template downloaded, stored, loaded, searched for and uploaded, and one in the longest data packets; noise, a lone EF, a start that no packet
- * has, a wrong sum and another address between; a password, and parameters before and behind it; at the end a packet that is not all there. */
+/* What a host may send: a template downloaded, stored, loaded, searched for and uploaded, and one in the longest data packets; noise, a lone EF, starts of no packet,
+ * a wrong sum and another address between; a password, and parameters before and behind it; at the end a packet that is not all there. */
 static void make_dialogue(void) {
     run_length = 0;
     ADD(BYSTRODOL_COMMAND_HAND_SHAKE);
-    add(CONTENT(0x00, 0x55, 0xEF, 0xEF, 0x02));
+    add(CONTENT(0x00, 0x55, 0xEF, 0xEF, 0x02, 0xEF, 0x01));
     ADD(BYSTRODOL_COMMAND_DOWN_CHAR, 1);
     for (size_t i = 0; i < 4; i++) add_packet(i < 3 ? BYSTRODOL_PACKET_DATA : BYSTRODOL_PACKET_LAST_DATA, pattern.bytes + 128 * i, 128);
     ADD(BYSTRODOL_COMMAND_STORE, 1, 0, 3);
@@ -210,7 +211,7 @@ static void power_on(void) {
     static const uint8_t switched[] = {0, 0, 0, 7, 0xFF, 0xFF, 0xFF, 0xFF, 3, 1, 6, 0, 0, 0, 0, 0, 0, 0, 0, 0, 0xFF, 0xFF, 0xFF, 0xFF};
     static const uint8_t told[] = {0, 0, 0, 0, 0, 4, 0, 3, 0xFF, 0xFF, 0xFF, 0xFF, 0, 1, 0, 6}, old_index[BYSTRODOL_OLD_INDEX_BYTES] = {0x0B};
     struct bystrodol_settings *const s = &area.line.settings;
-    set_up(4);
+    set_up(4), to = 0xFFFFFFFF;
     memset(parts[INDEX], 0xFF, BYSTRODOL_INDEX_BYTES);
     check("upgrade, the index", bystrodol_bring_over(old_index, sizeof old_index, LENT(INDEX)), BYSTRODOL_ACCEPTED);
     memcpy(s, stored, BYSTRODOL_OLD_SETTINGS_BYTES);
@@ -250,7 +251,7 @@ int main(void) {
     calls();
     loops();
     counts();
-    power_on();
     silence();
+    power_on();
     return report("receiver");
 }
