@@ -1,11 +1,14 @@
-/* Checks that count: each holds a number to one that is written in the test. After twenty that fail the rest is left out. */
+/* Checks that count: each holds a number to one that is written in the test. After so many that fail the rest is left out. */
+#ifndef FAILED_MOST
+#define FAILED_MOST 20
+#endif
+
 #include <stddef.h>
 #include <stdint.h>
 #include <stdio.h>
 #include <string.h>
 #include <unistd.h>
 
-enum { FAILED_MOST = 20 };
 static unsigned passed, failed;
 static const char *through = ""; /* the door in use */
 

@@ -312,20 +312,20 @@ static void fresh(void) {
 static void checks(void) {
     fresh();
     bad_lengths();
-    bad_pages();
     bad_rooms();
     order();
-    every_byte();
-    every_got();
-    every_origin();
-    random_settings();
-    every_bit();
-    every_code();
     notepad();
     search();
     codes();
     for (uint8_t number = 1; number <= 2; number++) transfers(number), library(number, 10), library(number, BYSTRODOL_PAGES_MOST);
     parameters(10), parameters(BYSTRODOL_PAGES_MOST);
+    bad_pages();
+    every_code();
+    every_bit();
+    every_got();
+    every_byte();
+    every_origin();
+    random_settings();
 }
 
 int main(void) {

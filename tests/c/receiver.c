@@ -248,9 +248,9 @@ static void silence(void) {
 
 int main(void) {
     fill_pattern();
+    counts();
     calls();
     loops();
-    counts();
     silence();
     power_on();
     return report("receiver");
