@@ -1,6 +1,6 @@
 /*
  * Wrong doors: each goes on to the right one, and makes a slip before it or behind it. tests/c/run compiles the tests with every door's name changed to slipped_..,
- * links them with this, and starts them with the name of a slip. A name begins with the test that must refuse it.
+ * links them with this, and starts them with the name of each slip, which it reads here. A name begins with the test that must refuse it.
  */
 #include "bystrodol.h"
 
@@ -13,27 +13,27 @@ static int slip(const char *name) { return strcmp(chosen, name) == 0; }
 
 /* ---- in the settings: at every door alike */
 
-/* Two fields exchanged; a byte read as another, and kept as it is; and what the line switch leaves. */
+/* Two fields of so many bytes exchanged; one byte read as another, and kept as it is; and what the line switch leaves. */
 static const struct {
     const char *name;
     enum { EXCHANGED, READ_AS, LEFT } kind;
     uint8_t at, to, length;
 } fields[] = {
-    {"reader: password, address", EXCHANGED, 0, 4, 4},        {"reader: first and last of the address", EXCHANGED, 4, 7, 1},
-    {"reader: address, level", EXCHANGED, 7, 8, 1},           {"reader: level, size code", EXCHANGED, 8, 9, 1},
-    {"reader: size code, baud factor", EXCHANGED, 9, 10, 1},  {"reader: baud factor, transfer", EXCHANGED, 10, 11, 1},
-    {"reader: transfer, sensor type", EXCHANGED, 11, 12, 1},  {"reader: bytes of the sensor type", EXCHANGED, 12, 13, 1},
-    {"reader: sensor type, bytes got", EXCHANGED, 12, 14, 2}, {"reader: bytes got, verified mark", EXCHANGED, 15, 16, 1},
-    {"reader: verified, filled mark 1", EXCHANGED, 16, 17, 1}, {"reader: filled marks", EXCHANGED, 17, 18, 1},
+    {"reader: password, address", EXCHANGED, 0, 4, 4},           {"reader: first and last of the address", EXCHANGED, 4, 7, 1},
+    {"reader: address, level", EXCHANGED, 7, 8, 1},              {"reader: level, size code", EXCHANGED, 8, 9, 1},
+    {"reader: size code, baud factor", EXCHANGED, 9, 10, 1},     {"reader: baud factor, transfer", EXCHANGED, 10, 11, 1},
+    {"reader: transfer, sensor type", EXCHANGED, 11, 12, 1},     {"reader: bytes of the sensor type", EXCHANGED, 12, 13, 1},
+    {"reader: sensor type, bytes got", EXCHANGED, 12, 14, 2},    {"reader: bytes got, verified mark", EXCHANGED, 15, 16, 1},
+    {"reader: verified, filled mark 1", EXCHANGED, 16, 17, 1},   {"reader: filled marks", EXCHANGED, 17, 18, 1},
     {"reader: filled mark 2, found mark", EXCHANGED, 18, 19, 1}, {"reader: verified, found mark", EXCHANGED, 16, 19, 1},
-    {"reader: found mark, origin 1", EXCHANGED, 19, 20, 1},   {"reader: origins", EXCHANGED, 20, 22, 2},
-    {"reader: verified mark 2 is clear", READ_AS, 16, 2, 0},  {"reader: filled mark 1 of 2 is clear", READ_AS, 17, 2, 0},
-    {"reader: filled mark 2 of 2 is clear", READ_AS, 18, 2, 0}, {"reader: found mark 2 is clear", READ_AS, 19, 2, 0},
-    {"reader: verified mark 255 is set", READ_AS, 16, 255, 1}, {"reader: level 0 is 1", READ_AS, 8, 0, 1},
-    {"reader: transfer left", LEFT, 11, 0, 1},                {"reader: bytes got left", LEFT, 14, 0, 2},
-    {"reader: verified mark left", LEFT, 16, 0, 1},           {"reader: filled mark 1 left", LEFT, 17, 0, 1},
-    {"reader: filled mark 2 left", LEFT, 18, 0, 1},           {"reader: found mark left", LEFT, 19, 0, 1},
-    {"reader: origin 1 left", LEFT, 20, 0, 2},                {"reader: origin 2 left", LEFT, 22, 0, 2},
+    {"reader: found mark, origin 1", EXCHANGED, 19, 20, 1},      {"reader: origins", EXCHANGED, 20, 22, 2},
+    {"reader: verified mark 2 is clear", READ_AS, 16, 2, 0},     {"reader: filled mark 1 of 2 is clear", READ_AS, 17, 2, 0},
+    {"reader: filled mark 2 of 2 is clear", READ_AS, 18, 2, 0},  {"reader: found mark 2 is clear", READ_AS, 19, 2, 0},
+    {"reader: verified mark 255 is set", READ_AS, 16, 255, 1},   {"reader: level 0 is 1", READ_AS, 8, 0, 1},
+    {"reader: transfer left", LEFT, 11, 0, 1},                   {"reader: bytes got left", LEFT, 14, 0, 2},
+    {"reader: verified mark left", LEFT, 16, 0, 1},              {"reader: filled mark 1 left", LEFT, 17, 0, 1},
+    {"reader: filled mark 2 left", LEFT, 18, 0, 1},              {"reader: found mark left", LEFT, 19, 0, 1},
+    {"reader: origin 1 left", LEFT, 20, 0, 2},                   {"reader: origin 2 left", LEFT, 22, 0, 2},
     {"", LEFT, 0, 0, 0},
 }, *f = fields;
 
