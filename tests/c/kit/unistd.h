@@ -8,4 +8,5 @@
 typedef __PTRDIFF_TYPE__ ssize_t;
 ssize_t read(int file, void *bytes, size_t length);
 ssize_t write(int file, const void *bytes, size_t length);
+void _exit(int status) __attribute__((noreturn));
 #endif
