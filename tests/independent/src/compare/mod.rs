@@ -60,8 +60,7 @@ pub struct Extent {
 /// Puts the examples and the cases to the other; lines that tell of the agreement.
 pub fn compare<O: Other>(other: O, extent: Extent) -> Result<Vec<String>, End> {
     let Extent { cases, seed, quiet } = extent;
-    let mut comparer =
-        Comparer { other, readers: Tally::default(), receivers: Tally::default(), case: String::new() };
+    let mut comparer = Comparer { other, readers: Tally::default(), receivers: Tally::default(), case: String::new() };
     comparer.examples()?;
     (comparer.readers, comparer.receivers) = Default::default();
     comparer.by_chance(extent)?;

@@ -1,4 +1,4 @@
-//! Readers and receivers with one deliberate error each. Each is a row: its name, where its error shows, and what it
+//! Readers and receivers with one deliberate error each. Each is a row: where its error shows, its name, and what it
 //! makes of a request, in the words of `words`.
 
 mod basics;
@@ -19,7 +19,7 @@ mod words;
 
 use crate::compare::frame::{Kind, Outcome, Request};
 use crate::compare::Other;
-use crate::reader::*;
+use crate::reader::COMMANDS;
 use std::rc::Rc;
 use words::{inside, Makes};
 
@@ -27,7 +27,7 @@ use words::{inside, Makes};
 pub struct Wrong {
     pub name: String,
     of: Of,
-    makes: Rc<dyn Fn(&Request) -> Outcome>,
+    makes: Box<dyn Fn(&Request) -> Outcome>,
 }
 
 /// Where an error shows.
@@ -37,6 +37,10 @@ enum Of {
     Reader,
     /// In calls and line switches of a receiver.
     Receiver,
+    /// The same, with a wrong reader inside.
+    Inside,
+    /// In both: a wrong reader, and a receiver with it inside, whose name has `receiver-` in front.
+    Both,
     /// Where fresh settings are asked for.
     Fresh,
     /// Where an index is brought over.
@@ -45,24 +49,21 @@ enum Of {
 
 /// All wrong ones.
 pub fn all() -> Vec<Wrong> {
-    let tables = [
-        basics::add,
-        receivers::add,
-        limits::add,
-        stores::add,
-        thousand::add,
-        bringing_over::add,
-        origins::add,
-        wipes::add,
-        refusals::add,
-        search::add,
-        found::add,
-        chips::add,
-        lock::add,
-        parameters::add,
-    ];
     let mut rows = Rows(Vec::new());
-    tables.iter().for_each(|add| add(&mut rows));
+    basics::add(&mut rows);
+    receivers::add(&mut rows);
+    limits::add(&mut rows);
+    stores::add(&mut rows);
+    thousand::add(&mut rows);
+    bringing_over::add(&mut rows);
+    origins::add(&mut rows);
+    wipes::add(&mut rows);
+    refusals::add(&mut rows);
+    search::add(&mut rows);
+    found::add(&mut rows);
+    chips::add(&mut rows);
+    lock::add(&mut rows);
+    parameters::add(&mut rows);
     rows.0
 }
 
@@ -104,53 +105,78 @@ impl Other for &Wrong {
 /// The rows so far.
 struct Rows(Vec<Wrong>);
 
+/// A row that is begun.
+struct Row<'a> {
+    rows: &'a mut Rows,
+    name: String,
+    of: Of,
+    /// The requests that go wrong.
+    such: fn(&Request) -> bool,
+}
+
 impl Rows {
-    fn reader(&mut self, name: impl Into<String>, makes: impl Makes) {
-        self.row(name.into(), Of::Reader, Rc::new(makes));
+    fn reader(&mut self, name: impl Into<String>) -> Row<'_> {
+        self.begin(Of::Reader, name.into())
     }
 
-    fn receiver(&mut self, name: impl Into<String>, makes: impl Makes) {
-        self.row(name.into(), Of::Receiver, Rc::new(makes));
+    fn receiver(&mut self, name: impl Into<String>) -> Row<'_> {
+        self.begin(Of::Receiver, name.into())
     }
 
-    /// A reader, and a receiver with this reader inside.
-    fn both(&mut self, name: impl Into<String>, makes: impl Makes) {
-        let (name, makes) = (name.into(), Rc::new(makes));
-        let reader = Rc::clone(&makes);
-        self.receiver(format!("receiver-{name}"), inside(move |request: &Request| reader(request)));
-        self.row(name, Of::Reader, makes);
+    fn inside(&mut self, name: impl Into<String>) -> Row<'_> {
+        self.begin(Of::Inside, name.into())
     }
 
-    fn fresh(&mut self, name: impl Into<String>, makes: impl Makes) {
-        self.row(name.into(), Of::Fresh, Rc::new(makes));
+    fn both(&mut self, name: impl Into<String>) -> Row<'_> {
+        self.begin(Of::Both, name.into())
     }
 
-    fn bringing_over(&mut self, name: impl Into<String>, makes: impl Makes) {
-        self.row(name.into(), Of::BringingOver, Rc::new(makes));
+    fn fresh(&mut self, name: impl Into<String>) -> Row<'_> {
+        self.begin(Of::Fresh, name.into())
     }
 
-    fn row(&mut self, name: String, of: Of, makes: Rc<dyn Fn(&Request) -> Outcome>) {
-        self.0.push(Wrong { name, of, makes });
+    fn bringing_over(&mut self, name: impl Into<String>) -> Row<'_> {
+        self.begin(Of::BringingOver, name.into())
+    }
+
+    fn begin(&mut self, of: Of, name: String) -> Row<'_> {
+        Row { rows: self, name, of, such: |_| true }
     }
 }
 
-/// The commands as the rows name them.
-const NAMED: [(&str, u8); COMMANDS.len()] = [
-    ("search", SEARCH),
-    ("store", STORE),
-    ("load-char", LOAD_CHAR),
-    ("up-char", UP_CHAR),
-    ("down-char", DOWN_CHAR),
-    ("delet-char", DELET_CHAR),
-    ("empty", EMPTY),
-    ("set-sys-para", SET_SYS_PARA),
-    ("read-sys-para", READ_SYS_PARA),
-    ("set-pwd", SET_PWD),
-    ("vfy-pwd", VFY_PWD),
-    ("set-adder", SET_ADDER),
-    ("write-notepad", WRITE_NOTEPAD),
-    ("read-notepad", READ_NOTEPAD),
-    ("templete-num", TEMPLETE_NUM),
-    ("read-index-table", READ_INDEX_TABLE),
-    ("hand-shake", HAND_SHAKE),
-];
+impl Row<'_> {
+    /// Such requests alone go wrong.
+    fn only(self, such: fn(&Request) -> bool) -> Self {
+        Row { such, ..self }
+    }
+
+    /// The row as a whole: what the wrong one makes of a request.
+    fn makes(self, makes: impl Makes) {
+        let Row { rows: Rows(rows), name, of, such } = self;
+        match of {
+            Of::Inside => rows.push(Wrong::new(name, Of::Receiver, such, inside(makes))),
+            Of::Both => {
+                let makes = Rc::new(makes);
+                let reader = Rc::clone(&makes);
+                let receiver = inside(move |request: &Request| makes(request));
+                rows.push(Wrong::new(format!("receiver-{name}"), Of::Receiver, such, receiver));
+                rows.push(Wrong::new(name, Of::Reader, such, move |request: &Request| reader(request)));
+            }
+            of => rows.push(Wrong::new(name, of, such, makes)),
+        }
+    }
+}
+
+impl Wrong {
+    fn new(name: String, of: Of, such: fn(&Request) -> bool, makes: impl Makes) -> Wrong {
+        let makes = move |request: &Request| if such(request) { makes(request) } else { request.carried_out() };
+        Wrong { name, of, makes: Box::new(makes) }
+    }
+}
+
+/// The commands with the names that the rows have for them.
+fn named_commands() -> impl Iterator<Item = (&'static str, u8)> {
+    let names = "search store load-char up-char down-char delet-char empty set-sys-para read-sys-para set-pwd vfy-pwd \
+        set-adder write-notepad read-notepad templete-num read-index-table hand-shake";
+    names.split_whitespace().zip(COMMANDS)
+}

@@ -1,5 +1,6 @@
 //! The words that rows are made of: how a case is picked, and what becomes of it.
 
+use super::Row;
 use crate::compare::frame::{Kind, Outcome, Request};
 use crate::reader::receiver::{Receiver, HOLDS};
 use crate::reader::*;
@@ -13,7 +14,7 @@ impl<F: Fn(&Request) -> Outcome + 'static> Makes for F {}
 pub trait Such: Fn(&Good) -> bool + 'static {}
 impl<F: Fn(&Good) -> bool + 'static> Such for F {}
 
-/// A request, and what the good one makes of it.
+/// A case: a request, and what the good one makes of it.
 pub struct Good<'a> {
     pub request: &'a Request,
     pub outcome: Outcome,
@@ -41,16 +42,6 @@ impl<'a> Good<'a> {
         self.outcome.answer.refusal
     }
 
-    /// Whether it is a call that was carried out.
-    pub fn called(&self) -> bool {
-        self.request.kind.is_call() && self.refusal() == 0
-    }
-
-    /// Whether it is a line switch that was carried out.
-    pub fn switched(&self) -> bool {
-        self.request.kind.is_line_switch() && self.refusal() == 0
-    }
-
     /// The packet of a call without a receiver.
     pub fn packet(&self) -> Option<Packet<'a>> {
         find(&self.request.run).1.filter(|_| self.request.kind.is_call())
@@ -65,14 +56,19 @@ impl<'a> Good<'a> {
         self.packet().filter(|packet| packet.identifier == COMMAND).map_or(&[], |packet| packet.content)
     }
 
-    /// Whether it is a call with this command.
-    pub fn asks(&self, command: u8) -> bool {
-        self.content().first() == Some(&command)
-    }
-
     /// The acknowledge code, if there is a reply.
     pub fn code(&self) -> Option<u8> {
         (self.outcome.answer.length > 0).then(|| self.outcome.room[9])
+    }
+
+    /// The content of the acknowledge.
+    pub fn told(&self) -> Vec<u8> {
+        self.outcome.room[9..self.outcome.answer.length - 2].to_vec()
+    }
+
+    /// Whether it is a call with this command.
+    pub fn asks(&self, command: u8) -> bool {
+        self.content().first() == Some(&command)
     }
 
     /// Whether it is this command and gets this code.
@@ -83,11 +79,6 @@ impl<'a> Good<'a> {
     /// Whether it is this command and gets 00h.
     pub fn fine(&self, command: u8) -> bool {
         self.gets(command, 0x00)
-    }
-
-    /// The content of the acknowledge.
-    pub fn told(&self) -> Vec<u8> {
-        self.outcome.room[9..self.outcome.answer.length - 2].to_vec()
     }
 }
 
@@ -117,129 +108,155 @@ pub fn done(good: &Good) -> bool {
 }
 
 pub fn called(good: &Good) -> bool {
-    good.called()
+    good.request.kind.is_call() && done(good)
 }
 
 pub fn switched(good: &Good) -> bool {
-    good.switched()
+    good.request.kind.is_line_switch() && done(good)
 }
 
 pub fn call_refused(good: &Good) -> bool {
-    good.request.kind.is_call() && good.refusal() != 0
+    good.request.kind.is_call() && !done(good)
 }
 
 pub fn switch_refused(good: &Good) -> bool {
-    good.request.kind.is_line_switch() && good.refusal() != 0
+    good.request.kind.is_line_switch() && !done(good)
 }
 
-/// Such a case also has this effect on the outcome, by the request.
-pub fn also(such: impl Such, effect: impl Fn(&mut Outcome, &Request) + 'static) -> impl Makes {
-    move |request: &Request| {
-        let mut good = Good::of(request);
-        if such(&good) {
-            effect(&mut good.outcome, request);
-        }
-        good.outcome
-    }
-}
-
-/// Such a case also has this effect on the reader as it is now, by what it was of old.
-pub fn leaves(such: impl Such, effect: impl Fn(&mut Reader, &Reader) + 'static) -> impl Makes {
-    also(such, move |outcome, request| effect(&mut outcome.reader, &request.reader))
-}
-
-/// A Store or a LoadChar that gets this code also has this effect on the reader as it is now, by what it was of old, by the
-/// place of its buffer and by its page.
-pub fn names(command: u8, code: u8, effect: impl Fn(&mut Reader, &Reader, usize, usize) + 'static) -> impl Makes {
-    also(gets(command, code), move |outcome, request| match find(&request.run).1.map(|packet| packet.content) {
-        Some(&[_, buffer @ (1 | 2), high, low]) => {
-            let page = number(&[high, low]);
-            effect(&mut outcome.reader, &request.reader, usize::from(buffer) - 1, page);
-        }
-        _ => {}
-    })
-}
-
-/// The acknowledge of such a case has this content.
-pub fn tells(such: impl Such, content: impl Fn(&Good) -> Vec<u8> + 'static) -> impl Makes {
-    move |request: &Request| {
-        let mut good = Good::of(request);
-        if such(&good) {
-            let content = content(&good);
-            acknowledge(&mut good.outcome, request, &content);
-        }
-        good.outcome
-    }
-}
-
-/// The acknowledge of such a case has its content changed so, by the reader before.
-pub fn retells(such: impl Such, change: impl Fn(&mut Vec<u8>, &Reader) + 'static) -> impl Makes {
-    tells(such, move |good| {
-        let mut content = good.told();
-        change(&mut content, good.old());
-        content
-    })
-}
-
-/// Such a case gets this code alone, and has the same effect.
-pub fn answers(code: u8, such: impl Such) -> impl Makes {
-    tells(such, move |_| vec![code])
-}
-
-/// Such a case gets this code alone, and has no effect.
-pub fn bars(code: u8, such: impl Such) -> impl Makes {
-    also(such, move |outcome, request| {
-        outcome.reader = request.reader.clone();
-        acknowledge(outcome, request, &[code]);
-    })
-}
-
-/// Such a case is refused with this number.
-pub fn refuses(refusal: u8, such: impl Such) -> impl Makes {
-    move |request: &Request| {
-        let good = Good::of(request);
-        if such(&good) {
-            refused_with(refusal, request)
-        } else {
-            good.outcome
-        }
-    }
-}
-
-/// Such requests alone go wrong so.
-pub fn only(such: impl Fn(&Request) -> bool + 'static, makes: impl Makes) -> impl Makes {
-    move |request: &Request| if such(request) { makes(request) } else { request.carried_out() }
-}
-
-/// The request is taken for what this makes of it.
-pub fn taken(change: impl Fn(&mut Request) + 'static) -> impl Makes {
-    move |request: &Request| {
-        let mut asked = request.clone();
-        change(&mut asked);
-        asked.carried_out()
-    }
-}
-
-/// A command that gets one of these codes is taken for one of another content, by the reader before.
-pub fn with_content<const N: usize>(
-    command: u8,
-    codes: [u8; N],
-    change: impl Fn(&mut [u8], &Reader) + 'static,
-) -> impl Makes {
-    move |request: &Request| {
-        let good = Good::of(request);
-        let such = codes.iter().any(|&code| good.gets(command, code));
-        match find(&request.run) {
-            (end, Some(found)) if such => {
-                let mut content = found.content.to_vec();
-                change(&mut content, &request.reader);
-                let mut asked = request.clone();
-                let start = end - (content.len() + 11);
-                asked.run.splice(start..end, packet(found.address, COMMAND, &content));
-                asked.carried_out()
+impl Row<'_> {
+    /// Such a case also has this effect on the outcome, by the request.
+    pub fn also(self, such: impl Such, effect: impl Fn(&mut Outcome, &Request) + 'static) {
+        self.makes(move |request: &Request| {
+            let mut good = Good::of(request);
+            if such(&good) {
+                effect(&mut good.outcome, request);
             }
-            _ => good.outcome,
-        }
+            good.outcome
+        });
+    }
+
+    /// Such a case also has this effect on the reader as it is now, by what it was of old.
+    pub fn leaves(self, such: impl Such, effect: impl Fn(&mut Reader, &Reader) + 'static) {
+        self.also(such, move |outcome, request| effect(&mut outcome.reader, &request.reader));
+    }
+
+    /// Such a case also has this effect on the settings as they are now, by what they were of old.
+    pub fn sets(self, such: impl Such, effect: impl Fn(&mut Settings, &Settings) + 'static) {
+        self.leaves(such, move |now, old| effect(&mut now.settings, &old.settings));
+    }
+
+    /// A Store or a LoadChar that gets this code also has this effect on the reader as it is now, by what it was of old,
+    /// by the place of its buffer and by its page.
+    pub fn names(self, command: u8, code: u8, effect: impl Fn(&mut Reader, &Reader, usize, usize) + 'static) {
+        self.also(gets(command, code), move |outcome, request| {
+            if let Some(&[_, buffer @ (1 | 2), high, low]) = find(&request.run).1.map(|packet| packet.content) {
+                effect(&mut outcome.reader, &request.reader, usize::from(buffer) - 1, number(&[high, low]));
+            }
+        });
+    }
+
+    /// The acknowledge of such a case has this content.
+    pub fn tells(self, such: impl Such, content: impl Fn(&Good) -> Vec<u8> + 'static) {
+        self.makes(move |request: &Request| {
+            let mut good = Good::of(request);
+            if such(&good) {
+                let content = content(&good);
+                acknowledge(&mut good.outcome, request, &content);
+            }
+            good.outcome
+        });
+    }
+
+    /// The acknowledge of such a case has its content changed so, by the reader of old.
+    pub fn retells(self, such: impl Such, change: impl Fn(&mut Vec<u8>, &Reader) + 'static) {
+        self.tells(such, move |good| {
+            let mut content = good.told();
+            change(&mut content, good.old());
+            content
+        });
+    }
+
+    /// Such a case gets this code alone, and has the same effect.
+    pub fn answers(self, code: u8, such: impl Such) {
+        self.tells(such, move |_| vec![code]);
+    }
+
+    /// Such a case gets this code alone, and has no effect.
+    pub fn bars(self, code: u8, such: impl Such) {
+        self.also(such, move |outcome, request| {
+            outcome.reader = request.reader.clone();
+            acknowledge(outcome, request, &[code]);
+        });
+    }
+
+    /// Such a case is refused with this number.
+    pub fn refuses(self, refusal: u8, such: impl Such) {
+        self.also(such, move |outcome, request| *outcome = refused_with(refusal, request));
+    }
+
+    /// A call of such a legal reader gets refusal 3.
+    pub fn refuses_legal(self, such: impl Fn(&Reader) -> bool + 'static) {
+        self.refuses(3, move |good| called(good) && such(good.old()));
+    }
+
+    /// A line switch of such a reader gets refusal 1.
+    pub fn switch_tests(self, such: fn(&Reader) -> bool) {
+        self.refuses(1, move |good| good.request.kind.is_line_switch() && such(good.old()));
+    }
+
+    /// The request is taken for what this makes of it.
+    pub fn takes(self, change: impl Fn(&mut Request) + 'static) {
+        self.as_if(|_| true, change, |_, _| {});
+    }
+
+    /// Such a case is taken for what this makes of it, and the reader is mended as it is now, by what it was of old.
+    pub fn as_if(
+        self,
+        such: impl Such,
+        change: impl Fn(&mut Request) + 'static,
+        mend: impl Fn(&mut Reader, &Reader) + 'static,
+    ) {
+        self.also(such, move |outcome, request| {
+            let mut asked = request.clone();
+            change(&mut asked);
+            *outcome = asked.carried_out();
+            mend(&mut outcome.reader, &request.reader);
+        });
+    }
+
+    /// Such a packet, with the case that it is of, is taken for another.
+    pub fn takes_packet(
+        self,
+        such: impl Fn(&Good, &Packet) -> bool + 'static,
+        other: impl Fn(&Reader, &Packet) -> Vec<u8> + 'static,
+    ) {
+        self.makes(move |request: &Request| {
+            let good = Good::of(request);
+            match good.packet() {
+                Some(found) if such(&good, &found) => {
+                    let end = find(&request.run).0;
+                    let start = end - (found.content.len() + 11);
+                    let mut asked = request.clone();
+                    asked.run.splice(start..end, other(&request.reader, &found));
+                    let mut outcome = asked.carried_out();
+                    outcome.answer.used = good.outcome.answer.used;
+                    outcome
+                }
+                _ => good.outcome,
+            }
+        });
+    }
+
+    /// A command that gets one of these codes is taken for one of another content.
+    pub fn takes_content(self, command: u8, codes: &'static [u8], change: impl Fn(&mut Vec<u8>) + 'static) {
+        self.takes_packet(
+            move |good, _| codes.iter().any(|&code| good.gets(command, code)),
+            move |_, found| {
+                let mut content = found.content.to_vec();
+                change(&mut content);
+                packet(found.address, COMMAND, &content)
+            },
+        );
     }
 }
 
@@ -252,22 +269,18 @@ pub fn inside(reader: impl Makes) -> impl Makes {
 pub fn holds(most: usize, reader: impl Makes) -> impl Makes {
     move |request: &Request| {
         let before = held_by(request);
-        let held = before.held();
-        let fits = request.run.len().min(most.saturating_sub(held.len()));
-        let run = [held, &request.run[..fits]].concat();
+        let fits = request.run.len().min(most.saturating_sub(before.held().len()));
+        let run = [before.held(), &request.run[..fits]].concat();
         let switches = request.kind.is_line_switch();
         let kind = if switches { Kind::LineSwitch } else { Kind::Call };
         let mut outcome = reader(&Request { kind, run: run.clone(), ..request.clone() });
         outcome.receiver = Some(before.clone());
-        if outcome.answer.refusal != 0 {
-            return outcome;
-        }
-        if switches {
+        if outcome.answer.refusal == 0 && switches {
             outcome.receiver = Some(Receiver::empty());
-        } else if before.legal() {
+        } else if outcome.answer.refusal == 0 && before.legal() {
             outcome.receiver = Some(Receiver::holding(&run[outcome.answer.used..]));
             outcome.answer.used = fits;
-        } else {
+        } else if outcome.answer.refusal == 0 {
             return refused_with(3, request);
         }
         outcome
@@ -280,7 +293,7 @@ pub fn held_by(request: &Request) -> &Receiver {
 }
 
 /// The request refused with this number.
-pub fn refused_with(refusal: u8, request: &Request) -> Outcome {
+fn refused_with(refusal: u8, request: &Request) -> Outcome {
     let Request { kind, reader, room, .. } = request.clone();
     Outcome { answer: Answer::without_reply(refusal), receiver: kind.receiver().cloned(), reader, room }
 }
