@@ -2,84 +2,75 @@
 
 use super::basics::set_marks;
 use super::words::*;
-use super::{Row, Rows};
-use crate::compare::frame::{Kind, Request};
-use crate::reader::*;
 
 /// The bytes of the lent index behind the stored ones.
 const REST: usize = INDEX - SHORT_INDEX;
 
 pub fn add(rows: &mut Rows) {
     // What becomes of the lent index.
-    rows.bringing_over("brings-nothing-over").lays(|_, lent| lent.to_vec());
-    rows.bringing_over("brings-over-one-byte-late").lays(|stored, _| [&[0], stored, &[0; REST - 1]].concat());
-    rows.bringing_over("brings-over-to-the-end").lays(|stored, _| [&[0; REST], stored].concat());
-    rows.bringing_over("brings-31-bytes-over").lays(|stored, _| [&stored[..31], &[0; REST + 1]].concat());
-    rows.bringing_over("brings-over-four-times").lays(|stored, _| stored.repeat(4));
-    rows.bringing_over("brings-over-by-four").lays(|stored, _| stored.iter().flat_map(|&b| [b, 0, 0, 0]).collect());
-    rows.bringing_over("brings-bytes-over-turned")
-        .lays(|stored, _| stored.iter().rev().copied().chain([0; REST]).collect());
-    rows.bringing_over("brings-bits-over-turned")
+    rows.over("brings-nothing-over").lays(|_, lent| lent.to_vec());
+    rows.over("brings-over-one-byte-late").lays(|stored, _| [&[0], stored, &[0; REST - 1]].concat());
+    rows.over("brings-over-to-the-end").lays(|stored, _| [&[0; REST], stored].concat());
+    rows.over("brings-31-bytes-over").lays(|stored, _| [&stored[..31], &[0; REST + 1]].concat());
+    rows.over("brings-over-four-times").lays(|stored, _| stored.repeat(4));
+    rows.over("brings-over-by-four").lays(|stored, _| stored.iter().flat_map(|&b| [b, 0, 0, 0]).collect());
+    rows.over("brings-bytes-over-turned").lays(|stored, _| stored.iter().rev().copied().chain([0; REST]).collect());
+    rows.over("brings-bits-over-turned")
         .lays(|stored, _| stored.iter().map(|byte| byte.reverse_bits()).chain([0; REST]).collect());
-    rows.bringing_over("keeps-lent-bits")
+    rows.over("keeps-lent-bits")
         .lays(|stored, lent| stored.iter().zip(lent).map(|(one, other)| one | other).chain([0; REST]).collect());
-    rows.bringing_over("keeps-rest").lays(|stored, lent| [stored, &lent[SHORT_INDEX..]].concat());
-    rows.bringing_over("keeps-first-byte-of-rest")
-        .leaves(done, |now, old| now.index[SHORT_INDEX] = old.index[SHORT_INDEX]);
-    rows.bringing_over("keeps-last-byte-of-rest").leaves(done, |now, old| now.index[INDEX - 1] = old.index[INDEX - 1]);
-    rows.bringing_over("sets-rest").lays(|stored, _| [stored, &[0xFF; REST]].concat());
+    rows.over("keeps-rest").lays(|stored, lent| [stored, &lent[SHORT_INDEX..]].concat());
+    rows.over("keeps-first-byte-of-rest").leaves(DONE, |now, old| now.index[SHORT_INDEX] = old.index[SHORT_INDEX]);
+    rows.over("keeps-last-byte-of-rest").leaves(DONE, |now, old| now.index[INDEX - 1] = old.index[INDEX - 1]);
+    rows.over("sets-rest").lays(|stored, _| [stored, &[0xFF; REST]].concat());
 
     // The lengths of the stored and of the lent index that are taken.
-    rows.bringing_over("takes-stored-0").takes_lengths(|stored, lent| stored == 0 && lent == INDEX);
-    rows.bringing_over("takes-stored-31").takes_lengths(|stored, lent| stored == 31 && lent == INDEX);
-    rows.bringing_over("takes-stored-33").takes_lengths(|stored, lent| stored == 33 && lent == INDEX);
-    rows.bringing_over("takes-stored-128").takes_lengths(|stored, lent| stored == 128 && lent == INDEX);
-    rows.bringing_over("takes-any-stored").takes_lengths(|_, lent| lent == INDEX);
-    rows.bringing_over("takes-lent-32").takes_lengths(|stored, lent| stored == SHORT_INDEX && lent == 32);
-    rows.bringing_over("takes-lent-127").takes_lengths(|stored, lent| stored == SHORT_INDEX && lent == 127);
-    rows.bringing_over("takes-lent-129").takes_lengths(|stored, lent| stored == SHORT_INDEX && lent == 129);
-    rows.bringing_over("takes-any-lent").takes_lengths(|stored, _| stored == SHORT_INDEX);
-    rows.bringing_over("takes-96-bytes-more").takes_lengths(|stored, lent| stored + REST == lent);
-    rows.bringing_over("takes-lengths-in-turn").takes_lengths(|stored, lent| stored == 128 && lent == 32);
+    rows.over("takes-stored-0").takes_lengths(|stored, lent| stored == 0 && lent == INDEX);
+    rows.over("takes-stored-31").takes_lengths(|stored, lent| stored == 31 && lent == INDEX);
+    rows.over("takes-stored-33").takes_lengths(|stored, lent| stored == 33 && lent == INDEX);
+    rows.over("takes-stored-128").takes_lengths(|stored, lent| stored == 128 && lent == INDEX);
+    rows.over("takes-any-stored").takes_lengths(|_, lent| lent == INDEX);
+    rows.over("takes-lent-32").takes_lengths(|stored, lent| stored == SHORT_INDEX && lent == 32);
+    rows.over("takes-lent-127").takes_lengths(|stored, lent| stored == SHORT_INDEX && lent == 127);
+    rows.over("takes-lent-129").takes_lengths(|stored, lent| stored == SHORT_INDEX && lent == 129);
+    rows.over("takes-any-lent").takes_lengths(|stored, _| stored == SHORT_INDEX);
+    rows.over("takes-96-bytes-more").takes_lengths(|stored, lent| stored + REST == lent);
+    rows.over("takes-lengths-in-turn").takes_lengths(|stored, lent| stored == 128 && lent == 32);
 
     // What is refused, and what that leaves.
-    rows.bringing_over("refuses-all").refuses(1, |_| true);
+    rows.over("refuses-all").refuses(1, |_| true);
     for (refusal, what) in [(1, "unfit-memory"), (2, "small-room"), (3, "unfit-settings")] {
-        let like_call = move |good: &Good| good.old().refusal(good.request.room.len()) == refusal;
-        rows.bringing_over(format!("refuses-{what}")).refuses(refusal, like_call);
+        let like_call = move |good: &Good| good.old.refusal(good.request.room.len()) == refusal;
+        rows.over(format!("refuses-{what}")).refuses(refusal, like_call);
     }
-    rows.bringing_over("refuses-bits-beyond")
-        .refuses(3, |good| done(good) && good.outcome.reader.bit_beyond().is_some());
+    rows.over("refuses-bits-beyond").refuses(3, |good| DONE(good) && good.outcome.reader.bit_beyond().is_some());
     for refusal in [0, 2, 3] {
-        rows.bringing_over(format!("refuses-with-{refusal}")).refuses(refusal, |good| !done(good));
+        rows.over(format!("refuses-with-{refusal}")).refuses(refusal, REFUSED);
     }
-    rows.bringing_over("refused-zeroes-lent").leaves(|good| !done(good), |now, _| now.index.fill(0));
-    rows.bringing_over("refused-copies-stored").also(
-        |good| !done(good),
-        |outcome, request| {
-            outcome.reader.index.iter_mut().zip(&request.run).for_each(|(lent, stored)| *lent = *stored);
-        },
-    );
+    rows.over("refused-zeroes-lent").leaves(REFUSED, |now, _| now.index.fill(0));
+    rows.over("refused-copies-stored").also(REFUSED, |outcome, request| {
+        outcome.reader.index.iter_mut().zip(&request.run).for_each(|(lent, stored)| *lent = *stored);
+    });
 
     // What else is done.
-    rows.bringing_over("clears-bits-beyond").leaves(done, |now, _| {
+    rows.over("clears-bits-beyond").leaves(DONE, |now, _| {
         while let Some(page) = now.bit_beyond() {
             now.index[page / 8] &= !bit(page);
         }
     });
-    rows.bringing_over("zeroes-vacant-pages").leaves(done, |now, _| {
+    rows.over("zeroes-vacant-pages").leaves(DONE, |now, _| {
         for page in 0..now.capacity().min(MOST_PAGES) {
             if !now.stored(page) {
                 now.template_mut(page).fill(0);
             }
         }
     });
-    rows.bringing_over("lays-fresh-settings").sets(done, |now, _| *now = Settings::fresh());
-    rows.bringing_over("makes-marks-legal").sets(done, |now, _| set_marks(now));
-    rows.bringing_over("switches-line-too").leaves(done, |now, _| drop(line_switch(now)));
-    rows.bringing_over("tells-stored-bytes-used").also(done, |outcome, _| outcome.answer.used = SHORT_INDEX);
-    rows.bringing_over("tells-index-as-reply").also(done, |outcome, _| outcome.answer.length = INDEX);
-    rows.bringing_over("runs-stored-index").also(done, |outcome, request| {
+    rows.over("lays-fresh-settings").sets(DONE, |now, _| *now = Settings::fresh());
+    rows.over("makes-marks-legal").sets(DONE, |now, _| set_marks(now));
+    rows.over("switches-line-too").leaves(DONE, |now, _| drop(line_switch(now)));
+    rows.over("tells-stored-bytes-used").also(DONE, |outcome, _| outcome.answer.used = SHORT_INDEX);
+    rows.over("tells-index-as-reply").also(DONE, |outcome, _| outcome.answer.length = INDEX);
+    rows.over("runs-stored-index").also(DONE, |outcome, request| {
         let called = Request { kind: Kind::Call, reader: outcome.reader.clone(), ..request.clone() }.carried_out();
         if called.answer.refusal == 0 {
             *outcome = called;
@@ -90,13 +81,13 @@ pub fn add(rows: &mut Rows) {
 impl Row<'_> {
     /// Where both lengths fit, the lent index becomes this, made of the stored one and of what it was.
     fn lays(self, index: fn(&[u8], &[u8]) -> Vec<u8>) {
-        self.also(done, move |outcome, request| outcome.reader.index = index(&request.run, &request.reader.index));
+        self.also(DONE, move |outcome, request| outcome.reader.index = index(&request.run, &request.reader.index));
     }
 
     /// Such lengths are taken too: the stored index is brought over as far as it goes and fits.
     fn takes_lengths(self, such: fn(usize, usize) -> bool) {
         self.as_if(
-            move |good| such(good.request.run.len(), good.old().index.len()),
+            move |good| such(good.request.run.len(), good.old.index.len()),
             |asked| {
                 asked.run.resize(SHORT_INDEX, 0);
                 asked.reader.index.resize(INDEX, 0);

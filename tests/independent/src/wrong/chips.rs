@@ -1,11 +1,10 @@
 //! Errors in the refusal 1 of document 02's request [8], which is for the lengths of scores and thresholds.
 
-use super::receivers::{is_fit, take_piece};
+use super::receivers::{take_piece, FIT_COUNT};
 use super::words::*;
-use super::{Row, Rows};
-use crate::compare::frame::{Outcome, Request};
-use crate::reader::receiver::Receiver;
-use crate::reader::*;
+
+/// A call that is refused for its scores and thresholds alone.
+const UNFIT_ALONE: Pick = |good| would_be(0, good);
 
 pub fn add(rows: &mut Rows) {
     // Scores that are taken, by C and their number.
@@ -48,19 +47,16 @@ pub fn add(rows: &mut Rows) {
         rows.reader(format!("thresholds-after-{after}"))
             .tests_after(number, |chip| chip.thresholds.len() != THRESHOLDS);
     }
-    rows.receiver("receiver-chip-after-count").refuses(3, |good| !is_fit(good) && would_be(3, good));
-    rows.reader("refuses-chip-with-2").refuses(2, |good| would_be(0, good));
-    rows.reader("refuses-chip-with-3").refuses(3, |good| would_be(0, good));
+    rows.receiver("receiver-chip-after-count").refuses(3, |good| !FIT_COUNT(good) && would_be(3, good));
+    rows.reader("refuses-chip-with-2").refuses(2, UNFIT_ALONE);
+    rows.reader("refuses-chip-with-3").refuses(3, UNFIT_ALONE);
 
     // What a refused call leaves.
-    rows.reader("unfit-chip-is-silent").also(
-        |good| would_be(0, good),
-        |outcome, request| {
-            outcome.answer = Answer { refusal: 0, used: request.run.len(), length: 0 };
-        },
-    );
-    rows.receiver("receiver-unfit-chip-takes-piece").also(|good| would_be(0, good), take_piece);
-    rows.receiver("receiver-unfit-chip-empties").keeps(|good| would_be(0, good), |now, _, _| *now = Receiver::empty());
+    rows.reader("unfit-chip-is-silent").also(UNFIT_ALONE, |outcome, request| {
+        outcome.answer = Answer { refusal: 0, used: request.run.len(), length: 0 };
+    });
+    rows.receiver("receiver-unfit-chip-takes-piece").also(UNFIT_ALONE, take_piece);
+    rows.receiver("receiver-unfit-chip-empties").keeps(UNFIT_ALONE, |now, _, _| *now = Receiver::empty());
 
     // Scores and thresholds that are refused though they fit.
     rows.reader("refuses-scores-of-0").refuses_fit(|chip| chip.scores.iter().all(|&score| score == 0));
@@ -73,38 +69,36 @@ pub fn add(rows: &mut Rows) {
     // What does not look at them.
     rows.both("switch-tests-scores").switch_tests(|old| old.chip.scores.len() != old.capacity());
     rows.both("switch-tests-thresholds").switch_tests(|old| old.chip.thresholds.len() != THRESHOLDS);
-    rows.fresh("fresh-tests-chip").refuses(1, |good| !good.old().chip_fits());
-    rows.bringing_over("bringing-over-tests-chip").refuses(1, |good| !good.old().chip_fits());
+    rows.fresh("fresh-tests-chip").refuses(1, |good| !good.old.chip_fits());
+    rows.over("bringing-over-tests-chip").refuses(1, |good| !good.old.chip_fits());
 }
 
 impl Row<'_> {
     /// So many scores are taken: what lacks is 0, and what is too much does not matter.
     fn takes_scores(self, such: fn(usize, usize) -> bool) {
-        let such = move |good: &Good| such(good.old().capacity(), good.old().chip.scores.len());
-        self.as_if(move |good| good.request.kind.is_call() && such(good), fit_scores, |_, _| {});
+        let such = move |good: &Good| such(good.old.capacity(), good.old.chip.scores.len());
+        self.takes(move |good| CALL(good) && such(good), fit_scores);
     }
 
     /// So many thresholds are taken: what lacks is 0, and what is too much does not matter.
     fn takes_thresholds(self, such: fn(usize, usize) -> bool) {
-        let such = move |good: &Good| such(good.old().settings.level.into(), good.old().chip.thresholds.len());
-        self.as_if(move |good| good.request.kind.is_call() && such(good), fit_thresholds, |_, _| {});
+        let such = move |good: &Good| such(good.old.settings.level.into(), good.old.chip.thresholds.len());
+        self.takes(move |good| CALL(good) && such(good), fit_thresholds);
     }
 
     fn takes_any_if(self, such: fn(&Reader, &[u8]) -> bool) {
-        self.also(
-            move |good| good.request.kind.is_call() && such(good.old(), &good.request.run),
-            |outcome, request| *outcome = fitting(request),
-        );
+        let such = move |good: &Good| CALL(good) && such(good.old, &good.request.run);
+        self.also(such, |outcome, request| *outcome = fitting(request));
     }
 
     /// Such a chip that does not fit is refused after this refusal.
     fn tests_after(self, refusal: u8, such: fn(&Chip) -> bool) {
-        self.refuses(refusal, move |good| such(&good.old().chip) && would_be(refusal, good));
+        self.refuses(refusal, move |good| such(&good.old.chip) && would_be(refusal, good));
     }
 
     /// Such a chip gets refusal 1 though it fits.
     fn refuses_fit(self, such: fn(&Chip) -> bool) {
-        self.refuses(1, move |good| called(good) && such(&good.old().chip));
+        self.refuses(1, move |good| CALLED(good) && such(&good.old.chip));
     }
 }
 
@@ -126,7 +120,7 @@ fn fitting(request: &Request) -> Outcome {
 
 /// A call with scores or thresholds that do not fit, which would get this refusal or 0 if they did.
 fn would_be(refusal: u8, good: &Good) -> bool {
-    good.request.kind.is_call() && !good.old().chip_fits() && fitting(good.request).answer.refusal == refusal
+    CALL(good) && !good.old.chip_fits() && fitting(good.request).answer.refusal == refusal
 }
 
 fn is_search(run: &[u8]) -> bool {

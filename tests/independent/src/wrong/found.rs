@@ -2,82 +2,90 @@
 //! refusal.
 
 use super::words::*;
-use super::{named_commands, Row, Rows};
-use crate::reader::*;
 use crate::tally::kinds::CODES;
+
+/// A mark that is not legal.
+const UNFIT: Pick = |good| !good.old.settings.found.legal();
+const UNFIT_CALL: Pick = |good| CALL(good) && UNFIT(good);
+/// A data packet that completes a transfer.
+const COMPLETED: Pick = |good| good.in_transfer() && good.outcome.reader.settings.transfer == 0 && !REPLIED(good);
+
+/// What becomes of the mark.
+const KEEP_FOUND: Setting = |now, old| now.found = old.found;
+pub const CLEAR_FOUND: Setting = |now, _| now.found = CLEAR;
+pub const SET_FOUND: Setting = |now, _| now.found = SET;
 
 pub fn add(rows: &mut Rows) {
     // Searches.
-    rows.both("search-00-keeps-found").sets(gets(SEARCH, 0x00), keep);
-    rows.reader("search-00-clears-found").sets(gets(SEARCH, 0x00), |now, _| now.found = CLEAR);
+    rows.both("search-00-keeps-found").sets(gets(SEARCH, 0x00), KEEP_FOUND);
+    rows.reader("search-00-clears-found").sets(gets(SEARCH, 0x00), CLEAR_FOUND);
     rows.reader("search-00-turns-found").sets(gets(SEARCH, 0x00), |now, old| now.found = Mark::of(!old.found.is_set()));
-    rows.reader("search-00-sets-found-of-buffer-1-only").sets(|good| good.fine(SEARCH) && good.content()[1] == 2, keep);
+    rows.reader("search-00-sets-found-of-buffer-1-only")
+        .sets(|good| good.fine(SEARCH) && good.content[1] == 2, KEEP_FOUND);
     rows.reader("search-00-sets-found-for-a-score-only")
-        .sets(|good| good.fine(SEARCH) && good.told()[3..] == [0, 0], keep);
+        .sets(|good| good.fine(SEARCH) && good.told()[3..] == [0, 0], KEEP_FOUND);
     rows.reader("search-00-sets-found-2").sets(gets(SEARCH, 0x00), |now, _| now.found = Mark(2));
-    rows.both("search-09-keeps-found").sets(gets(SEARCH, 0x09), keep);
-    rows.reader("search-09-sets-found").sets(gets(SEARCH, 0x09), |now, _| now.found = SET);
+    rows.both("search-09-keeps-found").sets(gets(SEARCH, 0x09), KEEP_FOUND);
+    rows.reader("search-09-sets-found").sets(gets(SEARCH, 0x09), SET_FOUND);
     for (does, mark) in [("clears", CLEAR), ("sets", SET)] {
         let becomes = move |now: &mut Settings, _: &Settings| now.found = mark;
         for code in [0x01, 0x0B, 0x0C, 0x21] {
             rows.reader(format!("search-{code:02X}-{does}-found")).sets(gets(SEARCH, code), becomes);
         }
         rows.reader(format!("search-of-wrong-length-{does}-found"))
-            .sets(|good| good.gets(SEARCH, 0x01) && !good.sum_wrong() && good.content().len() != 6, becomes);
+            .sets(|good| good.gets(SEARCH, 0x01) && !good.sum_wrong() && good.content.len() != 6, becomes);
         rows.reader(format!("search-of-wrong-sum-{does}-found"))
             .sets(|good| good.gets(SEARCH, 0x01) && good.sum_wrong(), becomes);
     }
 
     // Every other command with 00h, every other code, and what gets no reply.
     for (name, command) in named_commands().filter(|(_, command)| *command != SEARCH) {
-        rows.reader(format!("{name}-clears-found")).sets(fine(command), clear);
-        rows.reader(format!("{name}-sets-found")).sets(fine(command), |now, _| now.found = SET);
+        rows.reader(format!("{name}-clears-found")).sets(fine(command), CLEAR_FOUND);
+        rows.reader(format!("{name}-sets-found")).sets(fine(command), SET_FOUND);
     }
     for code in CODES.into_iter().filter(|code| ![0x00, 0x09].contains(code)) {
         rows.reader(format!("{code:02X}-clears-found"))
-            .sets(move |good| good.code() == Some(code) && !good.asks(SEARCH), clear);
+            .sets(move |good| good.code == Some(code) && !good.asks(SEARCH), CLEAR_FOUND);
     }
-    rows.reader("silence-clears-found").sets(|good| called(good) && good.packet().is_some() && !replied(good), clear);
-    rows.reader("last-data-sets-found").sets(completes_transfer, |now, _| now.found = SET);
-    rows.reader("ended-transfer-clears-found").sets(|good| good.in_transfer() && good.fine(HAND_SHAKE), clear);
-    rows.reader("refused-call-clears-found").sets(call_refused, clear);
+    rows.reader("silence-clears-found")
+        .sets(|good| CALLED(good) && good.packet().is_some() && !REPLIED(good), CLEAR_FOUND);
+    rows.reader("last-data-sets-found").sets(COMPLETED, SET_FOUND);
+    rows.reader("ended-transfer-clears-found").sets(|good| good.in_transfer() && good.fine(HAND_SHAKE), CLEAR_FOUND);
+    rows.reader("refused-call-clears-found").sets(CALL_REFUSED, CLEAR_FOUND);
 
     // The line switch.
-    rows.both("switch-keeps-found").sets(switched, keep);
-    rows.reader("switch-sets-found").sets(switched, |now, _| now.found = SET);
-    rows.both("switch-keeps-unfit-found").sets(|good| switched(good) && is_unfit(good), keep);
-    rows.both("switch-refuses-unfit-found").refuses(3, |good| switched(good) && is_unfit(good));
-    rows.both("refused-switch-clears-found").sets(switch_refused, clear);
+    rows.both("switch-keeps-found").sets(SWITCHED, KEEP_FOUND);
+    rows.reader("switch-sets-found").sets(SWITCHED, SET_FOUND);
+    rows.both("switch-keeps-unfit-found").sets(|good| SWITCHED(good) && UNFIT(good), KEEP_FOUND);
+    rows.both("switch-refuses-unfit-found").refuses(3, |good| SWITCHED(good) && UNFIT(good));
+    rows.both("refused-switch-clears-found").sets(SWITCH_REFUSED, CLEAR_FOUND);
 
     // Fresh settings, and an index brought over.
-    rows.fresh("fresh-keeps-found").sets(done, keep);
-    rows.fresh("fresh-sets-found").sets(done, |now, _| now.found = SET);
-    rows.fresh("fresh-keeps-unfit-found").sets(is_unfit, keep);
-    rows.bringing_over("bringing-over-clears-found").sets(done, clear);
-    rows.bringing_over("bringing-over-clears-unfit-found").sets(|good| done(good) && is_unfit(good), clear);
-    rows.bringing_over("bringing-over-refuses-unfit-found").refuses(3, |good| done(good) && is_unfit(good));
+    rows.fresh("fresh-keeps-found").sets(DONE, KEEP_FOUND);
+    rows.fresh("fresh-sets-found").sets(DONE, SET_FOUND);
+    rows.fresh("fresh-keeps-unfit-found").sets(UNFIT, KEEP_FOUND);
+    rows.over("bringing-over-clears-found").sets(DONE, CLEAR_FOUND);
+    rows.over("bringing-over-clears-unfit-found").sets(|good| DONE(good) && UNFIT(good), CLEAR_FOUND);
+    rows.over("bringing-over-refuses-unfit-found").refuses(3, |good| DONE(good) && UNFIT(good));
 
     // Marks that are taken though they are not legal.
-    rows.reader("takes-unfit-found-for-set").takes_found(SET, is_unfit);
-    rows.inside("receiver-takes-unfit-found").takes_found(SET, is_unfit);
-    rows.reader("takes-unfit-found-for-clear").takes_found(CLEAR, is_unfit);
-    rows.reader("takes-found-2").takes_found(SET, |good| good.old().settings.found == Mark(2));
-    rows.reader("takes-found-FF").takes_found(SET, |good| good.old().settings.found == Mark(0xFF));
-    rows.reader("takes-found-by-lowest-bit").takes_found(SET, |good| good.old().settings.found.0 & 1 == 1);
-    rows.reader("takes-unfit-found-when-locked").takes_found(CLEAR, |good| good.locked() && is_unfit(good));
-    rows.reader("tests-found-for-search-only").takes_found(SET, |good| is_unfit(good) && !good.asks(SEARCH));
-    rows.reader("tests-found-for-status-only").takes_found(SET, |good| is_unfit(good) && !good.asks(READ_SYS_PARA));
-    rows.both("makes-unfit-found-clear").also(
-        |good| call_refused(good) && is_unfit(good),
-        |outcome, request| {
-            let mut asked = request.clone();
-            asked.reader.settings.found = CLEAR;
-            Some(asked.carried_out())
-                .filter(|other| other.answer.refusal == 0)
-                .into_iter()
-                .for_each(|it| *outcome = it);
-        },
-    );
+    rows.reader("takes-unfit-found-for-set").takes_found(SET, UNFIT);
+    rows.inside("receiver-takes-unfit-found").takes_found(SET, UNFIT);
+    rows.reader("takes-unfit-found-for-clear").takes_found(CLEAR, UNFIT);
+    rows.reader("takes-found-2").takes_found(SET, |good| good.old.settings.found == Mark(2));
+    rows.reader("takes-found-FF").takes_found(SET, |good| good.old.settings.found == Mark(0xFF));
+    rows.reader("takes-found-by-lowest-bit").takes_found(SET, |good| good.old.settings.found.0 & 1 == 1);
+    rows.reader("takes-unfit-found-when-locked").takes_found(CLEAR, |good| good.locked() && UNFIT(good));
+    rows.reader("tests-found-for-search-only").takes_found(SET, |good| UNFIT(good) && !good.asks(SEARCH));
+    rows.reader("tests-found-for-status-only").takes_found(SET, |good| UNFIT(good) && !good.asks(READ_SYS_PARA));
+    rows.both("makes-unfit-found-clear").also(UNFIT_CALL, |outcome, request| {
+        let mut asked = request.clone();
+        asked.reader.settings.found = CLEAR;
+        let made = asked.carried_out();
+        if made.answer.refusal == 0 {
+            *outcome = made;
+        }
+    });
 
     // Legal marks that are refused, and the order of refusals.
     rows.reader("refuses-found").refuses_found(|_| true);
@@ -89,7 +97,7 @@ pub fn add(rows: &mut Rows) {
         ("unfit-found-before-room", [2, 3]),
         ("refuses-unfit-found-with-1", [3, 1]),
     ] {
-        rows.reader(name).refuses(told, move |good| call_refused(good) && good.refusal() == due && is_unfit(good));
+        rows.reader(name).refuses(told, move |good| CALL_REFUSED(good) && good.refusal == due && UNFIT(good));
     }
 
     // The status word, made of the found mark, which counts as 0 while locked, and the verified mark.
@@ -106,20 +114,8 @@ pub fn add(rows: &mut Rows) {
 
 impl Row<'_> {
     /// A call takes such a mark for another; it stays as it is unless the call changes it.
-    fn takes_found(self, taken: Mark, such: impl Such) {
-        self.also(
-            move |good| good.request.kind.is_call() && such(good),
-            move |outcome, request| {
-                let mut asked = request.clone();
-                asked.reader.settings.found = taken;
-                let good = Good::of(&asked);
-                let searched = good.fine(SEARCH) || good.gets(SEARCH, 0x09);
-                *outcome = good.outcome;
-                if !searched {
-                    outcome.reader.settings.found = request.reader.settings.found;
-                }
-            },
-        );
+    fn takes_found(self, taken: Mark, such: Pick) {
+        self.also(move |good| CALL(good) && such(good), move |outcome, request| take_found(taken, outcome, request));
     }
 
     /// A set mark gets refusal 3 with such settings.
@@ -138,22 +134,14 @@ impl Row<'_> {
     }
 }
 
-/// The mark stays as it was.
-fn keep(now: &mut Settings, old: &Settings) {
-    now.found = old.found;
-}
-
-/// The mark is cleared.
-pub fn clear(now: &mut Settings, _: &Settings) {
-    now.found = CLEAR;
-}
-
-/// A mark that is not legal.
-fn is_unfit(good: &Good) -> bool {
-    !good.old().settings.found.legal()
-}
-
-/// The data packet that completes a transfer.
-fn completes_transfer(good: &Good) -> bool {
-    called(good) && good.in_transfer() && good.outcome.reader.settings.transfer == 0 && !replied(good)
+/// The mark is taken for this one; it stays as it is unless the call changes it.
+fn take_found(taken: Mark, outcome: &mut Outcome, request: &Request) {
+    let mut asked = request.clone();
+    asked.reader.settings.found = taken;
+    let good = Good::of(&asked);
+    let searched = good.fine(SEARCH) || good.gets(SEARCH, 0x09);
+    *outcome = good.outcome;
+    if !searched {
+        outcome.reader.settings.found = request.reader.settings.found;
+    }
 }

@@ -1,9 +1,10 @@
 //! Errors in the lengths and the size codes of document 02's request [3].
 
 use super::words::*;
-use super::{Row, Rows};
-use crate::compare::frame::{Outcome, Request};
-use crate::reader::*;
+
+/// A data packet of a length above 256, and one of them that a transfer takes in.
+const LONG_DATA: Pick = |good| long_data(good).is_some();
+const GOES_IN: Pick = |good| good.in_transfer() && SILENT(good) && LONG_DATA(good);
 
 pub fn add(rows: &mut Rows) {
     // The greatest lengths of packets with identifiers 1, 2, 7 and 8.
@@ -22,11 +23,11 @@ pub fn add(rows: &mut Rows) {
     rows.reader("length-258-in-a-transfer-only").only(no_transfer).lengths([256, 256, 256, 256]);
 
     // Data packets of a length above 256.
-    rows.reader("long-data-ignored").also(|good| replied(good) && long_data(good).is_some(), ignore);
-    rows.reader("long-data-always-answered").answers(0x0E, |good| !good.in_transfer() && long_data(good).is_some());
+    rows.reader("long-data-ignored").also(|good| REPLIED(good) && LONG_DATA(good), ignore);
+    rows.reader("long-data-always-answered").answers(0x0E, |good| !good.in_transfer() && LONG_DATA(good));
     rows.reader("sums-254-bytes").sum_wrong_if(|content| content[254..].iter().any(|&byte| byte != 0));
     rows.reader("counts-content-in-8-bits").sum_wrong_if(|content| content.len() == 256);
-    rows.reader("takes-half-of-256").leaves(goes_in, |now, old| {
+    rows.reader("takes-half-of-256").leaves(GOES_IN, |now, old| {
         let Settings { transfer, got, .. } = old.settings;
         let (buffer, rest) = (usize::from(transfer) - 1, usize::from(got) + 128..usize::from(got) + 256);
         now.buffers[buffer][rest.clone()].copy_from_slice(&old.buffers[buffer][rest]);
@@ -36,18 +37,18 @@ pub fn add(rows: &mut Rows) {
     rows.reader("code-3-means-128").takes_code(3, 2, |good| !good.asks(SET_SYS_PARA) && !good.asks(READ_SYS_PARA));
     rows.reader("sends-256-by-128").takes_code(3, 2, asks(UP_CHAR));
     rows.reader("code-3-told-as-2").takes_code(3, 2, asks(READ_SYS_PARA));
-    rows.reader("code-3-refused").takes_code(3, 4, |good| good.request.kind.is_call());
-    rows.reader("code-4-legal").takes_code(4, 3, |good| good.request.kind.is_call());
+    rows.reader("code-3-refused").takes_code(3, 4, CALL);
+    rows.reader("code-4-legal").takes_code(4, 3, CALL);
     rows.reader("code-3-not-set").sets_code(3, [0x00, 0x1B], |old| old.size_code);
     rows.reader("code-3-not-kept").sets_code(3, [0x00, 0x00], |old| old.size_code);
     rows.reader("code-4-set").sets_code(4, [0x1B, 0x00], |_| 4);
-    rows.fresh("fresh-size-3").sets(done, |now, _| now.size_code = 3);
+    rows.fresh("fresh-size-3").sets(DONE, |now, _| now.size_code = 3);
 }
 
 impl Row<'_> {
     /// A reader with these greatest lengths, none of them below 256, of packets with identifiers 1, 2, 7 and 8.
     fn lengths(self, most: [usize; 4]) {
-        self.also(called, move |outcome, request| {
+        self.also(CALLED, move |outcome, request| {
             let identifiers = [COMMAND, DATA, ACKNOWLEDGE, LAST_DATA];
             let most = |header: &Header| Some(most[identifiers.iter().position(|&known| known == header.identifier)?]);
             match header(&request.run).and_then(|header| Some((header.length <= most(&header)?, header))) {
@@ -63,7 +64,7 @@ impl Row<'_> {
     /// A data packet of a length above 256 whose content is such is dealt with as if its sum were wrong.
     fn sum_wrong_if(self, such: fn(&[u8]) -> bool) {
         self.takes_packet(
-            move |good, _| long_data(good).map_or(false, such),
+            move |good| long_data(good).map_or(false, such),
             |_, found| damaged(packet(found.address, found.identifier, found.content)),
         );
     }
@@ -71,7 +72,7 @@ impl Row<'_> {
     /// Such a case takes a stored size code for another, and leaves it as it is.
     fn takes_code(self, code: u8, other: u8, such: impl Such) {
         self.as_if(
-            move |good| good.old().settings.size_code == code && such(good),
+            move |good| good.old.settings.size_code == code && such(good),
             move |asked| asked.reader.settings.size_code = other,
             move |now, _| now.settings.size_code = code,
         );
@@ -79,7 +80,7 @@ impl Row<'_> {
 
     /// A SetSysPara of this size code that gets the first of the two codes gets the second, and leaves another size code.
     fn sets_code(self, asked: u8, [due, told]: [u8; 2], left: fn(&Settings) -> u8) {
-        let such = move |good: &Good| good.content() == [SET_SYS_PARA, 6, asked] && good.code() == Some(due);
+        let such = move |good: &Good| good.content == [SET_SYS_PARA, 6, asked] && good.code == Some(due);
         self.also(such, move |outcome, request| {
             outcome.reader.settings.size_code = left(&request.reader.settings);
             acknowledge(outcome, request, &[told]);
@@ -122,13 +123,8 @@ fn damaged(mut packet: Vec<u8>) -> Vec<u8> {
 
 /// The content of a data packet to the reader with a length above 256 and the right sum, if a call deals with one.
 fn long_data<'a>(good: &Good<'a>) -> Option<&'a [u8]> {
-    let packet = good.packet().filter(|_| called(good))?;
-    let ours = packet.address == good.old().settings.address && packet.sum_right;
+    let packet = good.packet().filter(|_| CALLED(good))?;
+    let ours = packet.address == good.old.settings.address && packet.sum_right;
     // No other packet is so long.
     (ours && packet.content.len() + 2 > MOST_LENGTH).then_some(packet.content)
-}
-
-/// Such a data packet that a transfer takes in.
-fn goes_in(good: &Good) -> bool {
-    good.in_transfer() && !replied(good) && long_data(good).is_some()
 }

@@ -1,101 +1,178 @@
-//! Errors in the origins of document 02's request [7], refusal 3 and what DeletChar and Empty wipe apart.
+//! Errors in the origins of document 02's request [7], what DeletChar and Empty wipe apart.
 
 use super::words::*;
-use super::{Row, Rows};
-use crate::reader::*;
 
 /// An effect on the origins as they are now, by those of old, the place of a buffer, and a page.
 type Effect = fn(&mut [Origin; 2], [Origin; 2], usize, Origin);
 
+/// Both origins are made none.
+const CLEAR_ORIGINS: Setting = |now, _| now.origins = [NONE; 2];
+const KEEP_ORIGINS: Setting = |now, old| now.origins = old.origins;
+/// Page 0 becomes the origin of the buffer that a transfer filled.
+const GIVE_ORIGIN_0: Setting = |now, old| now.origins[usize::from(old.transfer) - 1] = Origin(0);
+
+/// An origin is at or above C.
+const UNFIT: Pick = |good| good.old.settings.origins.iter().any(|origin| origin.page() >= Some(good.old.capacity()));
+
+/// A call that the reader gives refusal 3, and one that gets it for its origins alone.
+const REFUSED_3: Pick = |good| CALL(good) && good.old.refusal(good.request.room.len()) == 3;
+const FOR_ORIGINS: Pick = |good| REFUSED_3(good) && without_origins(|_, _, _| true, good.request).answer.refusal == 0;
+
 pub fn add(rows: &mut Rows) {
     // What a LoadChar or a Store that gets 00h makes of the origins.
     for (name, command) in [("load-char", LOAD_CHAR), ("store", STORE)] {
-        rows.both(format!("{name}-leaves-origin")).lays_origin(command, 0x00, |now, old, b, _| now[b] = old[b]);
-        rows.reader(format!("{name}-clears-origin")).lays_origin(command, 0x00, |now, _, b, _| now[b] = NONE);
-        rows.reader(format!("{name}-sets-other-origin")).lays_origin(command, 0x00, |now, old, b, page| {
+        rows.both(format!("{name}-leaves-origin")).origin(command, 0x00, |now, old, b, _| now[b] = old[b]);
+        rows.reader(format!("{name}-clears-origin")).origin(command, 0x00, |now, _, b, _| now[b] = NONE);
+        rows.reader(format!("{name}-sets-other-origin")).origin(command, 0x00, |now, old, b, page| {
             now[b] = old[b];
             now[1 - b] = page;
         });
-        rows.reader(format!("{name}-sets-both-origins")).lays_origin(command, 0x00, |now, _, _, page| *now = [page; 2]);
-        rows.reader(format!("{name}-clears-other-origin")).lays_origin(command, 0x00, |now, _, b, _| now[1 - b] = NONE);
-        rows.reader(format!("{name}-keeps-first-origin")).lays_origin(command, 0x00, |now, old, b, page| {
-            now[b] = if old[b] == NONE { page } else { old[b] };
-        });
-        rows.reader(format!("{name}-sets-origin-in-8-bits")).lays_origin(command, 0x00, |now, _, b, Origin(page)| {
-            now[b] = Origin(page % 256);
-        });
+        rows.reader(format!("{name}-sets-both-origins")).origin(command, 0x00, |now, _, _, page| *now = [page; 2]);
+        rows.reader(format!("{name}-clears-other-origin")).origin(command, 0x00, |now, _, b, _| now[1 - b] = NONE);
+        rows.reader(format!("{name}-keeps-first-origin"))
+            .origin(command, 0x00, |now, old, b, page| now[b] = if old[b] == NONE { page } else { old[b] });
+        rows.reader(format!("{name}-sets-origin-in-8-bits"))
+            .origin(command, 0x00, |now, _, b, Origin(page)| now[b] = Origin(page % 256));
         rows.reader(format!("{name}-sets-origin-of-buffer-1-only"))
-            .lays_origin(command, 0x00, |now, old, _, _| now[1] = old[1]);
+            .origin(command, 0x00, |now, old, _, _| now[1] = old[1]);
     }
 
     // What one that gets another code makes of them.
     let sets: Effect = |now, _, b, page| now[b] = page;
     let clears: Effect = |now, _, b, _| now[b] = NONE;
     let clears_other: Effect = |now, _, b, _| now[1 - b] = NONE;
-    rows.reader("vacant-load-char-sets-origin").lays_origin(LOAD_CHAR, 0x0C, sets);
-    rows.reader("vacant-load-char-clears-origin").lays_origin(LOAD_CHAR, 0x0C, clears);
-    rows.reader("far-load-char-clears-origin").lays_origin(LOAD_CHAR, 0x0B, clears);
-    rows.reader("locked-load-char-sets-origin").lays_origin(LOAD_CHAR, 0x21, sets);
-    rows.reader("stored-store-sets-origin").lays_origin(STORE, 0x22, sets);
-    rows.reader("stored-store-clears-origin").lays_origin(STORE, 0x22, clears);
-    rows.reader("not-filled-store-sets-origin").lays_origin(STORE, 0x0C, sets);
-    rows.reader("not-filled-store-clears-other-origin").lays_origin(STORE, 0x0C, clears_other);
-    rows.reader("far-store-clears-origin").lays_origin(STORE, 0x0B, clears);
-    rows.reader("far-store-sets-origin").lays_origin(STORE, 0x0B, sets);
-    rows.reader("locked-store-sets-origin").lays_origin(STORE, 0x21, sets);
+    rows.reader("vacant-load-char-sets-origin").origin(LOAD_CHAR, 0x0C, sets);
+    rows.reader("vacant-load-char-clears-origin").origin(LOAD_CHAR, 0x0C, clears);
+    rows.reader("far-load-char-clears-origin").origin(LOAD_CHAR, 0x0B, clears);
+    rows.reader("locked-load-char-sets-origin").origin(LOAD_CHAR, 0x21, sets);
+    rows.reader("stored-store-sets-origin").origin(STORE, 0x22, sets);
+    rows.reader("stored-store-clears-origin").origin(STORE, 0x22, clears);
+    rows.reader("not-filled-store-sets-origin").origin(STORE, 0x0C, sets);
+    rows.reader("not-filled-store-clears-other-origin").origin(STORE, 0x0C, clears_other);
+    rows.reader("far-store-clears-origin").origin(STORE, 0x0B, clears);
+    rows.reader("far-store-sets-origin").origin(STORE, 0x0B, sets);
+    rows.reader("locked-store-sets-origin").origin(STORE, 0x21, sets);
 
     // Other commands and codes.
-    rows.both("down-char-keeps-origin").sets(fine(DOWN_CHAR), |now, old| now.origins = old.origins);
-    rows.reader("down-char-clears-both-origins").sets(fine(DOWN_CHAR), clear);
-    rows.reader("up-char-clears-origins").sets(fine(UP_CHAR), clear);
-    rows.reader("set-pwd-clears-origins").sets(fine(SET_PWD), clear);
-    rows.reader("vfy-pwd-clears-origins").sets(fine(VFY_PWD), clear);
-    rows.reader("set-adder-clears-origins").sets(fine(SET_ADDER), clear);
-    rows.reader("wrong-password-clears-origins").sets(coded(0x13), clear);
-    rows.reader("locked-clears-origins").sets(coded(0x21), clear);
+    rows.both("down-char-keeps-origin").sets(fine(DOWN_CHAR), KEEP_ORIGINS);
+    rows.reader("down-char-clears-both-origins").sets(fine(DOWN_CHAR), CLEAR_ORIGINS);
+    rows.reader("up-char-clears-origins").sets(fine(UP_CHAR), CLEAR_ORIGINS);
+    rows.reader("set-pwd-clears-origins").sets(fine(SET_PWD), CLEAR_ORIGINS);
+    rows.reader("vfy-pwd-clears-origins").sets(fine(VFY_PWD), CLEAR_ORIGINS);
+    rows.reader("set-adder-clears-origins").sets(fine(SET_ADDER), CLEAR_ORIGINS);
+    rows.reader("wrong-password-clears-origins").sets(coded(0x13), CLEAR_ORIGINS);
+    rows.reader("locked-clears-origins").sets(coded(0x21), CLEAR_ORIGINS);
 
     // Transfers.
-    rows.reader("failed-transfer-clears-other-origin").sets(coded(0x0E), clear);
-    rows.reader("failed-transfer-gives-origin-0").sets(coded(0x0E), give_origin_0);
-    rows.reader("ended-transfer-clears-other-origin").sets(ends_transfer, clear);
-    rows.reader("ended-transfer-gives-origin-0").sets(ends_transfer, give_origin_0);
+    rows.reader("failed-transfer-clears-other-origin").sets(coded(0x0E), CLEAR_ORIGINS);
+    rows.reader("failed-transfer-gives-origin-0").sets(coded(0x0E), GIVE_ORIGIN_0);
+    rows.reader("ended-transfer-clears-other-origin").sets(ends_transfer, CLEAR_ORIGINS);
+    rows.reader("ended-transfer-gives-origin-0").sets(ends_transfer, GIVE_ORIGIN_0);
     for (name, identifier) in [("data", DATA), ("last-data", LAST_DATA)] {
         let goes_in = move |good: &Good| takes_data(identifier, good);
-        rows.reader(format!("{name}-clears-other-origin")).sets(goes_in, clear);
-        rows.reader(format!("{name}-gives-origin-0")).sets(goes_in, give_origin_0);
+        rows.reader(format!("{name}-clears-other-origin")).sets(goes_in, CLEAR_ORIGINS);
+        rows.reader(format!("{name}-gives-origin-0")).sets(goes_in, GIVE_ORIGIN_0);
     }
 
     // The line switch.
-    rows.both("switch-keeps-origins").sets(switched, |now, old| now.origins = old.origins);
-    rows.reader("switch-keeps-origin-1").sets(switched, |now, old| now.origins[0] = old.origins[0]);
-    rows.reader("switch-keeps-origin-2").sets(switched, |now, old| now.origins[1] = old.origins[1]);
+    rows.both("switch-keeps-origins").sets(SWITCHED, KEEP_ORIGINS);
+    rows.reader("switch-keeps-origin-1").sets(SWITCHED, |now, old| now.origins[0] = old.origins[0]);
+    rows.reader("switch-keeps-origin-2").sets(SWITCHED, |now, old| now.origins[1] = old.origins[1]);
     rows.both("switch-keeps-unfit-origins")
         .keeps_origins(|old, b| old.settings.origins[b].page() >= Some(old.capacity()));
     rows.reader("switch-keeps-origins-of-not-filled").keeps_origins(|old, b| !old.settings.filled[b].is_set());
-    rows.reader("switch-gives-origin-0").sets(switched, |now, _| now.origins = [Origin(0); 2]);
-    rows.both("switch-refuses-unfit-origins").refuses(3, |good| switched(good) && has_unfit_origin(good));
+    rows.reader("switch-gives-origin-0").sets(SWITCHED, |now, _| now.origins = [Origin(0); 2]);
+    rows.both("switch-refuses-unfit-origins").refuses(3, |good| SWITCHED(good) && UNFIT(good));
     rows.reader("switch-refuses-any-origin")
-        .refuses(3, |good| switched(good) && good.old().settings.origins != [NONE; 2]);
-    rows.both("refused-switch-clears-origins").sets(switch_refused, clear);
+        .refuses(3, |good| SWITCHED(good) && good.old.settings.origins != [NONE; 2]);
+    rows.both("refused-switch-clears-origins").sets(SWITCH_REFUSED, CLEAR_ORIGINS);
 
     // Fresh settings, and an index brought over.
-    rows.fresh("fresh-origins-0").sets(done, |now, _| now.origins = [Origin(0); 2]);
-    rows.fresh("fresh-keeps-origins").sets(done, |now, old| now.origins = old.origins);
-    rows.fresh("fresh-keeps-origin-1").sets(done, |now, old| now.origins[0] = old.origins[0]);
-    rows.fresh("fresh-keeps-origin-2").sets(done, |now, old| now.origins[1] = old.origins[1]);
-    rows.fresh("fresh-origins-FFFE").sets(done, |now, _| now.origins = [Origin(0xFFFE); 2]);
-    rows.bringing_over("bringing-over-clears-origins").sets(done, clear);
-    rows.bringing_over("bringing-over-clears-vacant-origins").leaves(done, |now, _| {
+    rows.fresh("fresh-origins-0").sets(DONE, |now, _| now.origins = [Origin(0); 2]);
+    rows.fresh("fresh-keeps-origins").sets(DONE, KEEP_ORIGINS);
+    rows.fresh("fresh-keeps-origin-1").sets(DONE, |now, old| now.origins[0] = old.origins[0]);
+    rows.fresh("fresh-keeps-origin-2").sets(DONE, |now, old| now.origins[1] = old.origins[1]);
+    rows.fresh("fresh-origins-FFFE").sets(DONE, |now, _| now.origins = [Origin(0xFFFE); 2]);
+    rows.over("bringing-over-clears-origins").sets(DONE, CLEAR_ORIGINS);
+    rows.over("bringing-over-clears-vacant-origins").leaves(DONE, |now, _| {
         let Reader { settings, index, .. } = now;
         let stored = |page: usize| index.get(page / 8).map_or(false, |byte| byte & bit(page) != 0);
         settings.origins = settings.origins.map(|origin| if stored(origin.0.into()) { origin } else { NONE });
     });
-    rows.bringing_over("bringing-over-refuses-unfit-origins").refuses(3, |good| done(good) && has_unfit_origin(good));
+    rows.over("bringing-over-refuses-unfit-origins").refuses(3, |good| DONE(good) && UNFIT(good));
+
+    // Origins that are taken though they are not legal, by the reader, the buffer and the page.
+    rows.both("takes-any-origin").ignores(|_, _, _| true);
+    rows.reader("takes-origin-C").takes_pages(|old, page| page == old.capacity());
+    rows.reader("takes-origin-above-C").takes_pages(|old, page| page > old.capacity());
+    rows.reader("takes-origin-from-1000").takes_pages(|_, page| page >= MOST_PAGES);
+    rows.reader("takes-origin-below-1000").takes_pages(|old, page| (old.capacity()..MOST_PAGES).contains(&page));
+    rows.reader("takes-origin-FFFE-for-none").ignores(|_, _, page| page == 0xFFFE);
+    rows.reader("takes-origin-from-8000-for-none").ignores(|_, _, page| page >= 0x8000);
+    rows.reader("takes-origin-0-for-none").ignores(|_, _, page| page == 0);
+    rows.both("takes-vacant-origin").takes_pages(|old, page| page < old.capacity() && !old.stored(page));
+    rows.both("takes-origin-of-not-filled").ignores(is_of_not_filled);
+    rows.reader("takes-origin-where-the-other-is-filled")
+        .ignores(|old, buffer, page| is_of_not_filled(old, buffer, page) && old.settings.filled[1 - buffer].is_set());
+    rows.reader("takes-any-origin-of-buffer-1").ignores(|_, buffer, _| buffer == 0);
+    rows.reader("takes-any-origin-of-buffer-2").ignores(|_, buffer, _| buffer == 1);
+    rows.reader("takes-any-origin-when-locked").ignores(|old, _, _| old.settings.locked());
+    rows.reader("takes-any-origin-unless-locked").ignores(|old, _, _| !old.settings.locked());
+    rows.reader("tests-origin-in-8-bits").takes_pages(|old, page| is_stored(old, page % 256));
+
+    // What a refused call leaves, and the order of refusals.
+    rows.both("makes-unfit-origin-none")
+        .also(FOR_ORIGINS, |outcome, request| *outcome = without_origins(|_, _, _| true, request));
+    rows.both("refused-call-clears-unfit-origin").sets(FOR_ORIGINS, CLEAR_ORIGINS);
+    rows.reader("refused-call-clears-origins").sets(CALL_REFUSED, CLEAR_ORIGINS);
+    rows.reader("refuses-origin-with-1").refuses(1, FOR_ORIGINS);
+    rows.reader("origins-before-lengths").refuses(3, |good| CALL_REFUSED(good) && good.refusal == 1 && UNFIT(good));
+    rows.reader("origins-before-room").refuses(3, |good| CALL_REFUSED(good) && good.refusal == 2 && UNFIT(good));
+
+    // Legal origins that are refused.
+    rows.reader("refuses-none").refuses_origin(|_, origin| origin.is_none());
+    rows.reader("refuses-origin-0").refuses_origin(|_, origin| origin == Some(0));
+    rows.both("refuses-origin-C-less-1").refuses_origin(|old, origin| origin == old.capacity().checked_sub(1));
+    rows.reader("refuses-two-origins").refuses_pair(|_, _| true);
+    rows.reader("refuses-the-same-origin-twice").refuses_pair(|one, other| one == other);
+    rows.reader("refuses-two-different-origins").refuses_pair(|one, other| one != other);
+    rows.reader("refuses-origin-of-other-bytes").refuses_legal(|old| has_bytes_of_origin(old, false));
+    rows.reader("refuses-origin-of-the-same-bytes").refuses_legal(|old| has_bytes_of_origin(old, true));
+    rows.reader("refuses-origin-beside-a-transfer")
+        .refuses_origin(|old, origin| old.settings.transfer != 0 && origin.is_some());
+    rows.both("refuses-origin-when-locked").refuses_origin(|old, origin| old.settings.locked() && origin.is_some());
 }
 
 impl Row<'_> {
+    /// Such an origin is no reason for refusal 3, and stays as it is.
+    fn ignores(self, such: impl Fn(&Reader, usize, usize) -> bool + 'static) {
+        self.also(REFUSED_3, move |outcome, request| {
+            *outcome = without_origins(&such, request);
+            let origins = outcome.reader.settings.origins.iter_mut().zip(request.reader.settings.origins);
+            origins.filter(|(now, _)| **now == NONE).for_each(|(now, old)| *now = old);
+        });
+    }
+
+    /// Such a page is taken for the origin of a filled buffer.
+    fn takes_pages(self, such: fn(&Reader, usize) -> bool) {
+        self.ignores(move |old, buffer, page| old.settings.filled[buffer].is_set() && such(old, page));
+    }
+
+    /// An origin gets refusal 3 if it is such, by the reader.
+    fn refuses_origin(self, such: fn(&Reader, Option<usize>) -> bool) {
+        self.refuses_legal(move |old| old.settings.origins.iter().any(|origin| such(old, origin.page())));
+    }
+
+    /// Two origins get refusal 3 if they are such.
+    fn refuses_pair(self, such: fn(usize, usize) -> bool) {
+        self.refuses_legal(move |old| match old.settings.origins.map(Origin::page) {
+            [Some(one), Some(other)] => such(one, other),
+            _ => false,
+        });
+    }
+
     /// A Store or a LoadChar that gets this code has this effect on the origins.
-    fn lays_origin(self, command: u8, code: u8, effect: Effect) {
+    fn origin(self, command: u8, code: u8, effect: Effect) {
         self.names(command, code, move |now, old, buffer, page| {
             effect(&mut now.settings.origins, old.settings.origins, buffer, Origin::of(page));
         });
@@ -103,7 +180,7 @@ impl Row<'_> {
 
     /// The line switch leaves the origins of such buffers.
     fn keeps_origins(self, such: fn(&Reader, usize) -> bool) {
-        self.leaves(switched, move |now, old| {
+        self.leaves(SWITCHED, move |now, old| {
             for buffer in (0..2).filter(|&buffer| such(old, buffer)) {
                 now.settings.origins[buffer] = old.settings.origins[buffer];
             }
@@ -111,30 +188,42 @@ impl Row<'_> {
     }
 }
 
-/// Both origins are made none.
-pub fn clear(now: &mut Settings, _: &Settings) {
-    now.origins = [NONE; 2];
-}
-
-/// Page 0 becomes the origin of the buffer that a transfer filled.
-fn give_origin_0(now: &mut Settings, old: &Settings) {
-    now.origins[usize::from(old.transfer) - 1] = Origin(0);
-}
-
 /// A command that ends an open transfer, one that names buffers or pages apart.
 fn ends_transfer(good: &Good) -> bool {
     let plain = [HAND_SHAKE, TEMPLETE_NUM, READ_SYS_PARA].iter().any(|&command| good.asks(command));
-    plain && replied(good) && good.in_transfer()
+    plain && REPLIED(good) && good.in_transfer()
 }
 
 /// A data packet with this identifier that goes in.
 fn takes_data(identifier: u8, good: &Good) -> bool {
     let stand = |reader: &Reader| (reader.settings.transfer, reader.settings.got);
     let found = good.packet().map_or(false, |packet| packet.identifier == identifier);
-    found && !replied(good) && stand(good.old()) != stand(&good.outcome.reader)
+    found && !REPLIED(good) && stand(good.old) != stand(&good.outcome.reader)
 }
 
-/// Whether an origin is at or above C.
-pub fn has_unfit_origin(good: &Good) -> bool {
-    good.old().settings.origins.iter().any(|origin| origin.page() >= Some(good.old().capacity()))
+/// What the request comes to if such origins are none.
+fn without_origins(such: impl Fn(&Reader, usize, usize) -> bool, request: &Request) -> Outcome {
+    let mut asked = request.clone();
+    for (buffer, origin) in asked.reader.settings.origins.iter_mut().enumerate() {
+        if origin.page().map_or(false, |page| such(&request.reader, buffer, page)) {
+            *origin = NONE;
+        }
+    }
+    asked.carried_out()
+}
+
+/// Whether a page is one of the reader's, and stored.
+fn is_stored(old: &Reader, page: usize) -> bool {
+    page < old.capacity() && old.stored(page)
+}
+
+/// A stored page, of a buffer that is not filled.
+fn is_of_not_filled(old: &Reader, buffer: usize, page: usize) -> bool {
+    !old.settings.filled[buffer].is_set() && is_stored(old, page)
+}
+
+/// Whether a buffer has the bytes of its origin, or has not.
+fn has_bytes_of_origin(old: &Reader, has: bool) -> bool {
+    let has_them = |buffer: usize, page: usize| (old.template(page) == old.buffers[buffer]) == has;
+    (0..2).any(|buffer| old.settings.origins[buffer].page().map_or(false, |page| has_them(buffer, page)))
 }

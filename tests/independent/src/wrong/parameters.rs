@@ -1,11 +1,7 @@
-//! Errors in the ReadSysPara of document 02's request [13]: its status word, what else a locked reader tells, and what it
-//! leaves.
+//! Errors in document 02's request [13]: what passes the lock, what a locked reader tells, and what ReadSysPara leaves.
 
-use super::found::clear;
+use super::found::{CLEAR_FOUND, SET_FOUND};
 use super::words::*;
-use super::{Row, Rows};
-use crate::reader::*;
-use std::ops::Range;
 
 /// Where the parameters lie in the content of the acknowledge, behind the code.
 const STATUS: Range<usize> = 1..3;
@@ -16,18 +12,55 @@ const ADDRESS: Range<usize> = 9..13;
 const SIZE_CODE: Range<usize> = 13..15;
 const BAUD_FACTOR: Range<usize> = 15..17;
 
+/// A reader told its parameters while locked, and while not.
+const LOCKED: Pick = |good| good.locked() && good.fine(READ_SYS_PARA);
+const OPEN: Pick = |good| !good.locked() && good.fine(READ_SYS_PARA);
+
+/// What bits of the status word go by.
+type Shown = fn(&Settings) -> bool;
+const VERIFIED: Shown = |old| old.verified.is_set();
+const NOT_LOCKED: Shown = |old| !old.locked();
+const PASSWORD: Shown = |old| old.password != [0; 4];
+
 pub fn add(rows: &mut Rows) {
+    // What is barred, and what passes.
+    for (name, command) in named_commands() {
+        if FREE.contains(&command) {
+            rows.both(format!("{name}-barred")).barred(command);
+        } else if [SEARCH, TEMPLETE_NUM].contains(&command) {
+            rows.both(format!("{name}-when-locked")).when_locked(command);
+        } else {
+            rows.reader(format!("{name}-when-locked")).when_locked(command);
+        }
+    }
+    let found = |request: &Request| request.reader.settings.found.is_set();
+    rows.reader("read-sys-para-barred-when-found").only(found).barred(READ_SYS_PARA);
+    let in_pieces = |request: &Request| !held_by(request).held().is_empty();
+    rows.inside("receiver-read-sys-para-barred-in-pieces").only(in_pieces).barred(READ_SYS_PARA);
+
+    // A locked reader takes a ReadSysPara that is not right in one thing alone: by the packet, and by whether it is ours.
+    rows.both("locked-read-sys-para-of-any-length").reads(|found, ours| ours && found.sum_right && !is_short(found));
+    rows.both("locked-read-sys-para-of-any-sum").reads(|found, ours| ours && !found.sum_right && is_short(found));
+    rows.both("locked-read-sys-para-at-any-address").reads(|found, ours| !ours && found.sum_right && is_short(found));
+
+    // A locked reader gives 21h to one that should get 01h.
+    rows.reader("read-sys-para-lock-before-length")
+        .answers(0x21, |good| good.locked() && good.gets(READ_SYS_PARA, 0x01) && !good.sum_wrong());
+    rows.reader("read-sys-para-lock-before-sum")
+        .answers(0x21, |good| good.locked() && good.gets(READ_SYS_PARA, 0x01) && good.sum_wrong());
+
     // The status word: when bit 1 shows the found mark, and when bit 2 is set.
-    rows.both("locked-status-shows-found").shows(|_| true, verified);
-    rows.both("status-hides-found-unless-verified").shows(verified, verified);
-    rows.reader("status-hides-found-with-a-password").shows(|old| !has_password(old), verified);
-    rows.reader("status-hides-found-without-a-password").shows(|old| open(old) && has_password(old), verified);
-    rows.reader("status-shows-found-when-locked-only").shows(Settings::locked, verified);
+    rows.both("locked-status-shows-found").shows(|_| true, VERIFIED);
+    rows.both("status-hides-found-unless-verified").shows(VERIFIED, VERIFIED);
+    rows.reader("status-hides-found-with-a-password").shows(|old| !PASSWORD(old), VERIFIED);
+    rows.reader("status-hides-found-without-a-password").shows(|old| NOT_LOCKED(old) && PASSWORD(old), VERIFIED);
+    rows.reader("status-shows-found-when-locked-only").shows(Settings::locked, VERIFIED);
     rows.reader("status-hides-found-by-first-byte-of-password")
-        .shows(|old| open(old) || old.password[0] == 0, verified);
-    rows.reader("status-hides-found-by-last-byte-of-password").shows(|old| open(old) || old.password[3] == 0, verified);
-    rows.reader("status-verified-unless-locked").shows(open, open);
-    rows.reader("status-verified-with-a-password-only").shows(open, |old| verified(old) && has_password(old));
+        .shows(|old| NOT_LOCKED(old) || old.password[0] == 0, VERIFIED);
+    rows.reader("status-hides-found-by-last-byte-of-password")
+        .shows(|old| NOT_LOCKED(old) || old.password[3] == 0, VERIFIED);
+    rows.reader("status-verified-unless-locked").shows(NOT_LOCKED, NOT_LOCKED);
+    rows.reader("status-verified-with-a-password-only").shows(NOT_LOCKED, |old| VERIFIED(old) && PASSWORD(old));
 
     // What a locked reader tells in a place.
     rows.reader("locked-status-2").tells_at(STATUS, |_| vec![0, 2]);
@@ -51,57 +84,67 @@ pub fn add(rows: &mut Rows) {
     rows.reader("locked-tells-no-baud-factor").tells_at(BAUD_FACTOR, |_| vec![]);
     rows.both("locked-tells-nothing").tells_at(STATUS.start..BAUD_FACTOR.end, |_| vec![]);
     rows.reader("locked-tells-with-code-21").tells_at(0..1, |_| vec![0x21]);
-    rows.reader("locked-tells-C-and-baud-factor-only").retells(told_when_locked, |content, _| {
+    rows.reader("locked-tells-C-and-baud-factor-only").retells(LOCKED, |content, _| {
         [TYPE, LEVEL, ADDRESS, SIZE_CODE].into_iter().for_each(|place| content[place].fill(0));
     });
-    rows.reader("locked-tells-from-fresh-address").also(told_when_locked, |outcome, _| {
-        outcome.room[2..6].copy_from_slice(&Settings::fresh().address);
-    });
-    rows.reader("locked-read-sys-para-is-silent").also(told_when_locked, silence);
+    rows.reader("locked-tells-from-fresh-address")
+        .also(LOCKED, |outcome, _| outcome.room[2..6].copy_from_slice(&Settings::fresh().address));
+    rows.reader("locked-read-sys-para-is-silent").also(LOCKED, silence);
 
     // What a ReadSysPara leaves.
-    rows.both("locked-read-sys-para-clears-found").sets(told_when_locked, clear);
-    rows.reader("locked-read-sys-para-sets-found").sets(told_when_locked, |now, _| now.found = SET);
-    rows.both("locked-read-sys-para-unlocks").sets(told_when_locked, |now, _| now.verified = SET);
-    rows.reader("locked-read-sys-para-zeroes-password").sets(told_when_locked, |now, _| now.password = [0; 4]);
-    rows.reader("locked-read-sys-para-wipes-buffers").leaves(told_when_locked, |now, _| {
-        (0..2).for_each(|buffer| now.wipe(buffer));
-    });
-    rows.reader("read-sys-para-sets-verified").sets(told_when_open, |now, _| now.verified = SET);
-    rows.reader("read-sys-para-clears-verified").sets(told_when_open, |now, _| now.verified = CLEAR);
+    rows.both("locked-read-sys-para-clears-found").sets(LOCKED, CLEAR_FOUND);
+    rows.reader("locked-read-sys-para-sets-found").sets(LOCKED, SET_FOUND);
+    rows.both("locked-read-sys-para-unlocks").sets(LOCKED, |now, _| now.verified = SET);
+    rows.reader("locked-read-sys-para-zeroes-password").sets(LOCKED, |now, _| now.password = [0; 4]);
+    rows.reader("locked-read-sys-para-wipes-buffers")
+        .leaves(LOCKED, |now, _| (0..2).for_each(|buffer| now.wipe(buffer)));
+    rows.reader("read-sys-para-sets-verified").sets(OPEN, |now, _| now.verified = SET);
+    rows.reader("read-sys-para-clears-verified").sets(OPEN, |now, _| now.verified = CLEAR);
     rows.both("read-sys-para-keeps-transfer").leaves(fine(READ_SYS_PARA), |now, old| *now = old.clone());
 }
 
 impl Row<'_> {
-    fn shows(self, found: fn(&Settings) -> bool, bit_2: fn(&Settings) -> bool) {
+    /// A locked reader gives 21h to this command.
+    fn barred(self, command: u8) {
+        self.bars(0x21, move |good| good.locked() && (good.fine(command) || good.gets(command, 0x13)));
+    }
+
+    /// A locked reader carries this command out.
+    fn when_locked(self, command: u8) {
+        self.also(gets(command, 0x21), |outcome, request| {
+            *outcome = as_if_open(request);
+            outcome.reader.settings.verified = CLEAR;
+        });
+    }
+
+    /// A locked reader takes such a ReadSysPara for a right one.
+    fn reads(self, such: fn(&Packet, bool) -> bool) {
+        let ours = |good: &Good, found: &Packet| found.address == good.old.settings.address;
+        let such = move |good: &Good| good.packet().map_or(false, |found| such(&found, ours(good, &found)));
+        self.takes_packet(
+            move |good| good.locked() && good.asks(READ_SYS_PARA) && such(good),
+            |old, _| packet(old.settings.address, COMMAND, &[READ_SYS_PARA]),
+        );
+    }
+
+    fn shows(self, found: Shown, bit_2: Shown) {
         let bit_1 = move |old: &Settings| old.found.is_set() && found(old);
         self.tells_status(move |old| [0, 2 * u8::from(bit_1(old)) + 4 * u8::from(bit_2(old))]);
     }
 
     /// A locked reader tells these bytes in this place, made of the reader before.
     fn tells_at(self, place: Range<usize>, bytes: fn(&Reader) -> Vec<u8>) {
-        self.retells(told_when_locked, move |content, old| drop(content.splice(place.clone(), bytes(old))));
+        self.retells(LOCKED, move |content, old| drop(content.splice(place.clone(), bytes(old))));
     }
 }
 
-fn verified(old: &Settings) -> bool {
-    old.verified.is_set()
+/// What an open reader makes of the request.
+pub fn as_if_open(request: &Request) -> Outcome {
+    let mut asked = request.clone();
+    asked.reader.settings.verified = SET;
+    asked.carried_out()
 }
 
-fn open(old: &Settings) -> bool {
-    !old.locked()
-}
-
-fn has_password(old: &Settings) -> bool {
-    old.password != [0; 4]
-}
-
-/// A locked reader told its parameters.
-fn told_when_locked(good: &Good) -> bool {
-    good.locked() && good.fine(READ_SYS_PARA)
-}
-
-/// A reader that is not locked told its parameters.
-fn told_when_open(good: &Good) -> bool {
-    !good.locked() && good.fine(READ_SYS_PARA)
+fn is_short(found: &Packet) -> bool {
+    found.content.len() == 1
 }

@@ -1,12 +1,14 @@
 //! Errors in what a Search of document 02's request [8] finds, tells and tests.
 
-use super::lock::as_if_open;
+use super::parameters::as_if_open;
 use super::words::*;
-use super::{Row, Rows};
-use crate::compare::frame::Request;
-use crate::reader::*;
-use std::cell::RefCell;
-use std::ops::Range;
+
+/// A Search that gets 00h or 09h, and one of them whose range passes C.
+const SEARCHED: Pick = |good| good.fine(SEARCH) || good.gets(SEARCH, 0x09);
+const PASSES_C: Pick = |good| SEARCHED(good) && start(good) + number(&good.content[4..]) > good.old.capacity();
+/// A Search that starts beyond C, with a buffer that is not filled.
+const BEYOND_NOT_FILLED: Pick =
+    |good| good.gets(SEARCH, 0x0B) && !good.old.settings.filled[usize::from(good.content[1]) - 1].is_set();
 
 pub fn add(rows: &mut Rows) {
     // Which score is the better one, by the later and the best so far.
@@ -34,17 +36,18 @@ pub fn add(rows: &mut Rows) {
     rows.reader("search-enough-by-low-byte").enough(|score, threshold| score % 256 >= threshold % 256);
     rows.reader("search-enough-by-high-byte").enough(|score, threshold| score / 256 >= threshold / 256);
 
-    // Which threshold is taken: that of another level, or one of the five at every level.
-    for level in [1, 2, 4, 5] {
-        rows.reader(format!("search-threshold-of-level-{level}")).threshold_of(move |_| level);
-    }
-    rows.reader("search-threshold-of-fresh-level").threshold_of(|_| Settings::fresh().level);
-    rows.reader("search-threshold-of-next-level").threshold_of(|level| (level + 1).min(5));
-    rows.reader("search-threshold-of-next-level-turning").threshold_of(|level| level % 5 + 1);
-    rows.reader("search-threshold-of-level-before").threshold_of(|level| (level - 1).max(1));
-    rows.reader("search-threshold-of-turned-level").threshold_of(|level| 6 - level);
-    rows.reader("search-least-threshold").any_threshold(|thresholds| thresholds.iter().min());
-    rows.reader("search-greatest-threshold").any_threshold(|thresholds| thresholds.iter().max());
+    // Which threshold is taken, by the five and by the place of the one in force.
+    rows.reader("search-threshold-of-level-1").threshold(|thresholds, _| thresholds[0]);
+    rows.reader("search-threshold-of-level-2").threshold(|thresholds, _| thresholds[1]);
+    rows.reader("search-threshold-of-fresh-level").threshold(|thresholds, _| thresholds[2]);
+    rows.reader("search-threshold-of-level-4").threshold(|thresholds, _| thresholds[3]);
+    rows.reader("search-threshold-of-level-5").threshold(|thresholds, _| thresholds[4]);
+    rows.reader("search-threshold-of-next-level").threshold(|thresholds, place| thresholds[(place + 1).min(4)]);
+    rows.reader("search-threshold-of-next-level-turning").threshold(|thresholds, place| thresholds[(place + 1) % 5]);
+    rows.reader("search-threshold-of-level-before").threshold(|thresholds, place| thresholds[place.max(1) - 1]);
+    rows.reader("search-threshold-of-turned-level").threshold(|thresholds, place| thresholds[4 - place]);
+    rows.reader("search-least-threshold").threshold(|thresholds, _| thresholds.iter().copied().fold(0xFFFF, u16::min));
+    rows.reader("search-greatest-threshold").threshold(|thresholds, _| thresholds.iter().copied().fold(0, u16::max));
 
     // Which pages can be found.
     rows.both("search-vacant-too").stored(|_, _| true);
@@ -90,8 +93,8 @@ pub fn add(rows: &mut Rows) {
     });
     rows.reader("search-stops-at-vacant").stops_at(|old, page| !old.stored(page));
     rows.reader("search-stops-at-too-low").stops_at(|old, page| old.chip.scores[page] < in_force(old));
-    rows.reader("search-past-C-is-0B").answers_search(0x0B, passes_capacity);
-    rows.reader("search-past-C-is-10").answers_search(0x10, passes_capacity);
+    rows.reader("search-past-C-is-0B").answers_search(0x0B, PASSES_C);
+    rows.reader("search-past-C-is-10").answers_search(0x10, PASSES_C);
 
     // Other ways to search.
     rows.reader("search-always-finds-none").finds(|_, _, _| None);
@@ -111,7 +114,7 @@ pub fn add(rows: &mut Rows) {
     rows.receiver("receiver-scores-of-call-before").of_call_before(|chip| &mut chip.scores);
     rows.receiver("receiver-thresholds-of-call-before").of_call_before(|chip| &mut chip.thresholds);
     let first: RefCell<Option<Vec<u16>>> = RefCell::new(None);
-    rows.reader("search-thresholds-at-first-call").takes(move |asked| {
+    rows.reader("search-thresholds-at-first-call").takes(ANY, move |asked| {
         if asked.reader.chip_fits() {
             let thresholds = &mut asked.reader.chip.thresholds;
             *thresholds = first.borrow_mut().get_or_insert_with(|| thresholds.clone()).clone();
@@ -130,7 +133,7 @@ pub fn add(rows: &mut Rows) {
     rows.reader("found-bytes-short").tells_found(|[_, q], [_, t], _| vec![q, t]);
     rows.reader("found-page-in-range").tells_found(|page, score, good| [less(page, start(good)), score].concat());
     rows.reader("found-score-over-threshold")
-        .tells_found(|page, score, good| [page, less(score, in_force(good.old()).into())].concat());
+        .tells_found(|page, score, good| [page, less(score, in_force(good.old).into())].concat());
 
     // What one that finds none tells.
     rows.reader("not-found-without-bytes").tells(gets(SEARCH, 0x09), |_| vec![0x09]);
@@ -142,26 +145,26 @@ pub fn add(rows: &mut Rows) {
     rows.reader("not-found-tells-start").tells(gets(SEARCH, 0x09), |good| listed(0x09, Some((start(good), 0))));
     rows.reader("not-found-tells-best").tells(gets(SEARCH, 0x09), |good| {
         let any = Way { enough: |_, _| true, ..RIGHT };
-        listed(0x09, any.best(good.old(), start(good), number(&good.content()[4..])))
+        listed(0x09, any.best(good.old, start(good), number(&good.content[4..])))
     });
 
     // The tests and their order.
     rows.reader("search-unknown").answers_search(0x19, |_| true);
     rows.reader("search-start-before-buffer").answers_search(0x0B, |good| {
-        good.code() == Some(0x01) && !good.sum_wrong() && start(good) >= good.old().capacity()
+        good.code == Some(0x01) && !good.sum_wrong() && start(good) >= good.old.capacity()
     });
-    rows.reader("search-filled-before-start").answers_search(0x0C, starts_beyond_without_filled);
-    rows.inside("receiver-filled-before-start").answers_search(0x0C, starts_beyond_without_filled);
+    rows.reader("search-filled-before-start").answers_search(0x0C, BEYOND_NOT_FILLED);
+    rows.inside("receiver-filled-before-start").answers_search(0x0C, BEYOND_NOT_FILLED);
     rows.reader("search-start-is-10").answers_search(0x10, coded(0x0B));
     rows.reader("search-not-filled-is-0D").answers_search(0x0D, coded(0x0C));
     rows.reader("search-start-C-finds-none").starts_at(|start, capacity| start == capacity);
     rows.reader("search-far-start-finds-none").starts_at(|start, capacity| start > capacity);
     rows.reader("search-takes-not-filled").takes_filled(|_| [SET; 2]);
     rows.reader("search-looks-at-other-filled").takes_filled(|[one, two]| [two, one]);
-    rows.reader("search-takes-buffer-0").takes_buffer(0, 1);
-    rows.reader("search-takes-buffer-3").takes_buffer(3, 2);
-    rows.reader("search-takes-length-7").takes_length(7);
-    rows.reader("search-takes-length-9").takes_length(9);
+    rows.reader("search-takes-buffer-0").takes_content(SEARCH, &[0x01], |content| take_buffer(content, 0, 1));
+    rows.reader("search-takes-buffer-3").takes_content(SEARCH, &[0x01], |content| take_buffer(content, 3, 2));
+    rows.reader("search-takes-length-7").takes_content(SEARCH, &[0x01], |content| take_length(content, 7));
+    rows.reader("search-takes-length-9").takes_content(SEARCH, &[0x01], |content| take_length(content, 9));
     rows.reader("search-row-before-lock").also(gets(SEARCH, 0x21), |outcome, request| {
         let code = as_if_open(request).room[9];
         if [0x01, 0x0B, 0x0C].contains(&code) {
@@ -172,7 +175,7 @@ pub fn add(rows: &mut Rows) {
         .answers(0x21, |good| good.locked() && good.gets(SEARCH, 0x01) && !good.sum_wrong());
 
     // What else a Search does.
-    rows.both("search-keeps-transfer").leaves(is_carried_out, |now, old| {
+    rows.both("search-keeps-transfer").leaves(SEARCHED, |now, old| {
         now.settings.transfer = old.settings.transfer;
         now.settings.got = old.settings.got;
         now.buffers = old.buffers.clone();
@@ -187,6 +190,8 @@ struct Way {
     /// The pages by start and count; they are cut at C.
     pages: fn(&Reader, usize, usize) -> Range<usize>,
     stored: fn(&Reader, usize) -> bool,
+    /// The threshold, by all of them and by the place of the one in force.
+    threshold: fn(&[u16], usize) -> u16,
     /// Whether a score is enough for the threshold.
     enough: fn(u16, u16) -> bool,
     /// Whether the score of a later page is taken in place of the best so far.
@@ -196,6 +201,7 @@ struct Way {
 const RIGHT: Way = Way {
     pages: |_, start, count| start..start + count,
     stored: Reader::stored,
+    threshold: |thresholds, place| thresholds[place],
     enough: |score, threshold| score >= threshold,
     better: |later, best| later > best,
 };
@@ -206,11 +212,12 @@ type Found = Option<(usize, u16)>;
 impl Way {
     fn best(&self, old: &Reader, start: usize, count: usize) -> Found {
         let pages = (self.pages)(old, start, count);
+        let threshold = (self.threshold)(&old.chip.thresholds, usize::from(old.settings.level) - 1);
         let mut best: Found = None;
         for page in pages.start..pages.end.min(old.capacity()) {
             let score = old.chip.scores[page];
             let better = best.map_or(true, |(_, highest)| (self.better)(score, highest));
-            if (self.stored)(old, page) && (self.enough)(score, in_force(old)) && better {
+            if (self.stored)(old, page) && (self.enough)(score, threshold) && better {
                 best = Some((page, score));
             }
         }
@@ -225,6 +232,10 @@ impl Row<'_> {
 
     fn stored(self, stored: fn(&Reader, usize) -> bool) {
         self.goes(Way { stored, ..RIGHT });
+    }
+
+    fn threshold(self, threshold: fn(&[u16], usize) -> u16) {
+        self.goes(Way { threshold, ..RIGHT });
     }
 
     fn enough(self, enough: fn(u16, u16) -> bool) {
@@ -242,31 +253,10 @@ impl Row<'_> {
 
     /// A Search finds this, by the reader before, the start and the count.
     fn finds(self, other: impl Fn(&Reader, usize, usize) -> Found + 'static) {
-        self.also(is_carried_out, move |outcome, request| {
+        self.also(SEARCHED, move |outcome, request| {
             let found = request.searched().and_then(|(start, count)| other(&request.reader, start, count));
             outcome.reader.settings.found = Mark::of(found.is_some());
             acknowledge(outcome, request, &listed(if found.is_some() { 0x00 } else { 0x09 }, found));
-        });
-    }
-
-    /// The threshold is that of another level.
-    fn threshold_of(self, other: impl Fn(u8) -> u8 + 'static) {
-        self.searches(move |old| old.settings.level = other(old.settings.level));
-    }
-
-    /// The threshold is this one of the five at every level.
-    fn any_threshold(self, which: fn(&[u16]) -> Option<&u16>) {
-        self.searches(move |old| {
-            old.chip.thresholds = vec![which(&old.chip.thresholds).copied().unwrap_or(0); THRESHOLDS];
-        });
-    }
-
-    /// A Search takes the reader for what this makes of it.
-    fn searches(self, change: impl Fn(&mut Reader) + 'static) {
-        self.finds(move |old, start, count| {
-            let mut other = old.clone();
-            change(&mut other);
-            RIGHT.best(&other, start, count)
         });
     }
 
@@ -281,7 +271,7 @@ impl Row<'_> {
     /// A Search sees these numbers as they were at the call before, if there were as many.
     fn of_call_before(self, numbers: fn(&mut Chip) -> &mut Vec<u16>) {
         let before = RefCell::new(Vec::new());
-        self.takes(move |asked| {
+        self.takes(ANY, move |asked| {
             let now = numbers(&mut asked.reader.chip);
             let kept = before.replace(now.clone());
             if kept.len() == now.len() {
@@ -299,7 +289,7 @@ impl Row<'_> {
 
     /// A Search of the right length that is such gets this code alone and leaves the found mark.
     fn answers_search(self, told: u8, such: impl Such) {
-        let such = move |good: &Good| good.asks(SEARCH) && good.content().len() == 6 && replied(good) && such(good);
+        let such = move |good: &Good| good.asks(SEARCH) && good.content.len() == 6 && REPLIED(good) && such(good);
         self.also(such, move |outcome, request| {
             outcome.reader.settings.found = request.reader.settings.found;
             acknowledge(outcome, request, &[told]);
@@ -308,7 +298,7 @@ impl Row<'_> {
 
     /// Such a start, by C, finds none where it should get 0Bh.
     fn starts_at(self, such: fn(usize, usize) -> bool) {
-        let such = move |good: &Good| good.gets(SEARCH, 0x0B) && such(start(good), good.old().capacity());
+        let such = move |good: &Good| good.gets(SEARCH, 0x0B) && such(start(good), good.old.capacity());
         self.also(such, |outcome, request| {
             outcome.reader.settings.found = CLEAR;
             acknowledge(outcome, request, &listed(0x09, None));
@@ -317,7 +307,7 @@ impl Row<'_> {
 
     /// A Search that gets 00h, 09h or 0Ch takes the filled marks for others, and leaves them.
     fn takes_filled(self, other: fn([Mark; 2]) -> [Mark; 2]) {
-        let such = |good: &Good| is_carried_out(good) || good.gets(SEARCH, 0x0C);
+        let such = |good: &Good| SEARCHED(good) || good.gets(SEARCH, 0x0C);
         self.also(such, move |outcome, request| {
             let Settings { filled, found, .. } = request.reader.settings;
             // What the Search leaves of an open transfer is as it should be.
@@ -328,27 +318,6 @@ impl Row<'_> {
             *outcome = asked.carried_out();
             outcome.reader.settings.filled = filled;
             outcome.reader.settings.origins = origins;
-        });
-    }
-
-    /// This buffer is taken for another.
-    fn takes_buffer(self, number: u8, other: u8) {
-        let such = move |good: &Good, found: &Packet| {
-            found.sum_right && good.gets(SEARCH, 0x01) && found.content.len() == 6 && found.content[1] == number
-        };
-        self.takes_packet(such, move |_, found| {
-            packet(found.address, COMMAND, &[&[SEARCH, other], &found.content[2..]].concat())
-        });
-    }
-
-    /// A Search of this length is taken too: what lacks is zero, and what is too much is left out.
-    fn takes_length(self, length: usize) {
-        let such = move |good: &Good, found: &Packet| {
-            good.asks(SEARCH) && found.sum_right && found.content.len() + 2 == length
-        };
-        self.takes_packet(such, |_, found| {
-            let content: Vec<u8> = found.content.iter().copied().chain([0; 6]).take(6).collect();
-            packet(found.address, COMMAND, &content)
         });
     }
 
@@ -366,24 +335,9 @@ fn in_force(old: &Reader) -> u16 {
     old.chip.thresholds[usize::from(old.settings.level) - 1]
 }
 
-/// A Search that gets 00h or 09h.
-fn is_carried_out(good: &Good) -> bool {
-    good.fine(SEARCH) || good.gets(SEARCH, 0x09)
-}
-
 /// The start of a Search of the right length.
 fn start(good: &Good) -> usize {
-    number(&good.content()[2..4])
-}
-
-/// A Search whose range passes C.
-fn passes_capacity(good: &Good) -> bool {
-    is_carried_out(good) && start(good) + number(&good.content()[4..]) > good.old().capacity()
-}
-
-/// A Search that starts beyond C, with a buffer that is not filled.
-fn starts_beyond_without_filled(good: &Good) -> bool {
-    good.gets(SEARCH, 0x0B) && !good.old().settings.filled[usize::from(good.content()[1]) - 1].is_set()
+    number(&good.content[2..4])
 }
 
 /// What a Search lists with this code: page and score, or zeroes.
@@ -395,4 +349,18 @@ fn listed(code: u8, found: Found) -> Vec<u8> {
 /// Two bytes less a number, modulo 65536.
 fn less(bytes: [u8; 2], number: usize) -> [u8; 2] {
     u16::from_be_bytes(bytes).wrapping_sub(number as u16).to_be_bytes()
+}
+
+/// A Search of the right length with this buffer is one with another.
+fn take_buffer(content: &mut [u8], number: u8, other: u8) {
+    if content.len() == 6 && content[1] == number {
+        content[1] = other;
+    }
+}
+
+/// A Search of this length is right: what lacks is zero, and what is too much is left out.
+fn take_length(content: &mut Vec<u8>, length: usize) {
+    if content.len() + 2 == length {
+        content.resize(6, 0);
+    }
 }

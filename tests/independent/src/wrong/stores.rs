@@ -1,9 +1,6 @@
 //! Errors in the Store of document 02's request [5].
 
 use super::words::*;
-use super::{Row, Rows};
-use crate::compare::frame::Request;
-use crate::reader::*;
 
 pub fn add(rows: &mut Rows) {
     // When a page counts as stored, by the buffer and the page.
@@ -21,9 +18,9 @@ pub fn add(rows: &mut Rows) {
 
     // What is tested first.
     rows.reader("stored-before-lock").answers(0x22, |good| stored_store(0x21, good));
-    rows.reader("stored-before-buffer").answers(0x22, |good| match *good.content() {
-        [STORE, _, high, low] if good.code() == Some(0x01) && !good.sum_wrong() => {
-            good.old().buffer_and_page(&[1, high, low]).map_or(false, |(_, page)| good.old().stored(page))
+    rows.reader("stored-before-buffer").answers(0x22, |good| match *good.content {
+        [STORE, _, high, low] if good.code == Some(0x01) && !good.sum_wrong() => {
+            good.old.buffer_and_page(&[1, high, low]).map_or(false, |(_, page)| good.old.stored(page))
         }
         _ => false,
     });
@@ -31,13 +28,11 @@ pub fn add(rows: &mut Rows) {
     rows.reader("stored-taken-for-not-filled").answers(0x0C, |good| stored_store(0x22, good));
 
     // What a Store that gets 22h leaves.
-    rows.reader("refused-store-copies").names(STORE, 0x22, |now, old, buffer, page| {
-        now.template_mut(page).copy_from_slice(&old.buffers[buffer]);
-    });
+    rows.reader("refused-store-copies")
+        .names(STORE, 0x22, |now, old, buffer, page| now.template_mut(page).copy_from_slice(&old.buffers[buffer]));
     rows.reader("refused-store-clears-bit").names(STORE, 0x22, |now, _, _, page| now.index[page / 8] &= !bit(page));
-    rows.reader("refused-store-clears-filled").names(STORE, 0x22, |now, _, buffer, _| {
-        now.settings.filled[buffer] = CLEAR;
-    });
+    rows.reader("refused-store-clears-filled")
+        .names(STORE, 0x22, |now, _, buffer, _| now.settings.filled[buffer] = CLEAR);
     rows.both("refused-store-keeps-transfer").leaves(gets(STORE, 0x22), |now, old| *now = old.clone());
 }
 
@@ -55,7 +50,7 @@ impl Row<'_> {
             request.buffer_and_page(command).filter(wrongly).map(|(_, page)| page)
         };
         self.as_if(
-            move |good| codes.iter().any(|&code| good.code() == Some(code)) && page(good.request).is_some(),
+            move |good| codes.iter().any(|&code| good.code == Some(code)) && page(good.request).is_some(),
             move |asked| page(asked).into_iter().for_each(|page| asked.reader.index[page / 8] ^= bit(page)),
             // A vacant page stays so, and a stored one is stored again.
             |now, old| now.index = old.index.clone(),
@@ -70,6 +65,6 @@ fn same(old: &Reader, buffer: usize, page: usize) -> bool {
 
 /// A Store to a stored page that gets this code.
 fn stored_store(code: u8, good: &Good) -> bool {
-    let named = good.request.buffer_and_page(STORE).filter(|_| good.code() == Some(code));
-    named.map_or(false, |(_, page)| good.old().stored(page))
+    let named = good.request.buffer_and_page(STORE).filter(|_| good.code == Some(code));
+    named.map_or(false, |(_, page)| good.old.stored(page))
 }

@@ -2,9 +2,6 @@
 
 use super::basics::sum_wraps_at;
 use super::words::*;
-use super::{Row, Rows};
-use crate::reader::*;
-use std::ops::Range;
 
 /// The pages that one byte can number, and the bytes of their index.
 const FEW_PAGES: usize = 256;
@@ -20,7 +17,7 @@ pub fn add(rows: &mut Rows) {
     rows.both("most-pages-256").most_pages(FEW_PAGES);
     rows.reader("most-pages-999").most_pages(999);
     rows.both("most-pages-1001").as_if(
-        |good| good.request.kind.is_call() && good.old().templates.len() == PAGE * (MOST_PAGES + 1),
+        |good| CALL(good) && good.old.templates.len() == PAGE * (MOST_PAGES + 1),
         |asked| {
             asked.reader.templates.truncate(PAGE * MOST_PAGES);
             asked.reader.chip.scores.truncate(MOST_PAGES);
@@ -29,7 +26,7 @@ pub fn add(rows: &mut Rows) {
     );
     rows.both("capacity-told-in-8-bits").retells(fine(READ_SYS_PARA), |content, _| content[5] = 0);
     rows.both("index-of-32-only").as_if(
-        |good| good.request.kind.is_call() && (good.old().index.len() == INDEX || is_short(good.old())),
+        |good| CALL(good) && (good.old.index.len() == INDEX || is_short(good.old)),
         // Without bytes an index of 128 gets refusal 1.
         |asked| asked.reader.index.resize(if asked.reader.index.len() == INDEX { 0 } else { INDEX }, 0),
         |now, old| match old.index.len() {
@@ -59,9 +56,8 @@ pub fn add(rows: &mut Rows) {
             .takes_content(command, BEYOND, move |content| content[high] &= 3);
     }
     for (name, command) in [("store", STORE), ("load-char", LOAD_CHAR)] {
-        rows.reader(format!("{name}-below-256")).takes_content(command, BELOW, |content| {
-            content[2] = if content[2] > 0 { 0xFF } else { 0 };
-        });
+        rows.reader(format!("{name}-below-256"))
+            .takes_content(command, BELOW, |content| content[2] = if content[2] > 0 { 0xFF } else { 0 });
     }
     for (name, command) in [("store-sets-bit", STORE), ("delet-char-clears-bits", DELET_CHAR)] {
         rows.reader(format!("{name}-below-256")).leaves(fine(command), keep_far_bits);
@@ -88,9 +84,8 @@ pub fn add(rows: &mut Rows) {
     });
     rows.reader("load-char-tests-bit-in-8-bits")
         .takes_bit(LOAD_CHAR, [0x00, 0x0C], |old, _, page| old.stored(page % FEW_PAGES));
-    rows.reader("load-char-copies-page-in-8-bits").names(LOAD_CHAR, 0x00, |now, old, buffer, page| {
-        now.buffers[buffer] = old.template(page % FEW_PAGES).to_vec();
-    });
+    rows.reader("load-char-copies-page-in-8-bits")
+        .names(LOAD_CHAR, 0x00, |now, old, buffer, page| now.buffers[buffer] = old.template(page % FEW_PAGES).to_vec());
 
     // DeletChar.
     rows.reader("delet-char-count-in-8-bits").deletes(|pages| pages.start..pages.start + pages.len() % FEW_PAGES);
@@ -130,13 +125,13 @@ pub fn add(rows: &mut Rows) {
 impl Row<'_> {
     /// Templates of more than so many pages get refusal 1.
     fn most_pages(self, most: usize) {
-        self.refuses(1, move |good| good.request.kind.is_call() && good.old().capacity() > most);
+        self.refuses(1, move |good| CALL(good) && good.old.capacity() > most);
     }
 
     /// A call takes an index of such a reader for one of 128 bytes: its own as far as they go, then zero bytes.
     fn takes_index(self, such: fn(&Reader) -> bool) {
         self.as_if(
-            move |good| good.request.kind.is_call() && such(good.old()),
+            move |good| CALL(good) && such(good.old),
             |asked| asked.reader.index.resize(INDEX, 0),
             |now, old| {
                 now.index.truncate(old.index.len());
@@ -152,7 +147,7 @@ impl Row<'_> {
             beyond.filter(|&page| old.stored(page) && such(old.capacity(), page)).collect::<Vec<usize>>()
         };
         self.as_if(
-            |good| good.request.kind.is_call(),
+            |good| CALL(good),
             move |asked| {
                 ignored(&asked.reader).iter().for_each(|page| asked.reader.index[page / 8] &= !bit(*page));
             },
@@ -180,7 +175,7 @@ impl Row<'_> {
     /// ReadIndexTable gives these bytes, or this code, to a page.
     fn lists(self, listed: fn(usize, &Reader) -> Result<Vec<u8>, u8>) {
         let answered = |good: &Good| good.fine(READ_INDEX_TABLE) || good.gets(READ_INDEX_TABLE, 0x0B);
-        self.tells(answered, move |good| match listed(good.content()[1].into(), good.old()) {
+        self.tells(answered, move |good| match listed(good.content[1].into(), good.old) {
             Ok(listed) => [&[0x00], &listed[..]].concat(),
             Err(code) => vec![code],
         });

@@ -1,9 +1,6 @@
 //! Errors in what DeletChar and Empty wipe by document 02's request [7].
 
 use super::words::*;
-use super::{Row, Rows};
-use crate::reader::*;
-use std::ops::Range;
 
 /// An effect on the reader as it is now, by what it was of old and by a buffer.
 type Effect = fn(&mut Reader, &Reader, usize);
@@ -106,8 +103,8 @@ impl Row<'_> {
 /// The pages that a DeletChar or an Empty names.
 fn pages_of(command: u8, good: &Good) -> Range<usize> {
     if command == EMPTY {
-        0..good.old().capacity()
+        0..good.old.capacity()
     } else {
-        pages(good.content())
+        pages(good.content)
     }
 }

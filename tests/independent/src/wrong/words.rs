@@ -1,10 +1,12 @@
 //! The words that rows are made of: how a case is picked, and what becomes of it.
 
-use super::Row;
-use crate::compare::frame::{Kind, Outcome, Request};
-use crate::reader::receiver::{Receiver, HOLDS};
-use crate::reader::*;
-use std::ops::Range;
+pub use super::{Row, Rows};
+pub use crate::compare::frame::{Kind, Outcome, Request};
+pub use crate::reader::receiver::{Receiver, HOLDS};
+pub use crate::reader::*;
+pub use std::cell::RefCell;
+pub use std::ops::Range;
+pub use std::rc::Rc;
 
 /// What a wrong one makes of a request.
 pub trait Makes: Fn(&Request) -> Outcome + 'static {}
@@ -18,28 +20,28 @@ impl<F: Fn(&Good) -> bool + 'static> Such for F {}
 pub struct Good<'a> {
     pub request: &'a Request,
     pub outcome: Outcome,
+    /// The reader before.
+    pub old: &'a Reader,
+    /// The content of the command that a call without a receiver finds, or nothing.
+    pub content: &'a [u8],
+    /// The refusal or 0.
+    pub refusal: u8,
+    /// The acknowledge code, if there is a reply.
+    pub code: Option<u8>,
 }
 
 impl<'a> Good<'a> {
     pub fn of(request: &'a Request) -> Good<'a> {
-        Good { request, outcome: request.carried_out() }
-    }
-
-    /// The reader before.
-    pub fn old(&self) -> &'a Reader {
-        &self.request.reader
-    }
-
-    pub fn locked(&self) -> bool {
-        self.old().settings.locked()
-    }
-
-    pub fn in_transfer(&self) -> bool {
-        self.old().settings.transfer != 0
-    }
-
-    pub fn refusal(&self) -> u8 {
-        self.outcome.answer.refusal
+        let outcome = request.carried_out();
+        let command = find(&request.run).1.filter(|packet| packet.identifier == COMMAND && request.kind.is_call());
+        Good {
+            request,
+            old: &request.reader,
+            content: command.map_or(&[], |packet| packet.content),
+            refusal: outcome.answer.refusal,
+            code: (outcome.answer.length > 0).then(|| outcome.room[9]),
+            outcome,
+        }
     }
 
     /// The packet of a call without a receiver.
@@ -51,76 +53,69 @@ impl<'a> Good<'a> {
         self.packet().map_or(false, |packet| !packet.sum_right)
     }
 
-    /// The content of the command that a call finds, or nothing.
-    pub fn content(&self) -> &'a [u8] {
-        self.packet().filter(|packet| packet.identifier == COMMAND).map_or(&[], |packet| packet.content)
+    pub fn locked(&self) -> bool {
+        self.old.settings.locked()
     }
 
-    /// The acknowledge code, if there is a reply.
-    pub fn code(&self) -> Option<u8> {
-        (self.outcome.answer.length > 0).then(|| self.outcome.room[9])
-    }
-
-    /// The content of the acknowledge.
-    pub fn told(&self) -> Vec<u8> {
-        self.outcome.room[9..self.outcome.answer.length - 2].to_vec()
+    pub fn in_transfer(&self) -> bool {
+        self.old.settings.transfer != 0
     }
 
     /// Whether it is a call with this command.
     pub fn asks(&self, command: u8) -> bool {
-        self.content().first() == Some(&command)
+        self.content.first() == Some(&command)
     }
 
     /// Whether it is this command and gets this code.
     pub fn gets(&self, command: u8, code: u8) -> bool {
-        self.asks(command) && self.code() == Some(code)
+        self.asks(command) && self.code == Some(code)
     }
 
     /// Whether it is this command and gets 00h.
     pub fn fine(&self, command: u8) -> bool {
         self.gets(command, 0x00)
     }
+
+    /// The content of the acknowledge.
+    pub fn told(&self) -> Vec<u8> {
+        self.outcome.room[9..self.outcome.answer.length - 2].to_vec()
+    }
 }
 
+/// What becomes of the settings as they are now, by those of old.
+pub type Setting = fn(&mut Settings, &Settings);
+
+/// A pick of cases by one word.
+pub type Pick = fn(&Good) -> bool;
+pub const ANY: Pick = |_| true;
+pub const REPLIED: Pick = |good| good.code.is_some();
+pub const SILENT: Pick = |good| good.code.is_none();
+pub const DONE: Pick = |good| good.refusal == 0;
+pub const REFUSED: Pick = |good| good.refusal != 0;
+pub const CALL: Pick = |good| good.request.kind.is_call();
+pub const CALLED: Pick = |good| good.request.kind.is_call() && good.refusal == 0;
+pub const CALL_REFUSED: Pick = |good| good.request.kind.is_call() && good.refusal != 0;
+pub const SWITCHED: Pick = |good| good.request.kind.is_line_switch() && good.refusal == 0;
+pub const SWITCH_REFUSED: Pick = |good| good.request.kind.is_line_switch() && good.refusal != 0;
+
+/// A call with this command.
 pub fn asks(command: u8) -> impl Such {
     move |good: &Good| good.asks(command)
 }
 
+/// This command, where it gets this code.
 pub fn gets(command: u8, code: u8) -> impl Such {
     move |good: &Good| good.gets(command, code)
 }
 
+/// This command, where it gets 00h.
 pub fn fine(command: u8) -> impl Such {
     gets(command, 0x00)
 }
 
 /// What gets this code, whichever command it is.
 pub fn coded(code: u8) -> impl Such {
-    move |good: &Good| good.code() == Some(code)
-}
-
-pub fn replied(good: &Good) -> bool {
-    good.code().is_some()
-}
-
-pub fn done(good: &Good) -> bool {
-    good.refusal() == 0
-}
-
-pub fn called(good: &Good) -> bool {
-    good.request.kind.is_call() && done(good)
-}
-
-pub fn switched(good: &Good) -> bool {
-    good.request.kind.is_line_switch() && done(good)
-}
-
-pub fn call_refused(good: &Good) -> bool {
-    good.request.kind.is_call() && !done(good)
-}
-
-pub fn switch_refused(good: &Good) -> bool {
-    good.request.kind.is_line_switch() && !done(good)
+    move |good: &Good| good.code == Some(code)
 }
 
 impl Row<'_> {
@@ -171,7 +166,7 @@ impl Row<'_> {
     pub fn retells(self, such: impl Such, change: impl Fn(&mut Vec<u8>, &Reader) + 'static) {
         self.tells(such, move |good| {
             let mut content = good.told();
-            change(&mut content, good.old());
+            change(&mut content, good.old);
             content
         });
     }
@@ -196,17 +191,17 @@ impl Row<'_> {
 
     /// A call of such a legal reader gets refusal 3.
     pub fn refuses_legal(self, such: impl Fn(&Reader) -> bool + 'static) {
-        self.refuses(3, move |good| called(good) && such(good.old()));
+        self.refuses(3, move |good| CALLED(good) && such(good.old));
     }
 
     /// A line switch of such a reader gets refusal 1.
     pub fn switch_tests(self, such: fn(&Reader) -> bool) {
-        self.refuses(1, move |good| good.request.kind.is_line_switch() && such(good.old()));
+        self.refuses(1, move |good| good.request.kind.is_line_switch() && such(good.old));
     }
 
-    /// The request is taken for what this makes of it.
-    pub fn takes(self, change: impl Fn(&mut Request) + 'static) {
-        self.as_if(|_| true, change, |_, _| {});
+    /// Such a case is taken for what this makes of it.
+    pub fn takes(self, such: impl Such, change: impl Fn(&mut Request) + 'static) {
+        self.as_if(such, change, |_, _| {});
     }
 
     /// Such a case is taken for what this makes of it, and the reader is mended as it is now, by what it was of old.
@@ -224,45 +219,28 @@ impl Row<'_> {
         });
     }
 
-    /// Such a packet, with the case that it is of, is taken for another.
-    pub fn takes_packet(
-        self,
-        such: impl Fn(&Good, &Packet) -> bool + 'static,
-        other: impl Fn(&Reader, &Packet) -> Vec<u8> + 'static,
-    ) {
-        self.makes(move |request: &Request| {
-            let good = Good::of(request);
-            match good.packet() {
-                Some(found) if such(&good, &found) => {
-                    let end = find(&request.run).0;
-                    let start = end - (found.content.len() + 11);
-                    let mut asked = request.clone();
-                    asked.run.splice(start..end, other(&request.reader, &found));
-                    let mut outcome = asked.carried_out();
-                    outcome.answer.used = good.outcome.answer.used;
-                    outcome
-                }
-                _ => good.outcome,
+    /// The packet of such a case is taken for another, made of the reader of old and of it.
+    pub fn takes_packet(self, such: impl Such, other: impl Fn(&Reader, &Packet) -> Vec<u8> + 'static) {
+        self.also(such, move |outcome, request| {
+            if let (end, Some(found)) = find(&request.run) {
+                let used = outcome.answer.used;
+                let mut asked = request.clone();
+                asked.run.splice(end - (found.content.len() + 11)..end, other(&request.reader, &found));
+                *outcome = asked.carried_out();
+                outcome.answer.used = used;
             }
         });
     }
 
-    /// A command that gets one of these codes is taken for one of another content.
+    /// A command with a right sum that gets one of these codes is taken for one of another content.
     pub fn takes_content(self, command: u8, codes: &'static [u8], change: impl Fn(&mut Vec<u8>) + 'static) {
-        self.takes_packet(
-            move |good, _| codes.iter().any(|&code| good.gets(command, code)),
-            move |_, found| {
-                let mut content = found.content.to_vec();
-                change(&mut content);
-                packet(found.address, COMMAND, &content)
-            },
-        );
+        let such = move |good: &Good| !good.sum_wrong() && codes.iter().any(|&code| good.gets(command, code));
+        self.takes_packet(such, move |_, found| {
+            let mut content = found.content.to_vec();
+            change(&mut content);
+            packet(found.address, COMMAND, &content)
+        });
     }
-}
-
-/// A receiver with this reader inside.
-pub fn inside(reader: impl Makes) -> impl Makes {
-    holds(HOLDS, reader)
 }
 
 /// A receiver that takes bytes until so many are held, with this reader inside.
@@ -327,4 +305,11 @@ pub fn pages(content: &[u8]) -> Range<usize> {
 /// How many bits are set.
 pub fn ones(bytes: &[u8]) -> u16 {
     bytes.iter().map(|byte| byte.count_ones() as u16).sum()
+}
+
+/// The commands with the names that the rows have for them.
+pub fn named_commands() -> impl Iterator<Item = (&'static str, u8)> {
+    let names = "search store load-char up-char down-char delet-char empty set-sys-para read-sys-para set-pwd vfy-pwd \
+        set-adder write-notepad read-notepad templete-num read-index-table hand-shake";
+    names.split_whitespace().zip(COMMANDS)
 }
