@@ -23,7 +23,6 @@ pub fn add(rows: &mut Rows) {
     rows.over("keeps-first-byte-of-rest").leaves(DONE, |now, old| now.index[SHORT_INDEX] = old.index[SHORT_INDEX]);
     rows.over("keeps-last-byte-of-rest").leaves(DONE, |now, old| now.index[INDEX - 1] = old.index[INDEX - 1]);
     rows.over("sets-rest").lays(|stored, _| [stored, &[0xFF; REST]].concat());
-
     // The lengths of the stored and of the lent index that are taken.
     rows.over("takes-stored-0").takes_lengths(|stored, lent| stored == 0 && lent == INDEX);
     rows.over("takes-stored-31").takes_lengths(|stored, lent| stored == 31 && lent == INDEX);
@@ -36,22 +35,20 @@ pub fn add(rows: &mut Rows) {
     rows.over("takes-any-lent").takes_lengths(|stored, _| stored == SHORT_INDEX);
     rows.over("takes-96-bytes-more").takes_lengths(|stored, lent| stored + REST == lent);
     rows.over("takes-lengths-in-turn").takes_lengths(|stored, lent| stored == 128 && lent == 32);
-
     // What is refused, and what that leaves.
     rows.over("refuses-all").refuses(1, |_| true);
     for (refusal, what) in [(1, "unfit-memory"), (2, "small-room"), (3, "unfit-settings")] {
-        let like_call = move |good: &Good| good.old.refusal(good.request.room.len()) == refusal;
+        let like_call = move |case: &Case| case.old.refusal(case.request.room.len()) == refusal;
         rows.over(format!("refuses-{what}")).refuses(refusal, like_call);
     }
-    rows.over("refuses-bits-beyond").refuses(3, |good| DONE(good) && good.outcome.reader.bit_beyond().is_some());
+    rows.over("refuses-bits-beyond").refuses(3, |case| DONE(case) && case.outcome.reader.bit_beyond().is_some());
     for refusal in [0, 2, 3] {
         rows.over(format!("refuses-with-{refusal}")).refuses(refusal, REFUSED);
     }
     rows.over("refused-zeroes-lent").leaves(REFUSED, |now, _| now.index.fill(0));
-    rows.over("refused-copies-stored").also(REFUSED, |outcome, request| {
-        outcome.reader.index.iter_mut().zip(&request.run).for_each(|(lent, stored)| *lent = *stored);
+    rows.over("refused-copies-stored").also(REFUSED, |case| {
+        case.outcome.reader.index.iter_mut().zip(&case.request.run).for_each(|(lent, stored)| *lent = *stored);
     });
-
     // What else is done.
     rows.over("clears-bits-beyond").leaves(DONE, |now, _| {
         while let Some(page) = now.bit_beyond() {
@@ -68,12 +65,13 @@ pub fn add(rows: &mut Rows) {
     rows.over("lays-fresh-settings").sets(DONE, |now, _| *now = Settings::fresh());
     rows.over("makes-marks-legal").sets(DONE, |now, _| set_marks(now));
     rows.over("switches-line-too").leaves(DONE, |now, _| drop(line_switch(now)));
-    rows.over("tells-stored-bytes-used").also(DONE, |outcome, _| outcome.answer.used = SHORT_INDEX);
-    rows.over("tells-index-as-reply").also(DONE, |outcome, _| outcome.answer.length = INDEX);
-    rows.over("runs-stored-index").also(DONE, |outcome, request| {
-        let called = Request { kind: Kind::Call, reader: outcome.reader.clone(), ..request.clone() }.carried_out();
+    rows.over("tells-stored-bytes-used").also(DONE, |case| case.outcome.answer.used = SHORT_INDEX);
+    rows.over("tells-index-as-reply").also(DONE, |case| case.outcome.answer.length = INDEX);
+    rows.over("runs-stored-index").also(DONE, |case| {
+        let reader = case.outcome.reader.clone();
+        let called = Request { kind: Kind::Call, reader, ..case.request.clone() }.carried_out();
         if called.answer.refusal == 0 {
-            *outcome = called;
+            case.outcome = called;
         }
     });
 }
@@ -81,13 +79,13 @@ pub fn add(rows: &mut Rows) {
 impl Row<'_> {
     /// Where both lengths fit, the lent index becomes this, made of the stored one and of what it was.
     fn lays(self, index: fn(&[u8], &[u8]) -> Vec<u8>) {
-        self.also(DONE, move |outcome, request| outcome.reader.index = index(&request.run, &request.reader.index));
+        self.also(DONE, move |case| case.outcome.reader.index = index(&case.request.run, &case.old.index));
     }
 
     /// Such lengths are taken too: the stored index is brought over as far as it goes and fits.
     fn takes_lengths(self, such: fn(usize, usize) -> bool) {
         self.as_if(
-            move |good| such(good.request.run.len(), good.old.index.len()),
+            move |case| such(case.request.run.len(), case.old.index.len()),
             |asked| {
                 asked.run.resize(SHORT_INDEX, 0);
                 asked.reader.index.resize(INDEX, 0);

@@ -5,27 +5,28 @@ use super::words::*;
 use crate::tally::kinds::CODES;
 
 /// A mark that is not legal.
-const UNFIT: Pick = |good| !good.old.settings.found.legal();
-const UNFIT_CALL: Pick = |good| CALL(good) && UNFIT(good);
+const UNFIT: Pick = |case| !case.old.settings.found.legal();
+const UNFIT_CALL: Pick = |case| CALL(case) && UNFIT(case);
 /// A data packet that completes a transfer.
-const COMPLETED: Pick = |good| good.in_transfer() && good.outcome.reader.settings.transfer == 0 && !REPLIED(good);
+const COMPLETED: Pick =
+    |case| CALLED(case) && case.in_transfer() && case.outcome.reader.settings.transfer == 0 && !REPLIED(case);
 
 /// What becomes of the mark.
-const KEEP_FOUND: Setting = |now, old| now.found = old.found;
+const KEEP: Setting = |now, old| now.found = old.found;
 pub const CLEAR_FOUND: Setting = |now, _| now.found = CLEAR;
 pub const SET_FOUND: Setting = |now, _| now.found = SET;
 
 pub fn add(rows: &mut Rows) {
     // Searches.
-    rows.both("search-00-keeps-found").sets(gets(SEARCH, 0x00), KEEP_FOUND);
+    rows.both("search-00-keeps-found").sets(gets(SEARCH, 0x00), KEEP);
     rows.reader("search-00-clears-found").sets(gets(SEARCH, 0x00), CLEAR_FOUND);
     rows.reader("search-00-turns-found").sets(gets(SEARCH, 0x00), |now, old| now.found = Mark::of(!old.found.is_set()));
     rows.reader("search-00-sets-found-of-buffer-1-only")
-        .sets(|good| good.fine(SEARCH) && good.content[1] == 2, KEEP_FOUND);
+        .sets(|case| case.gets(SEARCH, 0x00) && case.content[1] == 2, KEEP);
     rows.reader("search-00-sets-found-for-a-score-only")
-        .sets(|good| good.fine(SEARCH) && good.told()[3..] == [0, 0], KEEP_FOUND);
+        .sets(|case| case.gets(SEARCH, 0x00) && case.told()[3..] == [0, 0], KEEP);
     rows.reader("search-00-sets-found-2").sets(gets(SEARCH, 0x00), |now, _| now.found = Mark(2));
-    rows.both("search-09-keeps-found").sets(gets(SEARCH, 0x09), KEEP_FOUND);
+    rows.both("search-09-keeps-found").sets(gets(SEARCH, 0x09), KEEP);
     rows.reader("search-09-sets-found").sets(gets(SEARCH, 0x09), SET_FOUND);
     for (does, mark) in [("clears", CLEAR), ("sets", SET)] {
         let becomes = move |now: &mut Settings, _: &Settings| now.found = mark;
@@ -33,11 +34,10 @@ pub fn add(rows: &mut Rows) {
             rows.reader(format!("search-{code:02X}-{does}-found")).sets(gets(SEARCH, code), becomes);
         }
         rows.reader(format!("search-of-wrong-length-{does}-found"))
-            .sets(|good| good.gets(SEARCH, 0x01) && !good.sum_wrong() && good.content.len() != 6, becomes);
+            .sets(|case| case.gets(SEARCH, 0x01) && !case.sum_wrong() && case.content.len() != 6, becomes);
         rows.reader(format!("search-of-wrong-sum-{does}-found"))
-            .sets(|good| good.gets(SEARCH, 0x01) && good.sum_wrong(), becomes);
+            .sets(|case| case.gets(SEARCH, 0x01) && case.sum_wrong(), becomes);
     }
-
     // Every other command with 00h, every other code, and what gets no reply.
     for (name, command) in named_commands().filter(|(_, command)| *command != SEARCH) {
         rows.reader(format!("{name}-clears-found")).sets(fine(command), CLEAR_FOUND);
@@ -45,61 +45,51 @@ pub fn add(rows: &mut Rows) {
     }
     for code in CODES.into_iter().filter(|code| ![0x00, 0x09].contains(code)) {
         rows.reader(format!("{code:02X}-clears-found"))
-            .sets(move |good| good.code == Some(code) && !good.asks(SEARCH), CLEAR_FOUND);
+            .sets(move |case| case.code == Some(code) && !case.asks(SEARCH), CLEAR_FOUND);
     }
     rows.reader("silence-clears-found")
-        .sets(|good| CALLED(good) && good.packet().is_some() && !REPLIED(good), CLEAR_FOUND);
+        .sets(|case| CALLED(case) && case.packet().is_some() && !REPLIED(case), CLEAR_FOUND);
     rows.reader("last-data-sets-found").sets(COMPLETED, SET_FOUND);
-    rows.reader("ended-transfer-clears-found").sets(|good| good.in_transfer() && good.fine(HAND_SHAKE), CLEAR_FOUND);
+    rows.reader("ended-transfer-clears-found")
+        .sets(|case| case.in_transfer() && case.gets(HAND_SHAKE, 0x00), CLEAR_FOUND);
     rows.reader("refused-call-clears-found").sets(CALL_REFUSED, CLEAR_FOUND);
-
     // The line switch.
-    rows.both("switch-keeps-found").sets(SWITCHED, KEEP_FOUND);
+    rows.both("switch-keeps-found").sets(SWITCHED, KEEP);
     rows.reader("switch-sets-found").sets(SWITCHED, SET_FOUND);
-    rows.both("switch-keeps-unfit-found").sets(|good| SWITCHED(good) && UNFIT(good), KEEP_FOUND);
-    rows.both("switch-refuses-unfit-found").refuses(3, |good| SWITCHED(good) && UNFIT(good));
+    rows.both("switch-keeps-unfit-found").sets(|case| SWITCHED(case) && UNFIT(case), KEEP);
+    rows.both("switch-refuses-unfit-found").refuses(3, |case| SWITCHED(case) && UNFIT(case));
     rows.both("refused-switch-clears-found").sets(SWITCH_REFUSED, CLEAR_FOUND);
-
     // Fresh settings, and an index brought over.
-    rows.fresh("fresh-keeps-found").sets(DONE, KEEP_FOUND);
+    rows.fresh("fresh-keeps-found").sets(DONE, KEEP);
     rows.fresh("fresh-sets-found").sets(DONE, SET_FOUND);
-    rows.fresh("fresh-keeps-unfit-found").sets(UNFIT, KEEP_FOUND);
+    rows.fresh("fresh-keeps-unfit-found").sets(UNFIT, KEEP);
     rows.over("bringing-over-clears-found").sets(DONE, CLEAR_FOUND);
-    rows.over("bringing-over-clears-unfit-found").sets(|good| DONE(good) && UNFIT(good), CLEAR_FOUND);
-    rows.over("bringing-over-refuses-unfit-found").refuses(3, |good| DONE(good) && UNFIT(good));
-
+    rows.over("bringing-over-clears-unfit-found").sets(|case| DONE(case) && UNFIT(case), CLEAR_FOUND);
+    rows.over("bringing-over-refuses-unfit-found").refuses(3, |case| DONE(case) && UNFIT(case));
     // Marks that are taken though they are not legal.
     rows.reader("takes-unfit-found-for-set").takes_found(SET, UNFIT);
     rows.inside("receiver-takes-unfit-found").takes_found(SET, UNFIT);
     rows.reader("takes-unfit-found-for-clear").takes_found(CLEAR, UNFIT);
-    rows.reader("takes-found-2").takes_found(SET, |good| good.old.settings.found == Mark(2));
-    rows.reader("takes-found-FF").takes_found(SET, |good| good.old.settings.found == Mark(0xFF));
-    rows.reader("takes-found-by-lowest-bit").takes_found(SET, |good| good.old.settings.found.0 & 1 == 1);
-    rows.reader("takes-unfit-found-when-locked").takes_found(CLEAR, |good| good.locked() && UNFIT(good));
-    rows.reader("tests-found-for-search-only").takes_found(SET, |good| UNFIT(good) && !good.asks(SEARCH));
-    rows.reader("tests-found-for-status-only").takes_found(SET, |good| UNFIT(good) && !good.asks(READ_SYS_PARA));
-    rows.both("makes-unfit-found-clear").also(UNFIT_CALL, |outcome, request| {
-        let mut asked = request.clone();
-        asked.reader.settings.found = CLEAR;
-        let made = asked.carried_out();
-        if made.answer.refusal == 0 {
-            *outcome = made;
+    rows.reader("takes-found-2").takes_found(SET, |case| case.old.settings.found == Mark(2));
+    rows.reader("takes-found-FF").takes_found(SET, |case| case.old.settings.found == Mark(0xFF));
+    rows.reader("takes-found-by-lowest-bit").takes_found(SET, |case| case.old.settings.found.0 & 1 == 1);
+    rows.reader("takes-unfit-found-when-locked").takes_found(CLEAR, |case| case.locked() && UNFIT(case));
+    rows.reader("tests-found-for-search-only").takes_found(SET, |case| UNFIT(case) && !case.asks(SEARCH));
+    rows.reader("tests-found-for-status-only").takes_found(SET, |case| UNFIT(case) && !case.asks(READ_SYS_PARA));
+    rows.both("makes-unfit-found-clear").also(UNFIT_CALL, |case| {
+        case.ask(|asked| asked.reader.settings.found = CLEAR);
+        if case.refusal != 0 {
+            case.ignore();
         }
     });
-
     // Legal marks that are refused, and the order of refusals.
     rows.reader("refuses-found").refuses_found(|_| true);
     rows.reader("refuses-found-when-locked").refuses_found(|old| old.locked());
     rows.reader("refuses-found-in-a-transfer").refuses_found(|old| old.transfer != 0);
     rows.reader("refuses-found-without-filled").refuses_found(|old| old.filled == [CLEAR; 2]);
-    for (name, [due, told]) in [
-        ("unfit-found-before-lengths", [1, 3]),
-        ("unfit-found-before-room", [2, 3]),
-        ("refuses-unfit-found-with-1", [3, 1]),
-    ] {
-        rows.reader(name).refuses(told, move |good| CALL_REFUSED(good) && good.refusal == due && UNFIT(good));
-    }
-
+    rows.reader("unfit-found-before-lengths").refuses(3, |case| CALL(case) && case.refusal == 1 && UNFIT(case));
+    rows.reader("unfit-found-before-room").refuses(3, |case| CALL(case) && case.refusal == 2 && UNFIT(case));
+    rows.reader("refuses-unfit-found-with-1").refuses(1, |case| CALL(case) && case.refusal == 3 && UNFIT(case));
     // The status word, made of the found mark, which counts as 0 while locked, and the verified mark.
     rows.both("status-without-found").status(|_, verified| [0, 4 * verified]);
     rows.reader("status-found-in-bit-0").status(|found, verified| [0, 4 * verified + found]);
@@ -113,9 +103,15 @@ pub fn add(rows: &mut Rows) {
 }
 
 impl Row<'_> {
-    /// A call takes such a mark for another; it stays as it is unless the call changes it.
+    /// A call takes such a mark for another; it stays as it is unless a Search changes it.
     fn takes_found(self, taken: Mark, such: Pick) {
-        self.also(move |good| CALL(good) && such(good), move |outcome, request| take_found(taken, outcome, request));
+        let such = move |case: &Case| CALL(case) && such(case);
+        self.also(such, move |case| {
+            case.ask(|asked| asked.reader.settings.found = taken);
+            if !case.gets(SEARCH, 0x00) && !case.gets(SEARCH, 0x09) {
+                case.outcome.reader.settings.found = case.old.settings.found;
+            }
+        });
     }
 
     /// A set mark gets refusal 3 with such settings.
@@ -131,17 +127,5 @@ impl Row<'_> {
     /// ReadSysPara tells this status word, made of the settings of old.
     pub fn tells_status(self, word: impl Fn(&Settings) -> [u8; 2] + 'static) {
         self.retells(fine(READ_SYS_PARA), move |content, old| content[1..3].copy_from_slice(&word(&old.settings)));
-    }
-}
-
-/// The mark is taken for this one; it stays as it is unless the call changes it.
-fn take_found(taken: Mark, outcome: &mut Outcome, request: &Request) {
-    let mut asked = request.clone();
-    asked.reader.settings.found = taken;
-    let good = Good::of(&asked);
-    let searched = good.fine(SEARCH) || good.gets(SEARCH, 0x09);
-    *outcome = good.outcome;
-    if !searched {
-        outcome.reader.settings.found = request.reader.settings.found;
     }
 }

@@ -3,8 +3,8 @@
 use super::words::*;
 
 /// A data packet of a length above 256, and one of them that a transfer takes in.
-const LONG_DATA: Pick = |good| long_data(good).is_some();
-const GOES_IN: Pick = |good| good.in_transfer() && SILENT(good) && LONG_DATA(good);
+const LONG_DATA: Pick = |case| long_data(case).is_some();
+const GOES_IN: Pick = |case| case.in_transfer() && SILENT(case) && LONG_DATA(case);
 
 pub fn add(rows: &mut Rows) {
     // The greatest lengths of packets with identifiers 1, 2, 7 and 8.
@@ -21,10 +21,9 @@ pub fn add(rows: &mut Rows) {
     rows.reader("length-258-at-code-3-only").only(not_3).lengths([256, 256, 256, 256]);
     let no_transfer = |request: &Request| request.reader.settings.transfer == 0;
     rows.reader("length-258-in-a-transfer-only").only(no_transfer).lengths([256, 256, 256, 256]);
-
     // Data packets of a length above 256.
-    rows.reader("long-data-ignored").also(|good| REPLIED(good) && LONG_DATA(good), ignore);
-    rows.reader("long-data-always-answered").answers(0x0E, |good| !good.in_transfer() && LONG_DATA(good));
+    rows.reader("long-data-ignored").also(|case| REPLIED(case) && LONG_DATA(case), |case| case.ignore());
+    rows.reader("long-data-always-answered").answers(0x0E, |case| !case.in_transfer() && LONG_DATA(case));
     rows.reader("sums-254-bytes").sum_wrong_if(|content| content[254..].iter().any(|&byte| byte != 0));
     rows.reader("counts-content-in-8-bits").sum_wrong_if(|content| content.len() == 256);
     rows.reader("takes-half-of-256").leaves(GOES_IN, |now, old| {
@@ -32,9 +31,8 @@ pub fn add(rows: &mut Rows) {
         let (buffer, rest) = (usize::from(transfer) - 1, usize::from(got) + 128..usize::from(got) + 256);
         now.buffers[buffer][rest.clone()].copy_from_slice(&old.buffers[buffer][rest]);
     });
-
     // Size codes.
-    rows.reader("code-3-means-128").takes_code(3, 2, |good| !good.asks(SET_SYS_PARA) && !good.asks(READ_SYS_PARA));
+    rows.reader("code-3-means-128").takes_code(3, 2, |case| !case.asks(SET_SYS_PARA) && !case.asks(READ_SYS_PARA));
     rows.reader("sends-256-by-128").takes_code(3, 2, asks(UP_CHAR));
     rows.reader("code-3-told-as-2").takes_code(3, 2, asks(READ_SYS_PARA));
     rows.reader("code-3-refused").takes_code(3, 4, CALL);
@@ -48,13 +46,13 @@ pub fn add(rows: &mut Rows) {
 impl Row<'_> {
     /// A reader with these greatest lengths, none of them below 256, of packets with identifiers 1, 2, 7 and 8.
     fn lengths(self, most: [usize; 4]) {
-        self.also(CALLED, move |outcome, request| {
+        self.also(CALLED, move |case| {
             let identifiers = [COMMAND, DATA, ACKNOWLEDGE, LAST_DATA];
             let most = |header: &Header| Some(most[identifiers.iter().position(|&known| known == header.identifier)?]);
-            match header(&request.run).and_then(|header| Some((header.length <= most(&header)?, header))) {
-                Some((false, header)) if header.starts_packet() => find_nothing(outcome, request, header.place + 2),
+            match header(&case.request.run).and_then(|header| Some((header.length <= most(&header)?, header))) {
+                Some((false, header)) if header.starts_packet() => find_nothing(case, header.place + 2),
                 Some((true, header)) if !header.starts_packet() && header.length > MOST_LENGTH => {
-                    take_long_packet(outcome, request, &header);
+                    take_long_packet(case, &header);
                 }
                 _ => {}
             }
@@ -64,7 +62,7 @@ impl Row<'_> {
     /// A data packet of a length above 256 whose content is such is dealt with as if its sum were wrong.
     fn sum_wrong_if(self, such: fn(&[u8]) -> bool) {
         self.takes_packet(
-            move |good| long_data(good).map_or(false, such),
+            move |case| long_data(case).map_or(false, such),
             |_, found| damaged(packet(found.address, found.identifier, found.content)),
         );
     }
@@ -72,7 +70,7 @@ impl Row<'_> {
     /// Such a case takes a stored size code for another, and leaves it as it is.
     fn takes_code(self, code: u8, other: u8, such: impl Such) {
         self.as_if(
-            move |good| good.old.settings.size_code == code && such(good),
+            move |case| case.old.settings.size_code == code && such(case),
             move |asked| asked.reader.settings.size_code = other,
             move |now, _| now.settings.size_code = code,
         );
@@ -80,10 +78,10 @@ impl Row<'_> {
 
     /// A SetSysPara of this size code that gets the first of the two codes gets the second, and leaves another size code.
     fn sets_code(self, asked: u8, [due, told]: [u8; 2], left: fn(&Settings) -> u8) {
-        let such = move |good: &Good| good.content == [SET_SYS_PARA, 6, asked] && good.code == Some(due);
-        self.also(such, move |outcome, request| {
-            outcome.reader.settings.size_code = left(&request.reader.settings);
-            acknowledge(outcome, request, &[told]);
+        let such = move |case: &Case| case.content == [SET_SYS_PARA, 6, asked] && case.code == Some(due);
+        self.also(such, move |case| {
+            case.outcome.reader.settings.size_code = left(&case.old.settings);
+            case.tell(&[told]);
         });
     }
 }
@@ -94,25 +92,25 @@ fn is_whole(request: &Request) -> bool {
 }
 
 /// The call is silent and uses so many bytes.
-fn find_nothing(outcome: &mut Outcome, request: &Request, used: usize) {
-    ignore(outcome, request);
-    outcome.answer.used = used;
+fn find_nothing(case: &mut Case, used: usize) {
+    case.ignore();
+    case.outcome.answer.used = used;
 }
 
 /// A packet that is longer than the good reader takes. No command and no data that goes in is so long: a shorter one,
 /// with a sum that is as right, has the same effect.
-fn take_long_packet(outcome: &mut Outcome, request: &Request, header: &Header) {
-    if request.run.len() < header.end() {
-        return find_nothing(outcome, request, header.place);
+fn take_long_packet(case: &mut Case, header: &Header) {
+    let run = &case.request.run;
+    if run.len() < header.end() {
+        return find_nothing(case, header.place);
     }
-    let bytes = &request.run[header.place..header.end()];
-    let address = [bytes[2], bytes[3], bytes[4], bytes[5]];
+    let bytes = &run[header.place..header.end()];
+    let packet = |content: &[u8]| packet([bytes[2], bytes[3], bytes[4], bytes[5]], header.identifier, content);
     let content = &bytes[9..bytes.len() - 2];
-    let sum_right = packet(address, header.identifier, content) == bytes;
-    let run = packet(address, header.identifier, &content[..MOST_LENGTH - 2]);
-    let run = if sum_right { run } else { damaged(run) };
-    *outcome = Request { run, ..request.clone() }.carried_out();
-    outcome.answer.used = header.end();
+    let shorter = packet(&content[..MOST_LENGTH - 2]);
+    let shorter = if packet(content) == bytes { shorter } else { damaged(shorter) };
+    case.ask(|asked| asked.run = shorter.clone());
+    case.outcome.answer.used = header.end();
 }
 
 /// The packet with a wrong sum.
@@ -122,9 +120,9 @@ fn damaged(mut packet: Vec<u8>) -> Vec<u8> {
 }
 
 /// The content of a data packet to the reader with a length above 256 and the right sum, if a call deals with one.
-fn long_data<'a>(good: &Good<'a>) -> Option<&'a [u8]> {
-    let packet = good.packet().filter(|_| CALLED(good))?;
-    let ours = packet.address == good.old.settings.address && packet.sum_right;
+fn long_data<'a>(case: &Case<'a>) -> Option<&'a [u8]> {
+    let packet = case.packet().filter(|_| CALLED(case))?;
+    let ours = packet.address == case.old.settings.address && packet.sum_right;
     // No other packet is so long.
     (ours && packet.content.len() + 2 > MOST_LENGTH).then_some(packet.content)
 }

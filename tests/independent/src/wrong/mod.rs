@@ -10,7 +10,6 @@ mod origins;
 mod parameters;
 mod receivers;
 mod search;
-mod stores;
 mod thousand;
 mod wipes;
 mod words;
@@ -39,7 +38,6 @@ pub fn all() -> Vec<Wrong> {
     basics::add(&mut rows);
     receivers::add(&mut rows);
     limits::add(&mut rows);
-    stores::add(&mut rows);
     thousand::add(&mut rows);
     bringing_over::add(&mut rows);
     origins::add(&mut rows);

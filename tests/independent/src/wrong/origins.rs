@@ -12,11 +12,20 @@ const KEEP_ORIGINS: Setting = |now, old| now.origins = old.origins;
 const GIVE_ORIGIN_0: Setting = |now, old| now.origins[usize::from(old.transfer) - 1] = Origin(0);
 
 /// An origin is at or above C.
-const UNFIT: Pick = |good| good.old.settings.origins.iter().any(|origin| origin.page() >= Some(good.old.capacity()));
+const UNFIT: Pick = |case| case.old.settings.origins.iter().any(|origin| origin.page() >= Some(case.old.capacity()));
 
 /// A call that the reader gives refusal 3, and one that gets it for its origins alone.
-const REFUSED_3: Pick = |good| CALL(good) && good.old.refusal(good.request.room.len()) == 3;
-const FOR_ORIGINS: Pick = |good| REFUSED_3(good) && without_origins(|_, _, _| true, good.request).answer.refusal == 0;
+const REFUSED_3: Pick = |case| CALL(case) && case.old.refusal(case.request.room.len()) == 3;
+const FOR_ORIGINS: Pick = |case| {
+    let mut without = Case::of(case.request);
+    without_origins(&mut without, |_, _, _| true);
+    REFUSED_3(case) && without.refusal == 0
+};
+
+/// A page is one of the reader's, and stored; and it is that of a buffer not filled.
+const IS_STORED: fn(&Reader, usize) -> bool = |old, page| page < old.capacity() && old.stored(page);
+const OF_NOT_FILLED: fn(&Reader, usize, usize) -> bool =
+    |old, buffer, page| !old.settings.filled[buffer].is_set() && IS_STORED(old, page);
 
 pub fn add(rows: &mut Rows) {
     // What a LoadChar or a Store that gets 00h makes of the origins.
@@ -36,7 +45,6 @@ pub fn add(rows: &mut Rows) {
         rows.reader(format!("{name}-sets-origin-of-buffer-1-only"))
             .origin(command, 0x00, |now, old, _, _| now[1] = old[1]);
     }
-
     // What one that gets another code makes of them.
     let sets: Effect = |now, _, b, page| now[b] = page;
     let clears: Effect = |now, _, b, _| now[b] = NONE;
@@ -52,7 +60,6 @@ pub fn add(rows: &mut Rows) {
     rows.reader("far-store-clears-origin").origin(STORE, 0x0B, clears);
     rows.reader("far-store-sets-origin").origin(STORE, 0x0B, sets);
     rows.reader("locked-store-sets-origin").origin(STORE, 0x21, sets);
-
     // Other commands and codes.
     rows.both("down-char-keeps-origin").sets(fine(DOWN_CHAR), KEEP_ORIGINS);
     rows.reader("down-char-clears-both-origins").sets(fine(DOWN_CHAR), CLEAR_ORIGINS);
@@ -62,31 +69,27 @@ pub fn add(rows: &mut Rows) {
     rows.reader("set-adder-clears-origins").sets(fine(SET_ADDER), CLEAR_ORIGINS);
     rows.reader("wrong-password-clears-origins").sets(coded(0x13), CLEAR_ORIGINS);
     rows.reader("locked-clears-origins").sets(coded(0x21), CLEAR_ORIGINS);
-
     // Transfers.
     rows.reader("failed-transfer-clears-other-origin").sets(coded(0x0E), CLEAR_ORIGINS);
     rows.reader("failed-transfer-gives-origin-0").sets(coded(0x0E), GIVE_ORIGIN_0);
     rows.reader("ended-transfer-clears-other-origin").sets(ends_transfer, CLEAR_ORIGINS);
     rows.reader("ended-transfer-gives-origin-0").sets(ends_transfer, GIVE_ORIGIN_0);
     for (name, identifier) in [("data", DATA), ("last-data", LAST_DATA)] {
-        let goes_in = move |good: &Good| takes_data(identifier, good);
+        let goes_in = move |case: &Case| takes_data(identifier, case);
         rows.reader(format!("{name}-clears-other-origin")).sets(goes_in, CLEAR_ORIGINS);
         rows.reader(format!("{name}-gives-origin-0")).sets(goes_in, GIVE_ORIGIN_0);
     }
-
     // The line switch.
     rows.both("switch-keeps-origins").sets(SWITCHED, KEEP_ORIGINS);
     rows.reader("switch-keeps-origin-1").sets(SWITCHED, |now, old| now.origins[0] = old.origins[0]);
     rows.reader("switch-keeps-origin-2").sets(SWITCHED, |now, old| now.origins[1] = old.origins[1]);
-    rows.both("switch-keeps-unfit-origins")
-        .keeps_origins(|old, b| old.settings.origins[b].page() >= Some(old.capacity()));
-    rows.reader("switch-keeps-origins-of-not-filled").keeps_origins(|old, b| !old.settings.filled[b].is_set());
+    rows.both("switch-keeps-unfit-origins").keeps_if(|old, b| old.settings.origins[b].page() >= Some(old.capacity()));
+    rows.reader("switch-keeps-origins-of-not-filled").keeps_if(|old, b| !old.settings.filled[b].is_set());
     rows.reader("switch-gives-origin-0").sets(SWITCHED, |now, _| now.origins = [Origin(0); 2]);
-    rows.both("switch-refuses-unfit-origins").refuses(3, |good| SWITCHED(good) && UNFIT(good));
+    rows.both("switch-refuses-unfit-origins").refuses(3, |case| SWITCHED(case) && UNFIT(case));
     rows.reader("switch-refuses-any-origin")
-        .refuses(3, |good| SWITCHED(good) && good.old.settings.origins != [NONE; 2]);
+        .refuses(3, |case| SWITCHED(case) && case.old.settings.origins != [NONE; 2]);
     rows.both("refused-switch-clears-origins").sets(SWITCH_REFUSED, CLEAR_ORIGINS);
-
     // Fresh settings, and an index brought over.
     rows.fresh("fresh-origins-0").sets(DONE, |now, _| now.origins = [Origin(0); 2]);
     rows.fresh("fresh-keeps-origins").sets(DONE, KEEP_ORIGINS);
@@ -99,8 +102,7 @@ pub fn add(rows: &mut Rows) {
         let stored = |page: usize| index.get(page / 8).map_or(false, |byte| byte & bit(page) != 0);
         settings.origins = settings.origins.map(|origin| if stored(origin.0.into()) { origin } else { NONE });
     });
-    rows.over("bringing-over-refuses-unfit-origins").refuses(3, |good| DONE(good) && UNFIT(good));
-
+    rows.over("bringing-over-refuses-unfit-origins").refuses(3, |case| DONE(case) && UNFIT(case));
     // Origins that are taken though they are not legal, by the reader, the buffer and the page.
     rows.both("takes-any-origin").ignores(|_, _, _| true);
     rows.reader("takes-origin-C").takes_pages(|old, page| page == old.capacity());
@@ -111,24 +113,21 @@ pub fn add(rows: &mut Rows) {
     rows.reader("takes-origin-from-8000-for-none").ignores(|_, _, page| page >= 0x8000);
     rows.reader("takes-origin-0-for-none").ignores(|_, _, page| page == 0);
     rows.both("takes-vacant-origin").takes_pages(|old, page| page < old.capacity() && !old.stored(page));
-    rows.both("takes-origin-of-not-filled").ignores(is_of_not_filled);
+    rows.both("takes-origin-of-not-filled").ignores(OF_NOT_FILLED);
     rows.reader("takes-origin-where-the-other-is-filled")
-        .ignores(|old, buffer, page| is_of_not_filled(old, buffer, page) && old.settings.filled[1 - buffer].is_set());
+        .ignores(|old, buffer, page| OF_NOT_FILLED(old, buffer, page) && old.settings.filled[1 - buffer].is_set());
     rows.reader("takes-any-origin-of-buffer-1").ignores(|_, buffer, _| buffer == 0);
     rows.reader("takes-any-origin-of-buffer-2").ignores(|_, buffer, _| buffer == 1);
     rows.reader("takes-any-origin-when-locked").ignores(|old, _, _| old.settings.locked());
     rows.reader("takes-any-origin-unless-locked").ignores(|old, _, _| !old.settings.locked());
-    rows.reader("tests-origin-in-8-bits").takes_pages(|old, page| is_stored(old, page % 256));
-
+    rows.reader("tests-origin-in-8-bits").takes_pages(|old, page| IS_STORED(old, page % 256));
     // What a refused call leaves, and the order of refusals.
-    rows.both("makes-unfit-origin-none")
-        .also(FOR_ORIGINS, |outcome, request| *outcome = without_origins(|_, _, _| true, request));
+    rows.both("makes-unfit-origin-none").also(FOR_ORIGINS, |case| without_origins(case, |_, _, _| true));
     rows.both("refused-call-clears-unfit-origin").sets(FOR_ORIGINS, CLEAR_ORIGINS);
     rows.reader("refused-call-clears-origins").sets(CALL_REFUSED, CLEAR_ORIGINS);
     rows.reader("refuses-origin-with-1").refuses(1, FOR_ORIGINS);
-    rows.reader("origins-before-lengths").refuses(3, |good| CALL_REFUSED(good) && good.refusal == 1 && UNFIT(good));
-    rows.reader("origins-before-room").refuses(3, |good| CALL_REFUSED(good) && good.refusal == 2 && UNFIT(good));
-
+    rows.reader("origins-before-lengths").refuses(3, |case| CALL(case) && case.refusal == 1 && UNFIT(case));
+    rows.reader("origins-before-room").refuses(3, |case| CALL(case) && case.refusal == 2 && UNFIT(case));
     // Legal origins that are refused.
     rows.reader("refuses-none").refuses_origin(|_, origin| origin.is_none());
     rows.reader("refuses-origin-0").refuses_origin(|_, origin| origin == Some(0));
@@ -146,9 +145,9 @@ pub fn add(rows: &mut Rows) {
 impl Row<'_> {
     /// Such an origin is no reason for refusal 3, and stays as it is.
     fn ignores(self, such: impl Fn(&Reader, usize, usize) -> bool + 'static) {
-        self.also(REFUSED_3, move |outcome, request| {
-            *outcome = without_origins(&such, request);
-            let origins = outcome.reader.settings.origins.iter_mut().zip(request.reader.settings.origins);
+        self.also(REFUSED_3, move |case| {
+            without_origins(case, &such);
+            let origins = case.outcome.reader.settings.origins.iter_mut().zip(case.old.settings.origins);
             origins.filter(|(now, _)| **now == NONE).for_each(|(now, old)| *now = old);
         });
     }
@@ -179,7 +178,7 @@ impl Row<'_> {
     }
 
     /// The line switch leaves the origins of such buffers.
-    fn keeps_origins(self, such: fn(&Reader, usize) -> bool) {
+    fn keeps_if(self, such: fn(&Reader, usize) -> bool) {
         self.leaves(SWITCHED, move |now, old| {
             for buffer in (0..2).filter(|&buffer| such(old, buffer)) {
                 now.settings.origins[buffer] = old.settings.origins[buffer];
@@ -189,37 +188,28 @@ impl Row<'_> {
 }
 
 /// A command that ends an open transfer, one that names buffers or pages apart.
-fn ends_transfer(good: &Good) -> bool {
-    let plain = [HAND_SHAKE, TEMPLETE_NUM, READ_SYS_PARA].iter().any(|&command| good.asks(command));
-    plain && REPLIED(good) && good.in_transfer()
+fn ends_transfer(case: &Case) -> bool {
+    let plain = [HAND_SHAKE, TEMPLETE_NUM, READ_SYS_PARA].iter().any(|&command| case.asks(command));
+    plain && REPLIED(case) && case.in_transfer()
 }
 
 /// A data packet with this identifier that goes in.
-fn takes_data(identifier: u8, good: &Good) -> bool {
+fn takes_data(identifier: u8, case: &Case) -> bool {
     let stand = |reader: &Reader| (reader.settings.transfer, reader.settings.got);
-    let found = good.packet().map_or(false, |packet| packet.identifier == identifier);
-    found && !REPLIED(good) && stand(good.old) != stand(&good.outcome.reader)
+    let found = case.packet().map_or(false, |packet| packet.identifier == identifier);
+    found && !REPLIED(case) && stand(case.old) != stand(&case.outcome.reader)
 }
 
-/// What the request comes to if such origins are none.
-fn without_origins(such: impl Fn(&Reader, usize, usize) -> bool, request: &Request) -> Outcome {
-    let mut asked = request.clone();
-    for (buffer, origin) in asked.reader.settings.origins.iter_mut().enumerate() {
-        if origin.page().map_or(false, |page| such(&request.reader, buffer, page)) {
-            *origin = NONE;
+/// Such origins are taken for none.
+fn without_origins(case: &mut Case, such: impl Fn(&Reader, usize, usize) -> bool) {
+    let old = case.old;
+    case.ask(|asked| {
+        for (buffer, origin) in asked.reader.settings.origins.iter_mut().enumerate() {
+            if origin.page().map_or(false, |page| such(old, buffer, page)) {
+                *origin = NONE;
+            }
         }
-    }
-    asked.carried_out()
-}
-
-/// Whether a page is one of the reader's, and stored.
-fn is_stored(old: &Reader, page: usize) -> bool {
-    page < old.capacity() && old.stored(page)
-}
-
-/// A stored page, of a buffer that is not filled.
-fn is_of_not_filled(old: &Reader, buffer: usize, page: usize) -> bool {
-    !old.settings.filled[buffer].is_set() && is_stored(old, page)
+    });
 }
 
 /// Whether a buffer has the bytes of its origin, or has not.

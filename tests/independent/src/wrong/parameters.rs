@@ -12,9 +12,12 @@ const ADDRESS: Range<usize> = 9..13;
 const SIZE_CODE: Range<usize> = 13..15;
 const BAUD_FACTOR: Range<usize> = 15..17;
 
+/// The reader is open.
+pub const UNLOCK: fn(&mut Request) = |asked| asked.reader.settings.verified = SET;
+
 /// A reader told its parameters while locked, and while not.
-const LOCKED: Pick = |good| good.locked() && good.fine(READ_SYS_PARA);
-const OPEN: Pick = |good| !good.locked() && good.fine(READ_SYS_PARA);
+const LOCKED: Pick = |case| case.locked() && case.gets(READ_SYS_PARA, 0x00);
+const OPEN: Pick = |case| !case.locked() && case.gets(READ_SYS_PARA, 0x00);
 
 /// What bits of the status word go by.
 type Shown = fn(&Settings) -> bool;
@@ -37,18 +40,18 @@ pub fn add(rows: &mut Rows) {
     rows.reader("read-sys-para-barred-when-found").only(found).barred(READ_SYS_PARA);
     let in_pieces = |request: &Request| !held_by(request).held().is_empty();
     rows.inside("receiver-read-sys-para-barred-in-pieces").only(in_pieces).barred(READ_SYS_PARA);
-
     // A locked reader takes a ReadSysPara that is not right in one thing alone: by the packet, and by whether it is ours.
-    rows.both("locked-read-sys-para-of-any-length").reads(|found, ours| ours && found.sum_right && !is_short(found));
-    rows.both("locked-read-sys-para-of-any-sum").reads(|found, ours| ours && !found.sum_right && is_short(found));
-    rows.both("locked-read-sys-para-at-any-address").reads(|found, ours| !ours && found.sum_right && is_short(found));
-
+    rows.both("locked-read-sys-para-of-any-length")
+        .reads(|found, ours| ours && found.sum_right && found.content.len() > 1);
+    rows.both("locked-read-sys-para-of-any-sum")
+        .reads(|found, ours| ours && !found.sum_right && found.content.len() == 1);
+    rows.both("locked-read-sys-para-at-any-address")
+        .reads(|found, ours| !ours && found.sum_right && found.content.len() == 1);
     // A locked reader gives 21h to one that should get 01h.
     rows.reader("read-sys-para-lock-before-length")
-        .answers(0x21, |good| good.locked() && good.gets(READ_SYS_PARA, 0x01) && !good.sum_wrong());
+        .answers(0x21, |case| case.locked() && case.gets(READ_SYS_PARA, 0x01) && !case.sum_wrong());
     rows.reader("read-sys-para-lock-before-sum")
-        .answers(0x21, |good| good.locked() && good.gets(READ_SYS_PARA, 0x01) && good.sum_wrong());
-
+        .answers(0x21, |case| case.locked() && case.gets(READ_SYS_PARA, 0x01) && case.sum_wrong());
     // The status word: when bit 1 shows the found mark, and when bit 2 is set.
     rows.both("locked-status-shows-found").shows(|_| true, VERIFIED);
     rows.both("status-hides-found-unless-verified").shows(VERIFIED, VERIFIED);
@@ -61,7 +64,6 @@ pub fn add(rows: &mut Rows) {
         .shows(|old| NOT_LOCKED(old) || old.password[3] == 0, VERIFIED);
     rows.reader("status-verified-unless-locked").shows(NOT_LOCKED, NOT_LOCKED);
     rows.reader("status-verified-with-a-password-only").shows(NOT_LOCKED, |old| VERIFIED(old) && PASSWORD(old));
-
     // What a locked reader tells in a place.
     rows.reader("locked-status-2").tells_at(STATUS, |_| vec![0, 2]);
     rows.reader("locked-status-4").tells_at(STATUS, |_| vec![0, 4]);
@@ -88,16 +90,14 @@ pub fn add(rows: &mut Rows) {
         [TYPE, LEVEL, ADDRESS, SIZE_CODE].into_iter().for_each(|place| content[place].fill(0));
     });
     rows.reader("locked-tells-from-fresh-address")
-        .also(LOCKED, |outcome, _| outcome.room[2..6].copy_from_slice(&Settings::fresh().address));
-    rows.reader("locked-read-sys-para-is-silent").also(LOCKED, silence);
-
+        .also(LOCKED, |case| case.outcome.room[2..6].copy_from_slice(&Settings::fresh().address));
+    rows.reader("locked-read-sys-para-is-silent").also(LOCKED, |case| case.silence());
     // What a ReadSysPara leaves.
     rows.both("locked-read-sys-para-clears-found").sets(LOCKED, CLEAR_FOUND);
     rows.reader("locked-read-sys-para-sets-found").sets(LOCKED, SET_FOUND);
     rows.both("locked-read-sys-para-unlocks").sets(LOCKED, |now, _| now.verified = SET);
     rows.reader("locked-read-sys-para-zeroes-password").sets(LOCKED, |now, _| now.password = [0; 4]);
-    rows.reader("locked-read-sys-para-wipes-buffers")
-        .leaves(LOCKED, |now, _| (0..2).for_each(|buffer| now.wipe(buffer)));
+    rows.reader("locked-read-sys-para-wipes-buffers").leaves(LOCKED, |now, _| (0..2).for_each(|b| now.wipe(b)));
     rows.reader("read-sys-para-sets-verified").sets(OPEN, |now, _| now.verified = SET);
     rows.reader("read-sys-para-clears-verified").sets(OPEN, |now, _| now.verified = CLEAR);
     rows.both("read-sys-para-keeps-transfer").leaves(fine(READ_SYS_PARA), |now, old| *now = old.clone());
@@ -106,23 +106,20 @@ pub fn add(rows: &mut Rows) {
 impl Row<'_> {
     /// A locked reader gives 21h to this command.
     fn barred(self, command: u8) {
-        self.bars(0x21, move |good| good.locked() && (good.fine(command) || good.gets(command, 0x13)));
+        self.bars(0x21, move |case| case.locked() && (case.gets(command, 0x00) || case.gets(command, 0x13)));
     }
 
     /// A locked reader carries this command out.
     fn when_locked(self, command: u8) {
-        self.also(gets(command, 0x21), |outcome, request| {
-            *outcome = as_if_open(request);
-            outcome.reader.settings.verified = CLEAR;
-        });
+        self.as_if(gets(command, 0x21), UNLOCK, |now, _| now.settings.verified = CLEAR);
     }
 
     /// A locked reader takes such a ReadSysPara for a right one.
     fn reads(self, such: fn(&Packet, bool) -> bool) {
-        let ours = |good: &Good, found: &Packet| found.address == good.old.settings.address;
-        let such = move |good: &Good| good.packet().map_or(false, |found| such(&found, ours(good, &found)));
+        let ours = |case: &Case, found: &Packet| found.address == case.old.settings.address;
+        let such = move |case: &Case| case.packet().map_or(false, |found| such(&found, ours(case, &found)));
         self.takes_packet(
-            move |good| good.locked() && good.asks(READ_SYS_PARA) && such(good),
+            move |case| case.locked() && case.asks(READ_SYS_PARA) && such(case),
             |old, _| packet(old.settings.address, COMMAND, &[READ_SYS_PARA]),
         );
     }
@@ -136,15 +133,4 @@ impl Row<'_> {
     fn tells_at(self, place: Range<usize>, bytes: fn(&Reader) -> Vec<u8>) {
         self.retells(LOCKED, move |content, old| drop(content.splice(place.clone(), bytes(old))));
     }
-}
-
-/// What an open reader makes of the request.
-pub fn as_if_open(request: &Request) -> Outcome {
-    let mut asked = request.clone();
-    asked.reader.settings.verified = SET;
-    asked.carried_out()
-}
-
-fn is_short(found: &Packet) -> bool {
-    found.content.len() == 1
 }

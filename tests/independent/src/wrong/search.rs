@@ -1,14 +1,14 @@
 //! Errors in what a Search of document 02's request [8] finds, tells and tests.
 
-use super::parameters::as_if_open;
+use super::parameters::UNLOCK;
 use super::words::*;
 
 /// A Search that gets 00h or 09h, and one of them whose range passes C.
-const SEARCHED: Pick = |good| good.fine(SEARCH) || good.gets(SEARCH, 0x09);
-const PASSES_C: Pick = |good| SEARCHED(good) && start(good) + number(&good.content[4..]) > good.old.capacity();
+const SEARCHED: Pick = |case| case.gets(SEARCH, 0x00) || case.gets(SEARCH, 0x09);
+const PASSES_C: Pick = |case| SEARCHED(case) && start(case) + number(&case.content[4..]) > case.old.capacity();
 /// A Search that starts beyond C, with a buffer that is not filled.
 const BEYOND_NOT_FILLED: Pick =
-    |good| good.gets(SEARCH, 0x0B) && !good.old.settings.filled[usize::from(good.content[1]) - 1].is_set();
+    |case| case.gets(SEARCH, 0x0B) && !case.old.settings.filled[usize::from(case.content[1]) - 1].is_set();
 
 pub fn add(rows: &mut Rows) {
     // Which score is the better one, by the later and the best so far.
@@ -22,7 +22,6 @@ pub fn add(rows: &mut Rows) {
     rows.reader("search-better-by-high-byte").better(|later, best| later / 256 > best / 256);
     rows.reader("search-better-by-turned-bytes").better(|later, best| later.swap_bytes() > best.swap_bytes());
     rows.reader("search-better-by-two").better(|later, best| later > best.saturating_add(1));
-
     // Which score is enough, by the threshold.
     rows.reader("search-above-threshold-only").enough(|score, threshold| score > threshold);
     rows.inside("receiver-search-above").enough(|score, threshold| score > threshold);
@@ -35,7 +34,6 @@ pub fn add(rows: &mut Rows) {
     rows.reader("search-enough-as-signed").enough(|score, threshold| score as i16 >= threshold as i16);
     rows.reader("search-enough-by-low-byte").enough(|score, threshold| score % 256 >= threshold % 256);
     rows.reader("search-enough-by-high-byte").enough(|score, threshold| score / 256 >= threshold / 256);
-
     // Which threshold is taken, by the five and by the place of the one in force.
     rows.reader("search-threshold-of-level-1").threshold(|thresholds, _| thresholds[0]);
     rows.reader("search-threshold-of-level-2").threshold(|thresholds, _| thresholds[1]);
@@ -48,7 +46,6 @@ pub fn add(rows: &mut Rows) {
     rows.reader("search-threshold-of-turned-level").threshold(|thresholds, place| thresholds[4 - place]);
     rows.reader("search-least-threshold").threshold(|thresholds, _| thresholds.iter().copied().fold(0xFFFF, u16::min));
     rows.reader("search-greatest-threshold").threshold(|thresholds, _| thresholds.iter().copied().fold(0, u16::max));
-
     // Which pages can be found.
     rows.both("search-vacant-too").stored(|_, _| true);
     rows.reader("search-vacant-only").stored(|old, page| !old.stored(page));
@@ -61,7 +58,6 @@ pub fn add(rows: &mut Rows) {
     rows.reader("search-leaves-out-origins")
         .stored(|old, page| old.stored(page) && !old.settings.origins.contains(&Origin::of(page)));
     rows.reader("search-below-256-only").stored(|old, page| old.stored(page) && page < 256);
-
     // Which range is searched, by start and count; it is cut at C.
     rows.both("search-sum-in-16-bits").within(|_, start, count| start..(start + count) % 0x10000);
     rows.reader("search-sum-in-10-bits").within(|_, start, count| start..(start + count) % 1024);
@@ -95,7 +91,6 @@ pub fn add(rows: &mut Rows) {
     rows.reader("search-stops-at-too-low").stops_at(|old, page| old.chip.scores[page] < in_force(old));
     rows.reader("search-past-C-is-0B").answers_search(0x0B, PASSES_C);
     rows.reader("search-past-C-is-10").answers_search(0x10, PASSES_C);
-
     // Other ways to search.
     rows.reader("search-always-finds-none").finds(|_, _, _| None);
     rows.reader("search-best-of-all-or-none").finds(|old, start, count| {
@@ -120,7 +115,6 @@ pub fn add(rows: &mut Rows) {
             *thresholds = first.borrow_mut().get_or_insert_with(|| thresholds.clone()).clone();
         }
     });
-
     // What a Search that finds a page tells behind 00h, by the bytes of the page and of the score.
     rows.reader("found-page-turned").tells_found(|[p, q], [s, t], _| vec![q, p, s, t]);
     rows.reader("found-score-turned").tells_found(|[p, q], [s, t], _| vec![p, q, t, s]);
@@ -131,10 +125,9 @@ pub fn add(rows: &mut Rows) {
     rows.reader("found-page-in-8-bits").tells_found(|[_, q], [s, t], _| vec![0, q, s, t]);
     rows.reader("found-score-in-8-bits").tells_found(|[p, q], [_, t], _| vec![p, q, 0, t]);
     rows.reader("found-bytes-short").tells_found(|[_, q], [_, t], _| vec![q, t]);
-    rows.reader("found-page-in-range").tells_found(|page, score, good| [less(page, start(good)), score].concat());
+    rows.reader("found-page-in-range").tells_found(|page, score, case| [less(page, start(case)), score].concat());
     rows.reader("found-score-over-threshold")
-        .tells_found(|page, score, good| [page, less(score, in_force(good.old).into())].concat());
-
+        .tells_found(|page, score, case| [page, less(score, in_force(case.old).into())].concat());
     // What one that finds none tells.
     rows.reader("not-found-without-bytes").tells(gets(SEARCH, 0x09), |_| vec![0x09]);
     rows.reader("not-found-page-FFFF").tells(gets(SEARCH, 0x09), |_| vec![0x09, 0xFF, 0xFF, 0, 0]);
@@ -142,16 +135,15 @@ pub fn add(rows: &mut Rows) {
     rows.reader("not-found-two-bytes").tells(gets(SEARCH, 0x09), |_| vec![0x09, 0, 0]);
     rows.reader("not-found-is-00").tells(gets(SEARCH, 0x09), |_| vec![0x00, 0, 0, 0, 0]);
     rows.reader("not-found-is-0C").tells(gets(SEARCH, 0x09), |_| vec![0x0C]);
-    rows.reader("not-found-tells-start").tells(gets(SEARCH, 0x09), |good| listed(0x09, Some((start(good), 0))));
-    rows.reader("not-found-tells-best").tells(gets(SEARCH, 0x09), |good| {
+    rows.reader("not-found-tells-start").tells(gets(SEARCH, 0x09), |case| listed(0x09, Some((start(case), 0))));
+    rows.reader("not-found-tells-best").tells(gets(SEARCH, 0x09), |case| {
         let any = Way { enough: |_, _| true, ..RIGHT };
-        listed(0x09, any.best(good.old, start(good), number(&good.content[4..])))
+        listed(0x09, any.best(case.old, start(case), number(&case.content[4..])))
     });
-
     // The tests and their order.
     rows.reader("search-unknown").answers_search(0x19, |_| true);
-    rows.reader("search-start-before-buffer").answers_search(0x0B, |good| {
-        good.code == Some(0x01) && !good.sum_wrong() && start(good) >= good.old.capacity()
+    rows.reader("search-start-before-buffer").answers_search(0x0B, |case| {
+        case.code == Some(0x01) && !case.sum_wrong() && start(case) >= case.old.capacity()
     });
     rows.reader("search-filled-before-start").answers_search(0x0C, BEYOND_NOT_FILLED);
     rows.inside("receiver-filled-before-start").answers_search(0x0C, BEYOND_NOT_FILLED);
@@ -165,15 +157,13 @@ pub fn add(rows: &mut Rows) {
     rows.reader("search-takes-buffer-3").takes_content(SEARCH, &[0x01], |content| take_buffer(content, 3, 2));
     rows.reader("search-takes-length-7").takes_content(SEARCH, &[0x01], |content| take_length(content, 7));
     rows.reader("search-takes-length-9").takes_content(SEARCH, &[0x01], |content| take_length(content, 9));
-    rows.reader("search-row-before-lock").also(gets(SEARCH, 0x21), |outcome, request| {
-        let code = as_if_open(request).room[9];
-        if [0x01, 0x0B, 0x0C].contains(&code) {
-            acknowledge(outcome, request, &[code]);
-        }
+    rows.reader("search-row-before-lock").also(gets(SEARCH, 0x21), |case| {
+        let mut open = Case::of(case.request);
+        open.ask(UNLOCK);
+        open.code.into_iter().filter(|&code| code != 0x00 && code != 0x09).for_each(|code| case.tell(&[code]));
     });
     rows.reader("search-lock-before-length")
-        .answers(0x21, |good| good.locked() && good.gets(SEARCH, 0x01) && !good.sum_wrong());
-
+        .answers(0x21, |case| case.locked() && case.gets(SEARCH, 0x01) && !case.sum_wrong());
     // What else a Search does.
     rows.both("search-keeps-transfer").leaves(SEARCHED, |now, old| {
         now.settings.transfer = old.settings.transfer;
@@ -253,10 +243,10 @@ impl Row<'_> {
 
     /// A Search finds this, by the reader before, the start and the count.
     fn finds(self, other: impl Fn(&Reader, usize, usize) -> Found + 'static) {
-        self.also(SEARCHED, move |outcome, request| {
-            let found = request.searched().and_then(|(start, count)| other(&request.reader, start, count));
-            outcome.reader.settings.found = Mark::of(found.is_some());
-            acknowledge(outcome, request, &listed(if found.is_some() { 0x00 } else { 0x09 }, found));
+        self.also(SEARCHED, move |case| {
+            let found = other(case.old, start(case), number(&case.content[4..]));
+            case.outcome.reader.settings.found = Mark::of(found.is_some());
+            case.tell(&listed(if found.is_some() { 0x00 } else { 0x09 }, found));
         });
     }
 
@@ -280,52 +270,53 @@ impl Row<'_> {
         });
     }
 
-    fn tells_found(self, listed: fn([u8; 2], [u8; 2], &Good) -> Vec<u8>) {
-        self.tells(fine(SEARCH), move |good| {
-            let told = good.told();
-            [vec![0x00], listed([told[1], told[2]], [told[3], told[4]], good)].concat()
+    fn tells_found(self, listed: fn([u8; 2], [u8; 2], &Case) -> Vec<u8>) {
+        self.tells(fine(SEARCH), move |case| {
+            let told = case.told();
+            [vec![0x00], listed([told[1], told[2]], [told[3], told[4]], case)].concat()
         });
     }
 
     /// A Search of the right length that is such gets this code alone and leaves the found mark.
     fn answers_search(self, told: u8, such: impl Such) {
-        let such = move |good: &Good| good.asks(SEARCH) && good.content.len() == 6 && REPLIED(good) && such(good);
-        self.also(such, move |outcome, request| {
-            outcome.reader.settings.found = request.reader.settings.found;
-            acknowledge(outcome, request, &[told]);
+        let such = move |case: &Case| case.asks(SEARCH) && case.content.len() == 6 && REPLIED(case) && such(case);
+        self.also(such, move |case| {
+            case.outcome.reader.settings.found = case.old.settings.found;
+            case.tell(&[told]);
         });
     }
 
     /// Such a start, by C, finds none where it should get 0Bh.
     fn starts_at(self, such: fn(usize, usize) -> bool) {
-        let such = move |good: &Good| good.gets(SEARCH, 0x0B) && such(start(good), good.old.capacity());
-        self.also(such, |outcome, request| {
-            outcome.reader.settings.found = CLEAR;
-            acknowledge(outcome, request, &listed(0x09, None));
+        let such = move |case: &Case| case.gets(SEARCH, 0x0B) && such(start(case), case.old.capacity());
+        self.also(such, |case| {
+            case.outcome.reader.settings.found = CLEAR;
+            case.tell(&listed(0x09, None));
         });
     }
 
     /// A Search that gets 00h, 09h or 0Ch takes the filled marks for others, and leaves them.
     fn takes_filled(self, other: fn([Mark; 2]) -> [Mark; 2]) {
-        let such = |good: &Good| SEARCHED(good) || good.gets(SEARCH, 0x0C);
-        self.also(such, move |outcome, request| {
-            let Settings { filled, found, .. } = request.reader.settings;
+        let such = |case: &Case| SEARCHED(case) || case.gets(SEARCH, 0x0C);
+        self.also(such, move |case| {
+            let Settings { filled, found, .. } = case.old.settings;
             // What the Search leaves of an open transfer is as it should be.
-            let mut asked = Request { reader: outcome.reader.clone(), ..request.clone() };
-            asked.reader.settings.found = found;
-            asked.reader.settings.filled = other(filled);
-            let origins = std::mem::replace(&mut asked.reader.settings.origins, [NONE; 2]);
-            *outcome = asked.carried_out();
-            outcome.reader.settings.filled = filled;
-            outcome.reader.settings.origins = origins;
+            let now = case.outcome.reader.clone();
+            case.ask(|asked| {
+                asked.reader = now.clone();
+                asked.reader.settings =
+                    Settings { filled: other(filled), found, origins: [NONE; 2], ..now.settings.clone() };
+            });
+            case.outcome.reader.settings.filled = filled;
+            case.outcome.reader.settings.origins = now.settings.origins;
         });
     }
 
     /// A Search that finds a page also has this effect, with its buffer and this page.
     fn finding(self, effect: fn(&mut Reader, usize, usize)) {
-        self.also(fine(SEARCH), move |outcome, request| {
-            let buffer = find(&request.run).1.map_or(0, |packet| usize::from(packet.content[1]) - 1);
-            effect(&mut outcome.reader, buffer, number(&outcome.room[10..12]));
+        self.also(fine(SEARCH), move |case| {
+            let page = number(&case.told()[1..3]);
+            effect(&mut case.outcome.reader, usize::from(case.content[1]) - 1, page);
         });
     }
 }
@@ -336,8 +327,8 @@ fn in_force(old: &Reader) -> u16 {
 }
 
 /// The start of a Search of the right length.
-fn start(good: &Good) -> usize {
-    number(&good.content[2..4])
+fn start(case: &Case) -> usize {
+    number(&case.content[2..4])
 }
 
 /// What a Search lists with this code: page and score, or zeroes.

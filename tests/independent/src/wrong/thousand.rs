@@ -12,12 +12,19 @@ const BELOW: &[u8] = &[0x00, 0x0C, 0x22];
 /// The codes of one that does not.
 const BEYOND: &[u8] = &[0x0B, 0x10];
 
+/// An index of 32 bytes, of no more than 256 pages.
+const SHORT: fn(&Reader) -> bool = |old| old.index.len() == FEW_BYTES && old.capacity() <= FEW_PAGES;
+
+/// The bits of pages from 256 on stay as they are.
+const KEEP_FAR_BITS: fn(&mut Reader, &Reader) =
+    |now, old| now.index[FEW_BYTES..].copy_from_slice(&old.index[FEW_BYTES..]);
+
 pub fn add(rows: &mut Rows) {
     // The lengths of templates and index, and the bits at or above C.
-    rows.both("most-pages-256").most_pages(FEW_PAGES);
-    rows.reader("most-pages-999").most_pages(999);
+    rows.both("most-pages-256").refuses(1, |case| CALL(case) && case.old.capacity() > FEW_PAGES);
+    rows.reader("most-pages-999").refuses(1, |case| CALL(case) && case.old.capacity() > 999);
     rows.both("most-pages-1001").as_if(
-        |good| CALL(good) && good.old.templates.len() == PAGE * (MOST_PAGES + 1),
+        |case| CALL(case) && case.old.templates.len() == PAGE * (MOST_PAGES + 1),
         |asked| {
             asked.reader.templates.truncate(PAGE * MOST_PAGES);
             asked.reader.chip.scores.truncate(MOST_PAGES);
@@ -25,16 +32,11 @@ pub fn add(rows: &mut Rows) {
         |now, old| now.templates.extend(&old.templates[PAGE * MOST_PAGES..]),
     );
     rows.both("capacity-told-in-8-bits").retells(fine(READ_SYS_PARA), |content, _| content[5] = 0);
-    rows.both("index-of-32-only").as_if(
-        |good| CALL(good) && (good.old.index.len() == INDEX || is_short(good.old)),
-        // Without bytes an index of 128 gets refusal 1.
-        |asked| asked.reader.index.resize(if asked.reader.index.len() == INDEX { 0 } else { INDEX }, 0),
-        |now, old| match old.index.len() {
-            INDEX => now.index = old.index.clone(),
-            _ => now.index.truncate(FEW_BYTES),
-        },
-    );
-    rows.both("index-of-32-too").takes_index(is_short);
+    rows.both("index-of-32-only").also(CALL, |case| match case.old.index.len() {
+        INDEX => case.outcome = refused_with(1, case.request),
+        _ => take_index(case, SHORT),
+    });
+    rows.both("index-of-32-too").takes_index(SHORT);
     rows.reader("index-of-127-too").takes_index(|old| old.index.len() == 127);
     rows.reader("index-of-129-too").takes_index(|old| old.index.len() == 129);
     rows.reader("index-of-256-too").takes_index(|old| old.index.len() == 256);
@@ -48,7 +50,6 @@ pub fn add(rows: &mut Rows) {
         .refuses_legal(|old| (old.capacity() % FEW_PAGES..old.capacity()).any(|page| old.stored(page)));
     rows.both("switch-tests-index").switch_tests(|old| old.index.len() != INDEX);
     rows.reader("switch-tests-pages").switch_tests(|old| old.capacity() > MOST_PAGES);
-
     // Pages that are taken modulo 256 or, from C on, modulo 1024, by the place of the high byte; and those from 256 on.
     for (name, command, high) in [("store", STORE, 2), ("load-char", LOAD_CHAR, 2), ("delet-char", DELET_CHAR, 1)] {
         rows.both(format!("{name}-page-in-8-bits")).takes_content(command, BELOW, move |content| content[high] = 0);
@@ -60,9 +61,9 @@ pub fn add(rows: &mut Rows) {
             .takes_content(command, BELOW, |content| content[2] = if content[2] > 0 { 0xFF } else { 0 });
     }
     for (name, command) in [("store-sets-bit", STORE), ("delet-char-clears-bits", DELET_CHAR)] {
-        rows.reader(format!("{name}-below-256")).leaves(fine(command), keep_far_bits);
+        rows.reader(format!("{name}-below-256")).leaves(fine(command), KEEP_FAR_BITS);
     }
-    rows.both("empty-clears-bits-below-256").leaves(fine(EMPTY), keep_far_bits);
+    rows.both("empty-clears-bits-below-256").leaves(fine(EMPTY), KEEP_FAR_BITS);
     for (name, command) in
         [("store-copies", STORE), ("delet-char-zeroes-pages", DELET_CHAR), ("empty-zeroes-pages", EMPTY)]
     {
@@ -71,7 +72,6 @@ pub fn add(rows: &mut Rows) {
             now.templates.extend(old.templates.iter().skip(PAGE * FEW_PAGES));
         });
     }
-
     // Store and LoadChar.
     rows.reader("store-tests-bit-in-8-bits").refused_if(|old, _, page| old.stored(page % FEW_PAGES));
     rows.reader("store-sets-bit-in-8-bits").names(STORE, 0x00, |now, old, _, page| {
@@ -86,7 +86,6 @@ pub fn add(rows: &mut Rows) {
         .takes_bit(LOAD_CHAR, [0x00, 0x0C], |old, _, page| old.stored(page % FEW_PAGES));
     rows.reader("load-char-copies-page-in-8-bits")
         .names(LOAD_CHAR, 0x00, |now, old, buffer, page| now.buffers[buffer] = old.template(page % FEW_PAGES).to_vec());
-
     // DeletChar.
     rows.reader("delet-char-count-in-8-bits").deletes(|pages| pages.start..pages.start + pages.len() % FEW_PAGES);
     rows.reader("delet-char-sum-in-10-bits").answers(0x00, sum_wraps_at(1024));
@@ -100,7 +99,6 @@ pub fn add(rows: &mut Rows) {
         now.templates = old.templates.clone();
         pages.for_each(|page| now.template_mut(page % FEW_PAGES).fill(0));
     });
-
     // TempleteNum and ReadIndexTable.
     rows.both("counts-32-bytes").counts(|_, index| ones(&index[..FEW_BYTES]));
     rows.reader("counts-96-bytes").counts(|_, index| ones(&index[..96]));
@@ -123,21 +121,8 @@ pub fn add(rows: &mut Rows) {
 }
 
 impl Row<'_> {
-    /// Templates of more than so many pages get refusal 1.
-    fn most_pages(self, most: usize) {
-        self.refuses(1, move |good| CALL(good) && good.old.capacity() > most);
-    }
-
-    /// A call takes an index of such a reader for one of 128 bytes: its own as far as they go, then zero bytes.
     fn takes_index(self, such: fn(&Reader) -> bool) {
-        self.as_if(
-            move |good| CALL(good) && such(good.old),
-            |asked| asked.reader.index.resize(INDEX, 0),
-            |now, old| {
-                now.index.truncate(old.index.len());
-                now.index.extend(old.index.iter().skip(INDEX));
-            },
-        );
+        self.also(CALL, move |case| take_index(case, such));
     }
 
     /// A bit at or above C is no reason for refusal 3 if C and its page are such.
@@ -146,13 +131,11 @@ impl Row<'_> {
             let beyond = old.capacity()..8 * old.index.len();
             beyond.filter(|&page| old.stored(page) && such(old.capacity(), page)).collect::<Vec<usize>>()
         };
-        self.as_if(
-            |good| CALL(good),
-            move |asked| {
-                ignored(&asked.reader).iter().for_each(|page| asked.reader.index[page / 8] &= !bit(*page));
-            },
-            move |now, old| ignored(old).iter().for_each(|page| now.index[page / 8] |= bit(*page)),
-        );
+        self.also(CALL, move |case| {
+            let ignored = ignored(case.old);
+            case.ask(|asked| ignored.iter().for_each(|page| asked.reader.index[page / 8] &= !bit(*page)));
+            ignored.iter().for_each(|page| case.outcome.reader.index[page / 8] |= bit(*page));
+        });
     }
 
     /// A DeletChar that gets 00h is taken for one of other pages.
@@ -166,30 +149,26 @@ impl Row<'_> {
 
     /// A DeletChar that gets 00h also has this effect, with its pages.
     fn deletes_also(self, effect: fn(&mut Reader, &Reader, Range<usize>)) {
-        self.also(fine(DELET_CHAR), move |outcome, request| {
-            let packet = find(&request.run).1;
-            packet.into_iter().for_each(|found| effect(&mut outcome.reader, &request.reader, pages(found.content)));
-        });
+        self.also(fine(DELET_CHAR), move |case| effect(&mut case.outcome.reader, case.old, pages(case.content)));
     }
 
     /// ReadIndexTable gives these bytes, or this code, to a page.
     fn lists(self, listed: fn(usize, &Reader) -> Result<Vec<u8>, u8>) {
-        let answered = |good: &Good| good.fine(READ_INDEX_TABLE) || good.gets(READ_INDEX_TABLE, 0x0B);
-        self.tells(answered, move |good| match listed(good.content[1].into(), good.old) {
+        let answered = |case: &Case| case.gets(READ_INDEX_TABLE, 0x00) || case.gets(READ_INDEX_TABLE, 0x0B);
+        self.tells(answered, move |case| match listed(case.content[1].into(), case.old) {
             Ok(listed) => [&[0x00], &listed[..]].concat(),
             Err(code) => vec![code],
         });
     }
 }
 
-/// An index of 32 bytes, of no more than 256 pages.
-fn is_short(old: &Reader) -> bool {
-    old.index.len() == FEW_BYTES && old.capacity() <= FEW_PAGES
-}
-
-/// The bits of pages from 256 on stay as they are.
-fn keep_far_bits(now: &mut Reader, old: &Reader) {
-    now.index[FEW_BYTES..].copy_from_slice(&old.index[FEW_BYTES..]);
+/// An index of such a reader is taken for one of 128 bytes: its own as far as they go, then zero bytes.
+fn take_index(case: &mut Case, such: fn(&Reader) -> bool) {
+    if such(case.old) {
+        case.ask(|asked| asked.reader.index.resize(INDEX, 0));
+        case.outcome.reader.index.truncate(case.old.index.len());
+        case.outcome.reader.index.extend(case.old.index.iter().skip(INDEX));
+    }
 }
 
 /// The bytes of an index page below this one; 0Bh from there on.

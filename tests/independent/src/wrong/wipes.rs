@@ -51,7 +51,6 @@ pub fn add(rows: &mut Rows) {
         let origin = old.settings.origins[b].page();
         origin.map_or(false, |origin| pages.clone().any(|page| page % 256 == origin % 256))
     });
-
     // Which pages count as deleted, by the first and the end.
     rows.reader("delet-char-wipes-first-only").wipes_within(|first, end| first..end.min(first + 1));
     rows.reader("delet-char-wipes-last-only").wipes_within(|first, end| first.max(end.max(1) - 1)..end);
@@ -79,32 +78,30 @@ impl Row<'_> {
 
     /// A command that gets 00h wipes such buffers: by the reader, the buffer and the pages deleted.
     fn wipes_by_pages(self, command: u8, such: impl Fn(&Reader, usize, &Range<usize>) -> bool + 'static) {
-        self.also(fine(command), move |outcome, request| {
-            let pages = pages_of(command, &Good::of(request));
-            let mut asked = request.clone();
-            asked.reader.settings.origins = [NONE; 2];
-            *outcome = asked.carried_out();
-            outcome.reader.settings.origins = request.reader.settings.origins;
-            (0..2).filter(|&b| such(&request.reader, b, &pages)).for_each(|b| outcome.reader.wipe(b));
+        self.also(fine(command), move |case| {
+            case.ask(|asked| asked.reader.settings.origins = [NONE; 2]);
+            case.outcome.reader.settings.origins = case.old.settings.origins;
+            let pages = pages_of(case);
+            (0..2).filter(|&b| such(case.old, b, &pages)).for_each(|b| case.outcome.reader.wipe(b));
         });
     }
 
     /// A command that gets this code also has these effects on the buffers whose origin it names.
     fn of_named(self, command: u8, code: u8, effects: &'static [Effect]) {
-        self.also(gets(command, code), move |outcome, request| {
-            let pages = pages_of(command, &Good::of(request));
-            for b in (0..2).filter(|&b| request.reader.settings.origins[b].among(&pages)) {
-                effects.iter().for_each(|effect| effect(&mut outcome.reader, &request.reader, b));
+        self.also(gets(command, code), move |case| {
+            let pages = pages_of(case);
+            for b in (0..2).filter(|&b| case.old.settings.origins[b].among(&pages)) {
+                effects.iter().for_each(|effect| effect(&mut case.outcome.reader, case.old, b));
             }
         });
     }
 }
 
 /// The pages that a DeletChar or an Empty names.
-fn pages_of(command: u8, good: &Good) -> Range<usize> {
-    if command == EMPTY {
-        0..good.old.capacity()
+fn pages_of(case: &Case) -> Range<usize> {
+    if case.asks(EMPTY) {
+        0..case.old.capacity()
     } else {
-        pages(good.content)
+        pages(case.content)
     }
 }

@@ -13,11 +13,11 @@ pub trait Makes: Fn(&Request) -> Outcome + 'static {}
 impl<F: Fn(&Request) -> Outcome + 'static> Makes for F {}
 
 /// Picks cases.
-pub trait Such: Fn(&Good) -> bool + 'static {}
-impl<F: Fn(&Good) -> bool + 'static> Such for F {}
+pub trait Such: Fn(&Case) -> bool + 'static {}
+impl<F: Fn(&Case) -> bool + 'static> Such for F {}
 
-/// A case: a request, and what the good one makes of it.
-pub struct Good<'a> {
+/// A request, and what comes of it: first what the good one makes of it.
+pub struct Case<'a> {
     pub request: &'a Request,
     pub outcome: Outcome,
     /// The reader before.
@@ -30,11 +30,11 @@ pub struct Good<'a> {
     pub code: Option<u8>,
 }
 
-impl<'a> Good<'a> {
-    pub fn of(request: &'a Request) -> Good<'a> {
+impl<'a> Case<'a> {
+    pub fn of(request: &'a Request) -> Case<'a> {
         let outcome = request.carried_out();
         let command = find(&request.run).1.filter(|packet| packet.identifier == COMMAND && request.kind.is_call());
-        Good {
+        Case {
             request,
             old: &request.reader,
             content: command.map_or(&[], |packet| packet.content),
@@ -71,14 +71,37 @@ impl<'a> Good<'a> {
         self.asks(command) && self.code == Some(code)
     }
 
-    /// Whether it is this command and gets 00h.
-    pub fn fine(&self, command: u8) -> bool {
-        self.gets(command, 0x00)
-    }
-
     /// The content of the acknowledge.
     pub fn told(&self) -> Vec<u8> {
         self.outcome.room[9..self.outcome.answer.length - 2].to_vec()
+    }
+
+    /// Puts an acknowledge with this content in place of the reply.
+    pub fn tell(&mut self, content: &[u8]) {
+        let reply = packet(self.outcome.reader.settings.address, ACKNOWLEDGE, content);
+        self.silence();
+        self.outcome.room[..reply.len()].copy_from_slice(&reply);
+        self.outcome.answer.length = reply.len();
+    }
+
+    /// Takes the reply away.
+    pub fn silence(&mut self) {
+        self.outcome.answer.length = 0;
+        self.outcome.room = self.request.room.clone();
+    }
+
+    /// Takes the reply and every effect on the reader away.
+    pub fn ignore(&mut self) {
+        self.silence();
+        self.outcome.reader = self.old.clone();
+    }
+
+    /// Lets come of it what the good one makes of the request with this change.
+    pub fn ask(&mut self, change: impl Fn(&mut Request)) {
+        let mut asked = self.request.clone();
+        change(&mut asked);
+        let Case { outcome, refusal, code, .. } = Case::of(&asked);
+        (self.outcome, self.refusal, self.code) = (outcome, refusal, code);
     }
 }
 
@@ -86,26 +109,26 @@ impl<'a> Good<'a> {
 pub type Setting = fn(&mut Settings, &Settings);
 
 /// A pick of cases by one word.
-pub type Pick = fn(&Good) -> bool;
+pub type Pick = fn(&Case) -> bool;
 pub const ANY: Pick = |_| true;
-pub const REPLIED: Pick = |good| good.code.is_some();
-pub const SILENT: Pick = |good| good.code.is_none();
-pub const DONE: Pick = |good| good.refusal == 0;
-pub const REFUSED: Pick = |good| good.refusal != 0;
-pub const CALL: Pick = |good| good.request.kind.is_call();
-pub const CALLED: Pick = |good| good.request.kind.is_call() && good.refusal == 0;
-pub const CALL_REFUSED: Pick = |good| good.request.kind.is_call() && good.refusal != 0;
-pub const SWITCHED: Pick = |good| good.request.kind.is_line_switch() && good.refusal == 0;
-pub const SWITCH_REFUSED: Pick = |good| good.request.kind.is_line_switch() && good.refusal != 0;
+pub const REPLIED: Pick = |case| case.code.is_some();
+pub const SILENT: Pick = |case| case.code.is_none();
+pub const DONE: Pick = |case| case.refusal == 0;
+pub const REFUSED: Pick = |case| case.refusal != 0;
+pub const CALL: Pick = |case| case.request.kind.is_call();
+pub const CALLED: Pick = |case| case.request.kind.is_call() && case.refusal == 0;
+pub const CALL_REFUSED: Pick = |case| case.request.kind.is_call() && case.refusal != 0;
+pub const SWITCHED: Pick = |case| case.request.kind.is_line_switch() && case.refusal == 0;
+pub const SWITCH_REFUSED: Pick = |case| case.request.kind.is_line_switch() && case.refusal != 0;
 
 /// A call with this command.
 pub fn asks(command: u8) -> impl Such {
-    move |good: &Good| good.asks(command)
+    move |case: &Case| case.asks(command)
 }
 
 /// This command, where it gets this code.
 pub fn gets(command: u8, code: u8) -> impl Such {
-    move |good: &Good| good.gets(command, code)
+    move |case: &Case| case.gets(command, code)
 }
 
 /// This command, where it gets 00h.
@@ -115,24 +138,24 @@ pub fn fine(command: u8) -> impl Such {
 
 /// What gets this code, whichever command it is.
 pub fn coded(code: u8) -> impl Such {
-    move |good: &Good| good.code == Some(code)
+    move |case: &Case| case.code == Some(code)
 }
 
 impl Row<'_> {
-    /// Such a case also has this effect on the outcome, by the request.
-    pub fn also(self, such: impl Such, effect: impl Fn(&mut Outcome, &Request) + 'static) {
+    /// Such a case also has this effect.
+    pub fn also(self, such: impl Such, effect: impl Fn(&mut Case) + 'static) {
         self.makes(move |request: &Request| {
-            let mut good = Good::of(request);
-            if such(&good) {
-                effect(&mut good.outcome, request);
+            let mut case = Case::of(request);
+            if such(&case) {
+                effect(&mut case);
             }
-            good.outcome
+            case.outcome
         });
     }
 
     /// Such a case also has this effect on the reader as it is now, by what it was of old.
     pub fn leaves(self, such: impl Such, effect: impl Fn(&mut Reader, &Reader) + 'static) {
-        self.also(such, move |outcome, request| effect(&mut outcome.reader, &request.reader));
+        self.also(such, move |case| effect(&mut case.outcome.reader, case.old));
     }
 
     /// Such a case also has this effect on the settings as they are now, by what they were of old.
@@ -143,65 +166,58 @@ impl Row<'_> {
     /// A Store or a LoadChar that gets this code also has this effect on the reader as it is now, by what it was of old,
     /// by the place of its buffer and by its page.
     pub fn names(self, command: u8, code: u8, effect: impl Fn(&mut Reader, &Reader, usize, usize) + 'static) {
-        self.also(gets(command, code), move |outcome, request| {
-            if let Some(&[_, buffer @ (1 | 2), high, low]) = find(&request.run).1.map(|packet| packet.content) {
-                effect(&mut outcome.reader, &request.reader, usize::from(buffer) - 1, number(&[high, low]));
+        self.also(gets(command, code), move |case| {
+            if let [_, buffer @ (1 | 2), page @ ..] = case.content {
+                effect(&mut case.outcome.reader, case.old, usize::from(*buffer) - 1, number(page));
             }
         });
     }
 
     /// The acknowledge of such a case has this content.
-    pub fn tells(self, such: impl Such, content: impl Fn(&Good) -> Vec<u8> + 'static) {
-        self.makes(move |request: &Request| {
-            let mut good = Good::of(request);
-            if such(&good) {
-                let content = content(&good);
-                acknowledge(&mut good.outcome, request, &content);
-            }
-            good.outcome
-        });
+    pub fn tells(self, such: impl Such, content: impl Fn(&Case) -> Vec<u8> + 'static) {
+        self.also(such, move |case| case.tell(&content(case)));
     }
 
     /// The acknowledge of such a case has its content changed so, by the reader of old.
     pub fn retells(self, such: impl Such, change: impl Fn(&mut Vec<u8>, &Reader) + 'static) {
-        self.tells(such, move |good| {
-            let mut content = good.told();
-            change(&mut content, good.old);
+        self.tells(such, move |case| {
+            let mut content = case.told();
+            change(&mut content, case.old);
             content
         });
     }
 
     /// Such a case gets this code alone, and has the same effect.
     pub fn answers(self, code: u8, such: impl Such) {
-        self.tells(such, move |_| vec![code]);
+        self.also(such, move |case| case.tell(&[code]));
     }
 
     /// Such a case gets this code alone, and has no effect.
     pub fn bars(self, code: u8, such: impl Such) {
-        self.also(such, move |outcome, request| {
-            outcome.reader = request.reader.clone();
-            acknowledge(outcome, request, &[code]);
+        self.also(such, move |case| {
+            case.ignore();
+            case.tell(&[code]);
         });
     }
 
     /// Such a case is refused with this number.
     pub fn refuses(self, refusal: u8, such: impl Such) {
-        self.also(such, move |outcome, request| *outcome = refused_with(refusal, request));
+        self.also(such, move |case| case.outcome = refused_with(refusal, case.request));
     }
 
     /// A call of such a legal reader gets refusal 3.
     pub fn refuses_legal(self, such: impl Fn(&Reader) -> bool + 'static) {
-        self.refuses(3, move |good| CALLED(good) && such(good.old));
+        self.refuses(3, move |case| CALLED(case) && such(case.old));
     }
 
     /// A line switch of such a reader gets refusal 1.
     pub fn switch_tests(self, such: fn(&Reader) -> bool) {
-        self.refuses(1, move |good| good.request.kind.is_line_switch() && such(good.old));
+        self.refuses(1, move |case| case.request.kind.is_line_switch() && such(case.old));
     }
 
     /// Such a case is taken for what this makes of it.
     pub fn takes(self, such: impl Such, change: impl Fn(&mut Request) + 'static) {
-        self.as_if(such, change, |_, _| {});
+        self.also(such, move |case| case.ask(&change));
     }
 
     /// Such a case is taken for what this makes of it, and the reader is mended as it is now, by what it was of old.
@@ -211,30 +227,26 @@ impl Row<'_> {
         change: impl Fn(&mut Request) + 'static,
         mend: impl Fn(&mut Reader, &Reader) + 'static,
     ) {
-        self.also(such, move |outcome, request| {
-            let mut asked = request.clone();
-            change(&mut asked);
-            *outcome = asked.carried_out();
-            mend(&mut outcome.reader, &request.reader);
+        self.also(such, move |case| {
+            case.ask(&change);
+            mend(&mut case.outcome.reader, case.old);
         });
     }
 
     /// The packet of such a case is taken for another, made of the reader of old and of it.
     pub fn takes_packet(self, such: impl Such, other: impl Fn(&Reader, &Packet) -> Vec<u8> + 'static) {
-        self.also(such, move |outcome, request| {
-            if let (end, Some(found)) = find(&request.run) {
-                let used = outcome.answer.used;
-                let mut asked = request.clone();
-                asked.run.splice(end - (found.content.len() + 11)..end, other(&request.reader, &found));
-                *outcome = asked.carried_out();
-                outcome.answer.used = used;
+        self.also(such, move |case| {
+            if let (end, Some(found)) = find(&case.request.run) {
+                let (start, used) = (end - (found.content.len() + 11), case.outcome.answer.used);
+                case.ask(|asked| drop(asked.run.splice(start..end, other(&asked.reader, &found))));
+                case.outcome.answer.used = used;
             }
         });
     }
 
     /// A command with a right sum that gets one of these codes is taken for one of another content.
     pub fn takes_content(self, command: u8, codes: &'static [u8], change: impl Fn(&mut Vec<u8>) + 'static) {
-        let such = move |good: &Good| !good.sum_wrong() && codes.iter().any(|&code| good.gets(command, code));
+        let such = move |case: &Case| !case.sum_wrong() && codes.iter().any(|&code| case.gets(command, code));
         self.takes_packet(such, move |_, found| {
             let mut content = found.content.to_vec();
             change(&mut content);
@@ -271,29 +283,9 @@ pub fn held_by(request: &Request) -> &Receiver {
 }
 
 /// The request refused with this number.
-fn refused_with(refusal: u8, request: &Request) -> Outcome {
+pub fn refused_with(refusal: u8, request: &Request) -> Outcome {
     let Request { kind, reader, room, .. } = request.clone();
     Outcome { answer: Answer::without_reply(refusal), receiver: kind.receiver().cloned(), reader, room }
-}
-
-/// Puts an acknowledge with this content in place of the reply.
-pub fn acknowledge(outcome: &mut Outcome, request: &Request, content: &[u8]) {
-    let reply = packet(outcome.reader.settings.address, ACKNOWLEDGE, content);
-    outcome.room = request.room.clone();
-    outcome.room[..reply.len()].copy_from_slice(&reply);
-    outcome.answer.length = reply.len();
-}
-
-/// Takes the reply away.
-pub fn silence(outcome: &mut Outcome, request: &Request) {
-    outcome.answer.length = 0;
-    outcome.room = request.room.clone();
-}
-
-/// Takes the reply and every effect away.
-pub fn ignore(outcome: &mut Outcome, request: &Request) {
-    silence(outcome, request);
-    outcome.reader = request.reader.clone();
 }
 
 /// The pages that the content of a DeletChar names.
