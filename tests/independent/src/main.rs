@@ -87,9 +87,9 @@ fn list_errors() -> Result<(), End> {
 fn refuse_errors() -> Result<(), End> {
     let extent = Extent { cases: COVERING_CASES, seed: 1, quiet: true };
     let mut refused = 0;
-    for wrong in &wrong::all() {
+    for wrong in wrong::all() {
         let name = &wrong.name;
-        match compare(wrong, extent) {
+        match compare(|request: &Request| wrong.carried_out(request), extent) {
             Err(End::Difference(_)) => refused += 1,
             Ok(_) | Err(End::Weakness(_)) => {
                 return Err(End::Difference(vec![format!("the deliberate error {name} is not refused")]))

@@ -2,10 +2,10 @@
 //! and both by chance.
 
 use crate::cases::chance::Chance;
-use crate::compare::frame::{Kind, Request};
-use crate::reader::*;
 use crate::cases::readers::{index_of, numbered_reader};
 use crate::cases::thousand::calls;
+use crate::compare::frame::{Kind, Request};
+use crate::reader::*;
 
 /// The lengths of the stored index and of the lent one.
 const STORED: [usize; 10] = [0, 1, 31, SHORT_INDEX, 33, 64, 96, 127, 128, 129];

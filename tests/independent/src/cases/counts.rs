@@ -1,9 +1,9 @@
 //! Indexes for document 02's request [4], in turn, each with the number of pages that it has stored.
 
-use crate::examples::{bytes, COUNT};
-use crate::compare::frame::{Kind, Request};
-use crate::reader::{Reader, MOST_PAGES, ROOM};
 use crate::cases::readers::{fresh_reader, index_of, FAR_CAPACITIES};
+use crate::compare::frame::{Kind, Request};
+use crate::examples::{bytes, COUNT};
+use crate::reader::{Reader, MOST_PAGES, ROOM};
 
 /// None, and all, of several readers; all pages of the last byte, of readers that end with each byte; and one page in every byte, of each
 /// weight. TempleteNum is asked.

@@ -1,11 +1,11 @@
 //! Cases at the limits of document 02's request [3], in turn: packets about the greatest lengths, and all size codes.
 
-use crate::cases::Author;
 use crate::cases::chance::Chance;
-use crate::compare::frame::{Kind, Request};
-use crate::reader::*;
 use crate::cases::readers::sized_reader;
+use crate::cases::Author;
+use crate::compare::frame::{Kind, Request};
 use crate::reader::receiver::{Receiver, HOLDS};
+use crate::reader::*;
 
 /// The identifiers of document 01, with one below and one above them.
 const IDENTIFIERS: [u8; 6] = [0, COMMAND, DATA, ACKNOWLEDGE, LAST_DATA, 9];

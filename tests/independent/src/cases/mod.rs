@@ -14,9 +14,9 @@ pub mod search;
 pub mod thousand;
 
 use crate::cases::chance::Chance;
+use crate::cases::readers::{address, any_legal_reader, capacity, password, size, spoiled_reader};
 use crate::compare::frame::{Kind, Outcome, Request, MOST_RUN};
 use crate::reader::*;
-use crate::cases::readers::{address, any_legal_reader, capacity, password, size, spoiled_reader};
 use std::collections::VecDeque;
 
 /// What happens to a reader in a dialogue.

@@ -1,11 +1,11 @@
 //! Cases of document 02's request [7], in turn: origins legal and not, and all that sets them, makes them none or
 //! leaves them.
 
-use crate::compare::frame::{Kind, Request};
-use crate::reader::*;
 use crate::cases::readers::{index_of, numbered_reader};
-use crate::reader::receiver::Receiver;
 use crate::cases::thousand::{calls, calls_with};
+use crate::compare::frame::{Kind, Request};
+use crate::reader::receiver::Receiver;
+use crate::reader::*;
 
 /// C of the readers.
 pub const CAPACITIES: [usize; 8] = [1, 8, 9, 64, 256, 257, 999, MOST_PAGES];

@@ -2,10 +2,10 @@
 //! bytes.
 
 use crate::cases::chance::Chance;
-use crate::compare::frame::{Kind, Request};
-use crate::reader::*;
 use crate::cases::readers::{index_of, numbered_reader, FAR_CAPACITIES};
+use crate::compare::frame::{Kind, Request};
 use crate::reader::receiver::Receiver;
+use crate::reader::*;
 
 /// A reader by its bytes of templates and its index, and a command.
 struct Case {

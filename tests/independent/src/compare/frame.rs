@@ -1,7 +1,7 @@
 //! The frames that a probe takes and gives. All numbers are high byte first.
 
-use crate::reader::{self, Answer, Chip, Mark, Origin, Reader, Settings, COMMAND, SEARCH};
 use crate::reader::receiver::{self, Receiver};
+use crate::reader::{self, Answer, Chip, Mark, Origin, Reader, Settings, COMMAND, SEARCH};
 use std::io::{Error, ErrorKind, Read, Result};
 
 /// What a frame in asks for, and of what.

@@ -33,6 +33,24 @@ pub trait Other {
     fn finish(self) -> Result<(), String>;
 }
 
+/// One inside this program, by what a frame out tells of it.
+impl<F: Fn(&Request) -> Outcome> Other for F {
+    fn ask(&mut self, request: &Request) -> Result<Outcome, String> {
+        let frame = self(request).frame();
+        let mut rest = &frame[..];
+        let outcome = Outcome::read(&mut rest, request).map_err(|error| error.to_string())?;
+        if rest.is_empty() {
+            Ok(outcome)
+        } else {
+            Err(format!("{} bytes after the answer", rest.len()))
+        }
+    }
+
+    fn finish(self) -> Result<(), String> {
+        Ok(())
+    }
+}
+
 /// Why a comparison ends without agreement.
 pub enum End {
     /// The two differ: a case, made small.
@@ -60,8 +78,7 @@ pub struct Extent {
 /// Puts the examples and the cases to the other; lines that tell of the agreement.
 pub fn compare<O: Other>(other: O, extent: Extent) -> Result<Vec<String>, End> {
     let Extent { cases, seed, quiet } = extent;
-    let mut comparer =
-        Comparer { other, readers: Tally::default(), receivers: Tally::default(), case: String::new() };
+    let mut comparer = Comparer { other, readers: Tally::default(), receivers: Tally::default(), case: String::new() };
     comparer.examples()?;
     (comparer.readers, comparer.receivers) = Default::default();
     comparer.by_chance(extent)?;

@@ -1,8 +1,8 @@
 //! Makes a case on which two readers differ small, as long as they still differ.
 
 use crate::compare::frame::{Outcome, Request};
-use crate::reader::*;
 use crate::reader::receiver::{Receiver, HOLDS};
+use crate::reader::*;
 
 /// The most cases that are tried.
 const TRIES: usize = 4000;

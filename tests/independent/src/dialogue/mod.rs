@@ -6,16 +6,16 @@ mod script;
 pub mod templates;
 
 use crate::cases::chance::Chance;
+use crate::cases::readers::fresh_reader;
+use crate::compare::frame::{Kind, Request};
+use crate::compare::report::hex;
 use crate::dialogue::coverage::Coverage;
+use crate::dialogue::host::Exchange;
 use crate::dialogue::script::dialogue;
 use crate::examples::{bytes, count, FINE};
-use crate::compare::frame::{Kind, Request};
-use crate::dialogue::host::Exchange;
-use crate::tally::kinds::{CODES, ON_A_LINE};
-use crate::reader::*;
-use crate::cases::readers::fresh_reader;
 use crate::reader::receiver::{given_whole, Receiver, Rest, HOLDS};
-use crate::compare::report::hex;
+use crate::reader::*;
+use crate::tally::kinds::{CODES, ON_A_LINE};
 use crate::tally::Tally;
 
 /// The pages of the bench program's templates.

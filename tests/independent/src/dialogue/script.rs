@@ -2,10 +2,10 @@
 //! document 01 and document 02's requests [2], [3], [5] to [8] and [13].
 
 use crate::dialogue::coverage::ROWS;
-use crate::examples::{bytes, count, COUNT, FINE, HAND_SHAKE};
 use crate::dialogue::host::{packet, Exchange, Host, FRESH};
-use crate::reader::{ACKNOWLEDGE, COMMAND, DATA, INDEX_PAGE, LAST_DATA, NOTE};
 use crate::dialogue::templates::{first, second, third};
+use crate::examples::{bytes, count, COUNT, FINE, HAND_SHAKE};
+use crate::reader::{ACKNOWLEDGE, COMMAND, DATA, INDEX_PAGE, LAST_DATA, NOTE};
 
 const OTHER: [u8; 4] = [0; 4];
 

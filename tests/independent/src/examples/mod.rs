@@ -4,10 +4,10 @@ mod origins;
 mod parameters;
 mod search;
 
-use crate::dialogue::host::{packet, FRESH};
-use crate::reader::{Reader, ACKNOWLEDGE, COMMAND, SET};
 use crate::cases::readers::fresh_reader;
+use crate::dialogue::host::{packet, FRESH};
 use crate::reader::receiver::Receiver;
+use crate::reader::{Reader, ACKNOWLEDGE, COMMAND, SET};
 
 /// A reader and what it is sent, step by step.
 pub struct Example {

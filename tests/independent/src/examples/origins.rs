@@ -1,9 +1,9 @@
 //! Examples of document 02's request [7]: what a host sees of it, and the origins in frames.
 
-use crate::examples::{bytes, exchange, Example, Frames};
-use crate::dialogue::host::{packet, FRESH};
-use crate::reader::{Reader, ACKNOWLEDGE, COMMAND, DATA, LAST_DATA, PAGE, ROOM, SET};
 use crate::cases::readers::{fresh_reader, index_of};
+use crate::dialogue::host::{packet, FRESH};
+use crate::examples::{bytes, exchange, Example, Frames};
+use crate::reader::{Reader, ACKNOWLEDGE, COMMAND, DATA, LAST_DATA, PAGE, ROOM, SET};
 
 /// A command's content, and the code that it gets.
 type Exchanges<'a> = &'a [(&'a str, u8)];

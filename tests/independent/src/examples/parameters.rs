@@ -1,9 +1,9 @@
 //! Examples of document 02's request [13]: what a fitter sees of a locked reader. In frames, `search` has it.
 
-use crate::examples::{bytes, example, exchange, locked, two_stored, zeroes, Example, Step, FINE, LOCKED, PARAMETERS};
-use crate::reader::{Origin, Reader, CLEAR, SET};
 use crate::cases::readers::{fresh_reader, index_of};
+use crate::examples::{bytes, example, exchange, locked, two_stored, zeroes, Example, Step, FINE, LOCKED, PARAMETERS};
 use crate::reader::receiver::Receiver;
+use crate::reader::{Origin, Reader, CLEAR, SET};
 
 const SET_PASSWORD_0: &str = "EF 01 A 01 00 07 12 00 00 00 00 00 1A";
 const SET_PASSWORD_5: &str = "EF 01 A 01 00 07 12 00 00 00 05 00 1F";

@@ -1,11 +1,11 @@
 //! Examples of document 02's request [8]: what a host sees of a Search, and in frames the Search and the status word, the
 //! latter with request [13] too.
 
-use crate::examples::{bytes, exchange, Example, Frames};
-use crate::dialogue::host::{packet, FRESH};
-use crate::reader::{Chip, Reader, ACKNOWLEDGE, COMMAND, DATA, LAST_DATA, PAGE, ROOM, SET};
 use crate::cases::readers::{fresh_reader, index_of};
+use crate::dialogue::host::{packet, FRESH};
+use crate::examples::{bytes, exchange, Example, Frames};
 use crate::reader::receiver::HOLDS;
+use crate::reader::{Chip, Reader, ACKNOWLEDGE, COMMAND, DATA, LAST_DATA, PAGE, ROOM, SET};
 
 /// A command's content, and what the acknowledge has.
 type Exchanges<'a> = &'a [(&'a str, &'a str)];

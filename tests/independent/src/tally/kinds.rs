@@ -1,10 +1,10 @@
 //! What is counted of the calls, and which of it must occur.
 
 use crate::cases::origins::CAPACITIES as CAPACITIES_IN_TURN;
-use crate::reader::*;
 use crate::cases::readers::FAR_CAPACITIES;
-use crate::reader::receiver::HOLDS;
 use crate::cases::receivers::MOST_PIECE;
+use crate::reader::receiver::HOLDS;
+use crate::reader::*;
 use Awaited::{Codes, Numbers, UpTo};
 
 /// Something to count, and which of it must occur.

@@ -6,9 +6,9 @@ mod parameters;
 mod search;
 
 use crate::compare::frame::{self, Outcome, Request};
-use crate::tally::kinds::{Awaited::UpTo, *};
-use crate::reader::*;
 use crate::reader::receiver::Receiver;
+use crate::reader::*;
+use crate::tally::kinds::{Awaited::UpTo, *};
 use crate::tally::parameters::Done;
 use std::collections::BTreeMap;
 

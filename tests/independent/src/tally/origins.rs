@@ -1,8 +1,8 @@
 //! Counts what the calls met and brought about of the origins of document 02's request [7].
 
 use crate::compare::frame::{self, Outcome, Request};
-use crate::tally::kinds::*;
 use crate::reader::*;
+use crate::tally::kinds::*;
 use crate::tally::{refused_for, Tally};
 
 impl Tally {

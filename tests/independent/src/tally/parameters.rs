@@ -1,8 +1,8 @@
 //! Counts what the calls met and brought about of document 02's request [13]: the lock, and what ReadSysPara tells.
 
 use crate::compare::frame::{Outcome, Request};
-use crate::tally::kinds::*;
 use crate::reader::*;
+use crate::tally::kinds::*;
 use crate::tally::Tally;
 
 /// What was done to a reader before a ReadSysPara.

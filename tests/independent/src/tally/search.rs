@@ -2,8 +2,8 @@
 //! found mark.
 
 use crate::compare::frame::{self, Outcome, Request};
-use crate::tally::kinds::*;
 use crate::reader::*;
+use crate::tally::kinds::*;
 use crate::tally::{refused_for, Tally};
 use std::ops::Range;
 

@@ -1,4 +1,4 @@
-//! Readers and receivers with one deliberate error each. Each is a row: its name, where its error shows, and what it
+//! Readers and receivers with one deliberate error each. Each is a row: where its error shows, its name, and what it
 //! makes of a request, in the words of `words`.
 
 mod basics;
@@ -6,76 +6,53 @@ mod bringing_over;
 mod chips;
 mod found;
 mod limits;
-mod lock;
 mod origins;
 mod parameters;
 mod receivers;
-mod refusals;
 mod search;
-mod stores;
 mod thousand;
 mod wipes;
 mod words;
 
-use crate::compare::frame::{Kind, Outcome, Request};
-use crate::compare::Other;
-use crate::reader::*;
-use std::rc::Rc;
-use words::{inside, Makes};
+use words::*;
 
 /// One with a deliberate error.
 pub struct Wrong {
     pub name: String,
-    of: Of,
+    shows: Shows,
+    /// The requests that go wrong.
+    such: fn(&Request) -> bool,
     makes: Rc<dyn Fn(&Request) -> Outcome>,
 }
 
 /// Where an error shows.
-#[derive(PartialEq)]
-enum Of {
-    /// In calls and line switches without a receiver.
-    Reader,
-    /// In calls and line switches of a receiver.
-    Receiver,
-    /// Where fresh settings are asked for.
-    Fresh,
-    /// Where an index is brought over.
-    BringingOver,
-}
+type Shows = fn(&Kind) -> bool;
+const WITHOUT_RECEIVER: Shows = |kind| matches!(kind, Kind::Call | Kind::LineSwitch);
+const WITH_RECEIVER: Shows = |kind| matches!(kind, Kind::ReceiverCall(_) | Kind::ReceiverLineSwitch(_));
+const FRESH: Shows = |kind| *kind == Kind::FreshSettings;
+const BRINGING_OVER: Shows = |kind| *kind == Kind::BringOver;
 
 /// All wrong ones.
 pub fn all() -> Vec<Wrong> {
-    let tables = [
-        basics::add,
-        receivers::add,
-        limits::add,
-        stores::add,
-        thousand::add,
-        bringing_over::add,
-        origins::add,
-        wipes::add,
-        refusals::add,
-        search::add,
-        found::add,
-        chips::add,
-        lock::add,
-        parameters::add,
-    ];
     let mut rows = Rows(Vec::new());
-    tables.iter().for_each(|add| add(&mut rows));
+    basics::add(&mut rows);
+    receivers::add(&mut rows);
+    limits::add(&mut rows);
+    thousand::add(&mut rows);
+    bringing_over::add(&mut rows);
+    origins::add(&mut rows);
+    wipes::add(&mut rows);
+    search::add(&mut rows);
+    found::add(&mut rows);
+    chips::add(&mut rows);
+    parameters::add(&mut rows);
     rows.0
 }
 
 impl Wrong {
     /// What it makes of a request: the same as the good one where its error does not show.
     pub fn carried_out(&self, request: &Request) -> Outcome {
-        let of = match request.kind {
-            Kind::Call | Kind::LineSwitch => Of::Reader,
-            Kind::ReceiverCall(_) | Kind::ReceiverLineSwitch(_) => Of::Receiver,
-            Kind::FreshSettings => Of::Fresh,
-            Kind::BringOver => Of::BringingOver,
-        };
-        if of == self.of {
+        if (self.shows)(&request.kind) && (self.such)(request) {
             (self.makes)(request)
         } else {
             request.carried_out()
@@ -83,74 +60,66 @@ impl Wrong {
     }
 }
 
-impl Other for &Wrong {
-    /// What a frame out tells of it.
-    fn ask(&mut self, request: &Request) -> Result<Outcome, String> {
-        let frame = self.carried_out(request).frame();
-        let mut rest = &frame[..];
-        let outcome = Outcome::read(&mut rest, request).map_err(|error| error.to_string())?;
-        if rest.is_empty() {
-            Ok(outcome)
-        } else {
-            Err(format!("{} bytes after the answer", rest.len()))
-        }
-    }
+/// The rows so far.
+pub struct Rows(Vec<Wrong>);
 
-    fn finish(self) -> Result<(), String> {
-        Ok(())
-    }
+/// A row that is begun: its names, and the requests that go wrong.
+pub struct Row<'a> {
+    rows: &'a mut Vec<Wrong>,
+    names: Vec<Name>,
+    such: fn(&Request) -> bool,
 }
 
-/// The rows so far.
-struct Rows(Vec<Wrong>);
+/// A name, where the error shows, and whether it is that of a reader inside of a receiver.
+type Name = (String, Shows, bool);
 
 impl Rows {
-    fn reader(&mut self, name: impl Into<String>, makes: impl Makes) {
-        self.row(name.into(), Of::Reader, Rc::new(makes));
+    fn reader(&mut self, name: impl Into<String>) -> Row<'_> {
+        self.begin(vec![(name.into(), WITHOUT_RECEIVER, false)])
     }
 
-    fn receiver(&mut self, name: impl Into<String>, makes: impl Makes) {
-        self.row(name.into(), Of::Receiver, Rc::new(makes));
+    fn receiver(&mut self, name: impl Into<String>) -> Row<'_> {
+        self.begin(vec![(name.into(), WITH_RECEIVER, false)])
+    }
+
+    /// A receiver with a wrong reader inside.
+    fn inside(&mut self, name: impl Into<String>) -> Row<'_> {
+        self.begin(vec![(name.into(), WITH_RECEIVER, true)])
     }
 
     /// A reader, and a receiver with this reader inside.
-    fn both(&mut self, name: impl Into<String>, makes: impl Makes) {
-        let (name, makes) = (name.into(), Rc::new(makes));
-        let reader = Rc::clone(&makes);
-        self.receiver(format!("receiver-{name}"), inside(move |request: &Request| reader(request)));
-        self.row(name, Of::Reader, makes);
+    fn both(&mut self, name: impl Into<String>) -> Row<'_> {
+        let name = name.into();
+        self.begin(vec![(format!("receiver-{name}"), WITH_RECEIVER, true), (name, WITHOUT_RECEIVER, false)])
     }
 
-    fn fresh(&mut self, name: impl Into<String>, makes: impl Makes) {
-        self.row(name.into(), Of::Fresh, Rc::new(makes));
+    fn fresh(&mut self, name: impl Into<String>) -> Row<'_> {
+        self.begin(vec![(name.into(), FRESH, false)])
     }
 
-    fn bringing_over(&mut self, name: impl Into<String>, makes: impl Makes) {
-        self.row(name.into(), Of::BringingOver, Rc::new(makes));
+    fn over(&mut self, name: impl Into<String>) -> Row<'_> {
+        self.begin(vec![(name.into(), BRINGING_OVER, false)])
     }
 
-    fn row(&mut self, name: String, of: Of, makes: Rc<dyn Fn(&Request) -> Outcome>) {
-        self.0.push(Wrong { name, of, makes });
+    fn begin(&mut self, names: Vec<Name>) -> Row<'_> {
+        Row { rows: &mut self.0, names, such: |_| true }
     }
 }
 
-/// The commands as the rows name them.
-const NAMED: [(&str, u8); COMMANDS.len()] = [
-    ("search", SEARCH),
-    ("store", STORE),
-    ("load-char", LOAD_CHAR),
-    ("up-char", UP_CHAR),
-    ("down-char", DOWN_CHAR),
-    ("delet-char", DELET_CHAR),
-    ("empty", EMPTY),
-    ("set-sys-para", SET_SYS_PARA),
-    ("read-sys-para", READ_SYS_PARA),
-    ("set-pwd", SET_PWD),
-    ("vfy-pwd", VFY_PWD),
-    ("set-adder", SET_ADDER),
-    ("write-notepad", WRITE_NOTEPAD),
-    ("read-notepad", READ_NOTEPAD),
-    ("templete-num", TEMPLETE_NUM),
-    ("read-index-table", READ_INDEX_TABLE),
-    ("hand-shake", HAND_SHAKE),
-];
+impl Row<'_> {
+    /// Such requests alone go wrong.
+    fn only(self, such: fn(&Request) -> bool) -> Self {
+        Row { such, ..self }
+    }
+
+    /// The row as a whole: what the wrong one makes of a request.
+    fn makes(self, makes: impl Makes) {
+        let makes: Rc<dyn Fn(&Request) -> Outcome> = Rc::new(makes);
+        for (name, shows, inside) in self.names {
+            let reader = Rc::clone(&makes);
+            let inner = move |request: &Request| reader(request);
+            let makes = if inside { Rc::new(holds(HOLDS, inner)) } else { Rc::clone(&makes) };
+            self.rows.push(Wrong { name, shows, such: self.such, makes });
+        }
+    }
+}

@@ -1,145 +1,102 @@
 //! Errors in the receiver of document 02's request [1], with the held bytes of its request [3].
 
 use super::words::*;
-use super::Rows;
-use crate::compare::frame::{Kind, Outcome, Request};
-use crate::reader::receiver::{Receiver, HOLDS};
-use crate::reader::*;
+
+/// The held count before is legal.
+pub const FIT_COUNT: Pick = |case| held_by(case.request).legal();
+const REFUSED_FIT: Pick = |case| CALL_REFUSED(case) && FIT_COUNT(case);
+/// A call that drops bytes, one that drops some but not all, and one that drops none.
+const DROPS: Pick = |case| CALLED(case) && left(&case.outcome).len() < case.request.whole_run().len();
+const DROPS_SOME: Pick = |case| DROPS(case) && !left(&case.outcome).is_empty();
+const KEEPS_ALL: Pick = |case| CALLED(case) && !DROPS(case);
 
 pub fn add(rows: &mut Rows) {
     // What is taken, dropped and told.
-    rows.receiver("holds-265", holds(265, Request::carried_out));
-    rows.receiver("holds-266", holds(266, Request::carried_out));
-    rows.receiver("holds-268", holds(268, Request::carried_out));
-    rows.receiver("drops-one-more", left(drops_some, |now, _, _| *now = Receiver::holding(&now.held()[1..])));
-    rows.receiver("keeps-used", left(called, |now, _, run| *now = Receiver::holding(run)));
-    rows.receiver("drops-unfinished-265", left(unfinished(265), empty));
-    rows.receiver("drops-unfinished-266", left(unfinished(266), empty));
-    rows.receiver("says-used-for-taken", also(called, tell_dropped_bytes));
-    rows.receiver("answers-two", answers_two);
-
+    for most in [265, 266, 268] {
+        rows.receiver(format!("holds-{most}")).makes(holds(most, Request::carried_out));
+    }
+    rows.receiver("drops-one-more").keeps(DROPS_SOME, |now, _, _| *now = Receiver::holding(&now.held()[1..]));
+    rows.receiver("keeps-used").keeps(CALLED, |now, _, run| *now = Receiver::holding(run));
+    for bytes in [265, 266] {
+        let unfinished = move |left: &[u8]| left.len() == bytes && find(left).0 == 0;
+        rows.receiver(format!("drops-unfinished-{bytes}"))
+            .keeps(move |case| CALLED(case) && unfinished(left(&case.outcome)), |now, _, _| *now = Receiver::empty());
+    }
+    rows.receiver("says-used-for-taken")
+        .also(CALLED, |case| case.outcome.answer.used = case.request.whole_run().len() - left(&case.outcome).len());
+    rows.receiver("answers-two").also(REPLIED, answer_next);
     // The cells past the held bytes.
-    rows.receiver("used-byte-past-count", left(drops, |now, _, run| now.cells[run.len() - 1] = run[run.len() - 1]));
-    rows.receiver("keeps-cells-past-count", left(|good| good.called() && !drops(good), keep_cells_past));
-    rows.receiver("keeps-cells-past-bytes", left(drops, keep_cells_past));
-    rows.receiver("call-keeps-last-two-cells", left(called, keep_last_two_cells));
-    rows.receiver("switch-keeps-last-two-cells", left(switched, keep_last_two_cells));
-
+    rows.receiver("used-byte-past-count").keeps(DROPS, |now, _, run| now.cells[run.len() - 1] = run[run.len() - 1]);
+    rows.receiver("keeps-cells-past-count").keeps(KEEPS_ALL, |now, old, run| keep_cells(run.len(), now, old));
+    rows.receiver("keeps-cells-past-bytes").keeps(DROPS, |now, old, run| keep_cells(run.len(), now, old));
+    rows.receiver("call-keeps-last-two-cells").keeps(CALLED, |now, old, _| keep_cells(HOLDS - 2, now, old));
+    rows.receiver("switch-keeps-last-two-cells").keeps(SWITCHED, |now, old, _| keep_cells(HOLDS - 2, now, old));
     // Refusals.
-    rows.receiver("refuses-267", with_count(|count| if count > 266 { u16::MAX } else { count }));
-    rows.receiver("refuses-above-265", with_count(|count| if count > 265 { u16::MAX } else { count }));
-    rows.receiver("takes-any-count", with_count(|count| count.min(HOLDS as u16)));
-    rows.receiver("takes-count-268", with_count(|count| if count == 268 { 267 } else { count }));
-    rows.receiver("count-before-lengths", refuses(3, |good| good.refusal() == 1 && call_of_unfit_count(good)));
-    rows.receiver("count-before-room", refuses(3, |good| good.refusal() == 2 && call_of_unfit_count(good)));
-    rows.receiver("room-before-lengths", refuses(2, |good| call_refused(good) && good.request.room.len() < ROOM));
-    rows.receiver("refused-takes-piece", also(refused_with_fit_count, take_piece));
-    rows.receiver("refused-empties", left(call_refused, empty));
-    rows.receiver(
-        "refused-zeroes-past-count",
-        left(refused_with_fit_count, |now, _, _| *now = Receiver::holding(now.held())),
-    );
-
+    rows.receiver("refuses-267").takes_count(|count| if count > 266 { u16::MAX } else { count });
+    rows.receiver("refuses-above-265").takes_count(|count| if count > 265 { u16::MAX } else { count });
+    rows.receiver("takes-any-count").takes_count(|count| count.min(HOLDS as u16));
+    rows.receiver("takes-count-268").takes_count(|count| if count == 268 { 267 } else { count });
+    rows.receiver("count-before-lengths").refuses(3, |case| CALL(case) && !FIT_COUNT(case) && case.refusal == 1);
+    rows.receiver("count-before-room").refuses(3, |case| CALL(case) && !FIT_COUNT(case) && case.refusal == 2);
+    rows.receiver("room-before-lengths").refuses(2, |case| CALL_REFUSED(case) && case.request.room.len() < ROOM);
+    rows.receiver("refused-takes-piece").also(REFUSED_FIT, take_piece);
+    rows.receiver("refused-empties").keeps(CALL_REFUSED, |now, _, _| *now = Receiver::empty());
+    rows.receiver("refused-zeroes-past-count").keeps(REFUSED_FIT, |now, _, _| *now = Receiver::holding(now.held()));
     // The line switch.
-    rows.receiver("refused-switch-empties", left(switch_refused, empty));
-    rows.receiver("switch-keeps-held", left(switched, |now, old, _| *now = old.clone()));
-    rows.receiver("switch-keeps-cells", left(switched, |now, old, _| now.cells = old.cells));
-    rows.receiver("switch-refuses-count", refuses(3, |good| good.switched() && !held_by(good.request).legal()));
+    rows.receiver("refused-switch-empties").keeps(SWITCH_REFUSED, |now, _, _| *now = Receiver::empty());
+    rows.receiver("switch-keeps-held").keeps(SWITCHED, |now, old, _| *now = old.clone());
+    rows.receiver("switch-keeps-cells").keeps(SWITCHED, |now, old, _| now.cells = old.cells);
+    rows.receiver("switch-refuses-count").refuses(3, |case| SWITCHED(case) && !FIT_COUNT(case));
 }
 
-/// Such a case also has this effect on the receiver as it is now, by what it was of old and by all bytes of the call.
-pub fn left(such: impl Such, effect: impl Fn(&mut Receiver, &Receiver, &[u8]) + 'static) -> impl Makes {
-    also(such, move |outcome, request| {
-        outcome.receiver.iter_mut().for_each(|now| effect(now, held_by(request), &request.whole_run()));
-    })
+impl Row<'_> {
+    /// Such a case also has this effect on the receiver as it is now, by what it was of old and by all bytes of the call.
+    pub fn keeps(self, such: impl Such, effect: fn(&mut Receiver, &Receiver, &[u8])) {
+        self.also(such, move |case| {
+            let (old, run) = (held_by(case.request), case.request.whole_run());
+            case.outcome.receiver.iter_mut().for_each(|now| effect(now, old, &run));
+        });
+    }
+
+    /// A call takes the held count for another.
+    fn takes_count(self, other: fn(u16) -> u16) {
+        self.also(CALL, move |case| {
+            case.ask(|asked| asked.kind.receiver_mut().into_iter().for_each(|held| held.count = other(held.count)));
+            if case.refusal != 0 {
+                case.outcome.receiver = Some(held_by(case.request).clone());
+            }
+        });
+    }
 }
 
 /// The bytes that are held afterwards.
-fn held_after(outcome: &Outcome) -> &[u8] {
+fn left(outcome: &Outcome) -> &[u8] {
     outcome.receiver.as_ref().map_or(&[], Receiver::held)
 }
 
-/// A call that drops bytes.
-fn drops(good: &Good) -> bool {
-    good.called() && held_after(&good.outcome).len() < good.request.whole_run().len()
-}
-
-/// A call that drops bytes, but not all.
-fn drops_some(good: &Good) -> bool {
-    drops(good) && !held_after(&good.outcome).is_empty()
-}
-
-/// A call that leaves an unfinished packet of so many bytes.
-fn unfinished(bytes: usize) -> impl Such {
-    move |good: &Good| {
-        let left = held_after(&good.outcome);
-        good.called() && left.len() == bytes && find(left).0 == 0
-    }
-}
-
-fn call_of_unfit_count(good: &Good) -> bool {
-    good.request.kind.is_call() && !held_by(good.request).legal()
-}
-
-fn refused_with_fit_count(good: &Good) -> bool {
-    call_refused(good) && held_by(good.request).legal()
-}
-
-pub fn empty(now: &mut Receiver, _: &Receiver, _: &[u8]) {
-    *now = Receiver::empty();
-}
-
-/// The cells past all bytes of the call stay as they were.
-fn keep_cells_past(now: &mut Receiver, old: &Receiver, run: &[u8]) {
-    now.cells[run.len()..].copy_from_slice(&old.cells[run.len()..]);
-}
-
-/// No cell past the first 265 is zeroed.
-fn keep_last_two_cells(now: &mut Receiver, old: &Receiver, _: &[u8]) {
-    let first = now.held().len().max(HOLDS - 2);
+/// The cells from this one on that are past the count stay as they were.
+fn keep_cells(first: usize, now: &mut Receiver, old: &Receiver) {
+    let first = first.max(now.held().len());
     now.cells[first..].copy_from_slice(&old.cells[first..]);
 }
 
-/// The bytes that were dropped are told for those that were taken.
-fn tell_dropped_bytes(outcome: &mut Outcome, request: &Request) {
-    outcome.answer.used = request.whole_run().len() - held_after(outcome).len();
-}
-
 /// What fits of the piece is taken.
-pub fn take_piece(outcome: &mut Outcome, request: &Request) {
-    let run = request.whole_run();
-    outcome.answer.used = run.len() - held_by(request).held().len();
-    outcome.receiver = Some(Receiver::holding(&run));
+pub fn take_piece(case: &mut Case) {
+    let run = case.request.whole_run();
+    case.outcome.answer.used = run.len() - held_by(case.request).held().len();
+    case.outcome.receiver = Some(Receiver::holding(&run));
 }
 
-/// Answers the next packet that it holds too, if the room allows it.
-fn answers_two(request: &Request) -> Outcome {
-    let mut first = request.carried_out();
-    let Answer { used, length, .. } = first.answer;
+/// The next packet that is held is answered too, if the room allows it.
+fn answer_next(case: &mut Case) {
+    let first = &case.outcome;
     let (kind, reader) = (Kind::call(first.receiver.clone()), first.reader.clone());
     let mut second = Request { kind, reader, run: Vec::new(), room: vec![0; ROOM] }.carried_out();
-    let both = length + second.answer.length;
-    if length == 0 || length == both || both > first.room.len() {
-        return first;
-    }
-    first.room[length..both].copy_from_slice(&second.room[..both - length]);
-    second.room = first.room;
-    second.answer = Answer { refusal: 0, used, length: both };
-    second
-}
-
-/// A call takes the held count for another.
-fn with_count(other: fn(u16) -> u16) -> impl Makes {
-    move |request: &Request| {
-        let old = held_by(request);
-        let mut asked = request.clone();
-        if request.kind.is_call() {
-            asked.kind = Kind::ReceiverCall(Receiver { count: other(old.count), ..old.clone() });
-        }
-        let mut outcome = asked.carried_out();
-        if outcome.answer.refusal != 0 {
-            outcome.receiver = Some(old.clone());
-        }
-        outcome
+    let Answer { used, length, .. } = first.answer;
+    let (mut room, both) = (first.room.clone(), length + second.answer.length);
+    if length < both && both <= room.len() {
+        room[length..both].copy_from_slice(&second.room[..both - length]);
+        second.answer = Answer { refusal: 0, used, length: both };
+        case.outcome = Outcome { room, ..second };
     }
 }
