@@ -72,6 +72,13 @@ pub const HEAD: usize = 9;
 
 pub const FRAME: usize = 11;
 
+// Where the address, the identifier and the length field stand in a packet: addressAt, identifierAt and lengthAt of the definitions.
+pub const ADDRESS_AT: usize = 2;
+
+pub const IDENTIFIER_AT: usize = 6;
+
+pub const LENGTH_AT: usize = 7;
+
 // The least length field; the greatest, which data packets have (request [3]); and that of commands and acknowledges.
 pub const SHORTEST: usize = 3;
 

@@ -16,7 +16,7 @@ ghost use Rattle.reader.specs.Commands.{CommandNeeds};
 ghost use Rattle.reader.specs.Calls.{Lies, HearNeeds, called, switched, lengthsFit, carriedOf};
 use crate::answers;
 use crate::answers::Answer;
-use crate::bytes;
+use crate::fields;
 use crate::origins;
 use crate::reply;
 use crate::table;
@@ -76,7 +76,7 @@ fn is_ours(settings: Settings, run: &[u8], at: usize) -> bool
     requires { ⌜ at + 6 ≤ length (now run) ⌝ }
     ensures { λ r. ⌜ r ≡ same (addressAt (now (run .entry)) at) (settings .address) ⌝ }
 {
-    let a = bytes::four_at(run, at + 2);
+    let a = fields::four_at(run, at + 2);
     let b = settings.address;
     wire::bytes::is_same(a, b)
 }
@@ -89,7 +89,7 @@ fn is_right(run: &[u8], at: usize, len: usize) -> bool
     let from = at + numbers::HEAD;
     let to = from + (len - 2);
     let s = builder::packet_sum(run[at + 6], &run[from..to]);
-    let w = bytes::word_at(run, at + 7 + len);
+    let w = fields::word_at(run, at + 7 + len);
     w == s
 }
 
