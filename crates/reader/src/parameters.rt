@@ -64,7 +64,8 @@ pub(crate) fn set_parameter(settings: Settings, k: u8, v: u8) -> Answer
 fn status(verified: bool, found: bool) -> usize
     ensures { λ r. ⌜ (r ≡ statusOf verified found) × (r ≤ 6) ⌝ }
 {
-    4 * bytes::wide(bytes::flag(verified)) + 2 * bytes::wide(bytes::flag(found))
+    numbers::VERIFIED_STATUS * bytes::wide(bytes::flag(verified))
+        + numbers::FOUND_STATUS * bytes::wide(bytes::flag(found))
 }
 
 // The sixteen bytes of ReadSysPara, and sixteen zeros.
