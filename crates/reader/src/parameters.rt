@@ -78,7 +78,8 @@ fn parameter_bytes(
     size: usize,
     baud: usize,
 ) -> [u8; 32]
-    ensures { λ r. ⌜ take 16 r ≡ joined (two status ∷ two sensor ∷ two pages ∷ two level ∷ address ∷ two size ∷ two baud ∷ []) ⌝ }
+    ensures { λ r. ⌜ take 16 r
+        ≡ joined (two status ∷ two sensor ∷ two pages ∷ two level ∷ address ∷ two size ∷ two baud ∷ []) ⌝ }
 {
     [
         (status / 256 % 256) as u8,

@@ -52,7 +52,8 @@ pub fn is_same(a: [u8; 4], b: [u8; 4]) -> bool
 // Lays src over dst from place at on, and returns the place after it.
 pub(crate) fn lay_at(dst: &mut [u8], at: usize, src: &[u8]) -> usize
     requires { ⌜ at + length (now src) ≤ length (now dst) ⌝ }
-    ensures { λ r. ⌜ Laid (at + length (now (src .entry))) at (now (src .entry)) (now (dst .entry)) r (now (dst .exit)) ⌝ }
+    ensures { λ r. ⌜ Laid (at + length (now (src .entry))) at
+        (now (src .entry)) (now (dst .entry)) r (now (dst .exit)) ⌝ }
 {
     let mut i = 0;
     while i < src.len() {
