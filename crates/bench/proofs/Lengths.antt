@@ -39,9 +39,6 @@ module _ (n : ℕ) (x y : List ℕ) (h : n ≤ length x) (e : length y ≡ lengt
   pub front-long : n ≡ length (take n y)
   front-long = sym (length-take-le n y (omega arith))
 
-pub front-most : (m n l : ℕ) (y : List ℕ) → m ≤ length (take n y) → n ≤ l → length y ≡ l → m ≤ n
-front-most m n l y k h e = let all = length-take-le n y (omega arith) in omega arith
-
 -- a place in the run s, and n bytes of what is left of it
 module _ (s : List ℕ) (from n : ℕ) (h : from ≤ length s) (u : n ≤ length (take (length s - from) (drop from s))) where
   pub further : from + n ≤ length s
@@ -49,6 +46,3 @@ module _ (s : List ℕ) (from n : ℕ) (h : from ≤ length s) (u : n ≤ length
 
   pub place-fits : length s < wrapsAt → Fits w64 (from + n)
   place-fits w = let l = further in omega arith
-
-  pub nearer : (n ≡ 0 → ⊥) → length s - (from + n) < length s - from
-  nearer o = let l = further in omega arith

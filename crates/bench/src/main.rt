@@ -35,7 +35,9 @@ struct Line {
 // The line that the program starts with. It is lent the memory so that its contract can speak of the whole reader.
 fn start(templates: &[u8], index: &[u8], notepad: &[u8], buffer1: &[u8], buffer2: &[u8]) -> Line
     requires { ⌜ Zeroed (now templates) (now index) (now notepad) (now buffer1) (now buffer2) ⌝ }
-    ensures { λ r. ⌜ line (readerOf (r .settings) (now (templates .entry)) (now (index .entry)) (now (notepad .entry)) (now (buffer1 .entry)) (now (buffer2 .entry))) (r .receiver) ≡ started ⌝ }
+    ensures { λ r. ⌜ line
+        (readerOf (r .settings) (now (templates .entry)) (now (index .entry)) (now (notepad .entry)) (now (buffer1 .entry)) (now (buffer2 .entry)))
+        (r .receiver) ≡ started ⌝ }
 {
     Line {
         receiver: receiver::empty(),
@@ -56,7 +58,11 @@ fn answer(
     piece: &[u8],
     reply: &mut [u8],
 ) -> Line
-    ensures { λ r. ⌜ (r .is_open ≡ true → Drained (line (readerOf settings (now (templates .entry)) (now (index .entry)) (now (notepad .entry)) (now (buffer1 .entry)) (now (buffer2 .entry))) receiver) (now (piece .entry)) (line (readerOf (r .settings) (now (templates .exit)) (now (index .exit)) (now (notepad .exit)) (now (buffer1 .exit)) (now (buffer2 .exit))) (r .receiver))) ⌝ }
+    ensures { λ r. ⌜ (r .is_open ≡ true → Drained
+        (line (readerOf settings (now (templates .entry)) (now (index .entry)) (now (notepad .entry)) (now (buffer1 .entry)) (now (buffer2 .entry)))
+        receiver) (now (piece .entry))
+        (line (readerOf (r .settings) (now (templates .exit)) (now (index .exit)) (now (notepad .exit)) (now (buffer1 .exit)) (now (buffer2 .exit)))
+        (r .receiver))) ⌝ }
 {
     let mut held = receiver;
     let mut current = settings;

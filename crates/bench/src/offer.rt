@@ -25,7 +25,10 @@ pub(crate) fn offer(
     piece: &[u8],
     reply: &mut [u8],
 ) -> Received
-    ensures { λ r. ⌜ Offered (line (readerOf settings (now (templates .entry)) (now (index .entry)) (now (notepad .entry)) (now (buffer1 .entry)) (now (buffer2 .entry))) receiver) (now (piece .entry)) (lentOf noScores noThresholds (now (reply .entry))) (receivedOf r (now (templates .exit)) (now (index .exit)) (now (notepad .exit)) (now (buffer1 .exit)) (now (buffer2 .exit)) (now (reply .exit))) ⌝ }
+    ensures { λ r. ⌜ Offered
+        (line (readerOf settings (now (templates .entry)) (now (index .entry)) (now (notepad .entry)) (now (buffer1 .entry)) (now (buffer2 .entry))) receiver)
+        (now (piece .entry)) (lentOf noScores noThresholds (now (reply .entry)))
+        (receivedOf r (now (templates .exit)) (now (index .exit)) (now (notepad .exit)) (now (buffer1 .exit)) (now (buffer2 .exit)) (now (reply .exit))) ⌝ }
 {
     let scores = [0u16; PAGES];
     let thresholds = [0u16; numbers::LEVELS];

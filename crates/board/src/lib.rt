@@ -43,7 +43,8 @@ pub extern "C" fn bystrodol_build(
     content: &[u8],
     room: &mut [u8],
 ) -> usize
-    ensures { λ r. ⌜ (let m = buildService address identifier (now (content .entry)) (now (room .entry)) in (r ≡ m .length) × (now (room .exit) ≡ m .room)) ⌝ }
+    ensures { λ r. ⌜ (let m = buildService address identifier (now (content .entry)) (now (room .entry)) in
+        (r ≡ m .length) × (now (room .exit) ≡ m .room)) ⌝ }
 {
     let four = [
         (address / 16777216 % 256) as u8,
@@ -85,7 +86,11 @@ pub extern "C" fn bystrodol_receive(
     piece: &[u8],
     reply: &mut [u8],
 ) -> Taken
-    ensures { λ r. ⌜ receivedOf (receivedAt (now (line .exit)) r) (now (templates .exit)) (now (index .exit)) (now (notepad .exit)) (now (buffer1 .exit)) (now (buffer2 .exit)) (now (reply .exit)) ≡ receiveOf core (lineOf (now (line .entry)) (now (templates .entry)) (now (index .entry)) (now (notepad .entry)) (now (buffer1 .entry)) (now (buffer2 .entry))) (now (piece .entry)) (lentOf (now (scores .entry)) (now (thresholds .entry)) (now (reply .entry))) ⌝ }
+    ensures { λ r. ⌜ receivedOf (receivedAt (now (line .exit)) r)
+        (now (templates .exit)) (now (index .exit)) (now (notepad .exit)) (now (buffer1 .exit)) (now (buffer2 .exit)) (now (reply .exit))
+        ≡ receiveOf core
+        (lineOf (now (line .entry)) (now (templates .entry)) (now (index .entry)) (now (notepad .entry)) (now (buffer1 .entry)) (now (buffer2 .entry)))
+        (now (piece .entry)) (lentOf (now (scores .entry)) (now (thresholds .entry)) (now (reply .entry))) ⌝ }
 {
     let received = receiver::receive(
         *line,
@@ -114,7 +119,9 @@ pub extern "C" fn bystrodol_receiver_switch(
     buffer1: &mut [u8],
     buffer2: &mut [u8],
 ) -> u8
-    ensures { λ r. ⌜ ((t i n : List ℕ) → emptiedOf (emptiedAt (now (line .exit)) r) t i n (now (buffer1 .exit)) (now (buffer2 .exit)) ≡ lineSwitchOf (lineOf (now (line .entry)) t i n (now (buffer1 .entry)) (now (buffer2 .entry)))) ⌝ }
+    ensures { λ r. ⌜ ((t i n : List ℕ)
+        → emptiedOf (emptiedAt (now (line .exit)) r) t i n (now (buffer1 .exit)) (now (buffer2 .exit))
+        ≡ lineSwitchOf (lineOf (now (line .entry)) t i n (now (buffer1 .entry)) (now (buffer2 .entry)))) ⌝ }
 {
     let emptied = receiver::line_switch(*line, buffer1, buffer2);
     *line = emptied.line;

@@ -54,7 +54,8 @@ fn match_of(threshold: u16, least: u32, page: u16) -> Match
 // held, since the compiler has few registers for the loop.
 fn best_of(index: &[u8], scores: &[u16], threshold: u16, start: usize, end: usize) -> Match
     requires { ⌜ Covered (now index) (now scores) end ⌝ }
-    ensures { λ r. ⌜ r ≡ bestOf (eligible (now (index .entry)) (now (scores .entry)) threshold) (scoreAt (now (scores .entry))) start (end - start) ⌝ }
+    ensures { λ r. ⌜ r ≡ bestOf
+        (eligible (now (index .entry)) (now (scores .entry)) threshold) (scoreAt (now (scores .entry))) start (end - start) ⌝ }
 {
     let mut least = threshold as u32;
     let mut page = 0;

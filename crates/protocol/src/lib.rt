@@ -1,5 +1,6 @@
 // The types that the code and its contracts share. The definitions over them are in specs/, the promises in proofs/.
 pub mod codes;
+pub mod command_codes;
 pub mod numbers;
 pub mod refusals;
 

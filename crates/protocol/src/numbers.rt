@@ -60,6 +60,11 @@ pub const LEVEL_PARAMETER: u8 = 5;
 
 pub const SIZE_PARAMETER: u8 = 6;
 
+// The bits of the status word: verified; and, by request [8], a Search found a page.
+pub const VERIFIED_STATUS: usize = 4;
+
+pub const FOUND_STATUS: usize = 2;
+
 // ---- packets
 
 // The two bytes that start a packet.
@@ -71,6 +76,13 @@ pub const SECOND_MARK: u8 = 0x01;
 pub const HEAD: usize = 9;
 
 pub const FRAME: usize = 11;
+
+// Where the address, the identifier and the length field stand in a packet: addressAt, identifierAt and lengthAt of the definitions.
+pub const ADDRESS_AT: usize = 2;
+
+pub const IDENTIFIER_AT: usize = 6;
+
+pub const LENGTH_AT: usize = 7;
 
 // The least length field; the greatest, which data packets have (request [3]); and that of commands and acknowledges.
 pub const SHORTEST: usize = 3;

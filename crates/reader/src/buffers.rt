@@ -40,7 +40,8 @@ pub(crate) fn chosen<'a>(n: u8, b: &'a [u8], c: &'a [u8]) -> &'a [u8]
 
 // Zeroes a buffer.
 pub(crate) fn wipe(n: u8, b: &mut [u8], c: &mut [u8])
-    ensures { λ _. ⌜ buffers (now (b .exit)) (now (c .exit)) ≡ changed n (λ (x : List ℕ). zeros (length x)) (now (b .entry)) (now (c .entry)) ⌝ }
+    ensures { λ _. ⌜ buffers (now (b .exit)) (now (c .exit))
+        ≡ changed n (λ (x : List ℕ). zeros (length x)) (now (b .entry)) (now (c .entry)) ⌝ }
 {
     if n == 2 {
         bytes::zero(c);
@@ -51,7 +52,8 @@ pub(crate) fn wipe(n: u8, b: &mut [u8], c: &mut [u8])
 
 // Copies a page to a buffer.
 pub(crate) fn load(n: u8, b: &mut [u8], c: &mut [u8], templates: &[u8], page: usize)
-    ensures { λ _. ⌜ buffers (now (b .exit)) (now (c .exit)) ≡ changed n (readPage page (now (templates .entry))) (now (b .entry)) (now (c .entry)) ⌝ }
+    ensures { λ _. ⌜ buffers (now (b .exit)) (now (c .exit))
+        ≡ changed n (readPage page (now (templates .entry))) (now (b .entry)) (now (c .entry)) ⌝ }
 {
     if n == 2 {
         pages::read_page(c, templates, page);
@@ -71,7 +73,8 @@ fn put_at(buffer: &mut [u8], at: usize, src: &[u8])
 // Copies bytes to a place in a buffer.
 pub(crate) fn fill(n: u8, b: &mut [u8], c: &mut [u8], at: usize, src: &[u8])
     requires { ⌜ (at + length (now src) ≤ length (now b)) × (at + length (now src) ≤ length (now c)) ⌝ }
-    ensures { λ _. ⌜ buffers (now (b .exit)) (now (c .exit)) ≡ changed n (lay at (now (src .entry))) (now (b .entry)) (now (c .entry)) ⌝ }
+    ensures { λ _. ⌜ buffers (now (b .exit)) (now (c .exit))
+        ≡ changed n (lay at (now (src .entry))) (now (b .entry)) (now (c .entry)) ⌝ }
 {
     if n == 2 {
         put_at(c, at, src);
@@ -120,7 +123,8 @@ pub(crate) fn up_char(settings: Settings, n: u8) -> Answer
 // DownChar (buffer).
 pub(crate) fn down_char(settings: Settings, buffer1: &mut [u8], buffer2: &mut [u8], n: u8) -> Answer
     requires { ⌜ (length (now buffer1) ≡ pageBytes) × ((length (now buffer2) ≡ pageBytes) × Legal settings) ⌝ }
-    ensures { λ r. ⌜ ObeyedBuffers r settings (downChar n) (now (buffer1 .entry)) (now (buffer2 .entry)) (now (buffer1 .exit)) (now (buffer2 .exit)) ⌝ }
+    ensures { λ r. ⌜ ObeyedBuffers r settings (downChar n)
+        (now (buffer1 .entry)) (now (buffer2 .entry)) (now (buffer1 .exit)) (now (buffer2 .exit)) ⌝ }
 {
     let known = is_buffer(n);
     if !known {

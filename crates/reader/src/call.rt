@@ -16,7 +16,7 @@ ghost use Rattle.reader.specs.Commands.{CommandNeeds};
 ghost use Rattle.reader.specs.Calls.{Lies, HearNeeds, called, switched, lengthsFit, carriedOf};
 use crate::answers;
 use crate::answers::Answer;
-use crate::bytes;
+use crate::fields;
 use crate::origins;
 use crate::reply;
 use crate::table;
@@ -79,7 +79,7 @@ fn is_ours(settings: Settings, run: &[u8], at: usize) -> bool
     requires { ⌜ at + 6 ≤ length (now run) ⌝ }
     ensures { λ r. ⌜ r ≡ same (addressAt (now (run .entry)) at) (settings .address) ⌝ }
 {
-    let a = bytes::four_at(run, at + 2);
+    let a = fields::four_at(run, at + numbers::ADDRESS_AT);
     let b = settings.address;
     wire::bytes::is_same(a, b)
 }
@@ -91,8 +91,8 @@ fn is_right(run: &[u8], at: usize, len: usize) -> bool
 {
     let from = at + numbers::HEAD;
     let to = from + (len - 2);
-    let s = builder::packet_sum(run[at + 6], &run[from..to]);
-    let w = bytes::word_at(run, at + 7 + len);
+    let s = builder::packet_sum(run[at + numbers::IDENTIFIER_AT], &run[from..to]);
+    let w = fields::word_at(run, at + numbers::LENGTH_AT + len);
     w == s
 }
 
@@ -135,7 +135,7 @@ pub(crate) fn hear_packet(
     if !ours {
         return called_of(refusals::ACCEPTED, used, 0, settings);
     }
-    let identifier = run[at + 6];
+    let identifier = run[at + numbers::IDENTIFIER_AT];
     let right = is_right(run, at, len);
     let from = at + numbers::HEAD;
     let to = from + (len - 2);

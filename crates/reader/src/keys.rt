@@ -8,17 +8,18 @@ ghost use Rattle.reader.specs.Commands.{Obeyed, Freed};
 ghost use Rattle.rules.specs.Settings.{Legal};
 use crate::answers;
 use crate::answers::Answer;
-use crate::bytes;
+use crate::fields;
 use protocol::Settings;
 use protocol::codes;
 use rules::settings;
+use wire::bytes;
 
 // SetPwd.
 pub(crate) fn set_password(settings: Settings, content: &[u8]) -> Answer
     requires { ⌜ (length (now content) ≡ 1 + fourBytes) × Legal settings ⌝ }
     ensures { λ r. ⌜ Obeyed r settings (setPassword (drop 1 (now (content .entry)))) ⌝ }
 {
-    let p = bytes::four_at(content, 1);
+    let p = fields::four_at(content, 1);
     answers::plain(codes::DONE, settings::with_password(settings, p))
 }
 
@@ -27,9 +28,9 @@ pub(crate) fn verify_password(settings: Settings, content: &[u8]) -> Answer
     requires { ⌜ (length (now content) ≡ 1 + fourBytes) × Legal settings ⌝ }
     ensures { λ r. ⌜ Freed r settings (verifyPassword (drop 1 (now (content .entry)))) ⌝ }
 {
-    let p = bytes::four_at(content, 1);
+    let p = fields::four_at(content, 1);
     let q = settings.password;
-    let right = wire::bytes::is_same(p, q);
+    let right = bytes::is_same(p, q);
     if right {
         return answers::plain(codes::DONE, settings::marked(settings, 1));
     }
@@ -41,6 +42,6 @@ pub(crate) fn set_address(settings: Settings, content: &[u8]) -> Answer
     requires { ⌜ (length (now content) ≡ 1 + fourBytes) × (settings .size ≤ highestSize) ⌝ }
     ensures { λ r. ⌜ Obeyed r settings (setAddress (drop 1 (now (content .entry)))) ⌝ }
 {
-    let a = bytes::four_at(content, 1);
+    let a = fields::four_at(content, 1);
     answers::plain(codes::DONE, settings::with_address(settings, a))
 }

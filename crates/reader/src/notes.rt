@@ -16,7 +16,8 @@ use wire::bytes;
 // WriteNotepad (page, 32 bytes).
 pub(crate) fn write_note(settings: Settings, notepad: &mut [u8], content: &[u8]) -> Answer
     requires { ⌜ (length (now content) ≡ 2 + noteBytes) × (settings .size ≤ highestSize) ⌝ }
-    ensures { λ r. ⌜ ObeyedNotepad r settings (writeNotepad (byteAt (now (content .entry)) 1) (drop 2 (now (content .entry)))) (now (notepad .entry)) (now (notepad .exit)) ⌝ }
+    ensures { λ r. ⌜ ObeyedNotepad r settings
+        (writeNotepad (byteAt (now (content .entry)) 1) (drop 2 (now (content .entry)))) (now (notepad .entry)) (now (notepad .exit)) ⌝ }
 {
     let p = bytes::wide(content[1]);
     if notepad.len() / numbers::NOTE <= p {

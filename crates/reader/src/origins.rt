@@ -62,7 +62,8 @@ fn forget_one(
     page: usize,
     n: usize,
 ) -> Settings
-    requires { ⌜ (length (now b) ≡ pageBytes) × ((length (now c) ≡ pageBytes) × ((page < 65536) × ((n < 65536) × Legal settings))) ⌝ }
+    requires { ⌜ (length (now b) ≡ pageBytes)
+        × ((length (now c) ≡ pageBytes) × ((page < 65536) × ((n < 65536) × Legal settings))) ⌝ }
     ensures { λ r. ⌜ ForgotOne k page n r settings (now (b .exit)) (now (c .exit)) (now (b .entry)) (now (c .entry)) ⌝ }
 {
     let origin = settings::origin_of(k, settings.origin1, settings.origin2);
@@ -82,8 +83,10 @@ pub(crate) fn forget(
     page: usize,
     n: usize,
 ) -> Settings
-    requires { ⌜ (length (now buffer1) ≡ pageBytes) × ((length (now buffer2) ≡ pageBytes) × ((page < 65536) × ((n < 65536) × Legal settings))) ⌝ }
-    ensures { λ r. ⌜ Forgot page n r settings (now (buffer1 .exit)) (now (buffer2 .exit)) (now (buffer1 .entry)) (now (buffer2 .entry)) ⌝ }
+    requires { ⌜ (length (now buffer1) ≡ pageBytes)
+        × ((length (now buffer2) ≡ pageBytes) × ((page < 65536) × ((n < 65536) × Legal settings))) ⌝ }
+    ensures { λ r. ⌜ Forgot page n r settings
+        (now (buffer1 .exit)) (now (buffer2 .exit)) (now (buffer1 .entry)) (now (buffer2 .entry)) ⌝ }
 {
     let s = forget_one(settings, buffer1, buffer2, 1, page, n);
     forget_one(s, buffer1, buffer2, 2, page, n)

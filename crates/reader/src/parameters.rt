@@ -64,7 +64,8 @@ pub(crate) fn set_parameter(settings: Settings, k: u8, v: u8) -> Answer
 fn status(verified: bool, found: bool) -> usize
     ensures { λ r. ⌜ (r ≡ statusOf verified found) × (r ≤ 6) ⌝ }
 {
-    4 * bytes::wide(bytes::flag(verified)) + 2 * bytes::wide(bytes::flag(found))
+    numbers::VERIFIED_STATUS * bytes::wide(bytes::flag(verified))
+        + numbers::FOUND_STATUS * bytes::wide(bytes::flag(found))
 }
 
 // The sixteen bytes of ReadSysPara, and sixteen zeros.
@@ -77,7 +78,8 @@ fn parameter_bytes(
     size: usize,
     baud: usize,
 ) -> [u8; 32]
-    ensures { λ r. ⌜ take 16 r ≡ joined (two status ∷ two sensor ∷ two pages ∷ two level ∷ address ∷ two size ∷ two baud ∷ []) ⌝ }
+    ensures { λ r. ⌜ take 16 r
+        ≡ joined (two status ∷ two sensor ∷ two pages ∷ two level ∷ address ∷ two size ∷ two baud ∷ []) ⌝ }
 {
     [
         (status / 256 % 256) as u8,

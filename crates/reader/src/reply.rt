@@ -32,7 +32,8 @@ fn content_of(code: u8, bytes: [u8; 32]) -> [u8; 33]
 // fixed length.
 fn put_acknowledge(a: Answer, reply: &mut [u8]) -> usize
     requires { ⌜ (a .count ≤ listedBytes) × (replyRoom ≤ length (now reply)) ⌝ }
-    ensures { λ r. ⌜ (r ≡ a .count + 1 + frameBytes) × (now (reply .exit) ≡ lay 0 (acknowledge (a .settings .address) (a .code) (take (a .count) (a .bytes))) (now (reply .entry))) ⌝ }
+    ensures { λ r. ⌜ (r ≡ a .count + 1 + frameBytes)
+        × (now (reply .exit) ≡ lay 0 (acknowledge (a .settings .address) (a .code) (take (a .count) (a .bytes))) (now (reply .entry))) ⌝ }
 {
     let n = a.count;
     let s = a.settings;
@@ -79,8 +80,10 @@ fn put_packet(
     address: [u8; 4],
     content: &[u8],
 ) -> usize
-    requires { ⌜ (at + length (now content) + frameBytes ≤ length (now reply)) × (accepts identifier (lengthOf (now content)) ≡ true) ⌝ }
-    ensures { λ r. ⌜ (r ≡ at + length (now (content .entry)) + frameBytes) × (now (reply .exit) ≡ lay at (packet address identifier (now (content .entry))) (now (reply .entry))) ⌝ }
+    requires { ⌜ (at + length (now content) + frameBytes ≤ length (now reply))
+        × (accepts identifier (lengthOf (now content)) ≡ true) ⌝ }
+    ensures { λ r. ⌜ (r ≡ at + length (now (content .entry)) + frameBytes)
+        × (now (reply .exit) ≡ lay at (packet address identifier (now (content .entry))) (now (reply .entry))) ⌝ }
 {
     let e = at + content.len() + numbers::FRAME;
     builder::build(address, identifier, content, &mut reply[at..e]);
@@ -96,8 +99,11 @@ fn put_data(
     count: usize,
     src: &[u8],
 ) -> usize
-    requires { ⌜ (accepts dataPacket (size + 2) ≡ true) × ((accepts lastPacket (size + 2) ≡ true) × ((length (now src) ≡ count * size) × (at + count * (size + frameBytes) ≤ length (now reply)))) ⌝ }
-    ensures { λ r. ⌜ (r ≡ at + count * (size + frameBytes)) × (now (reply .exit) ≡ lay at (joined (packets address count size (now (src .entry)))) (now (reply .entry))) ⌝ }
+    requires { ⌜ (accepts dataPacket (size + 2) ≡ true)
+        × ((accepts lastPacket (size + 2) ≡ true)
+        × ((length (now src) ≡ count * size) × (at + count * (size + frameBytes) ≤ length (now reply)))) ⌝ }
+    ensures { λ r. ⌜ (r ≡ at + count * (size + frameBytes))
+        × (now (reply .exit) ≡ lay at (joined (packets address count size (now (src .entry)))) (now (reply .entry))) ⌝ }
 {
     let mut left = count;
     let mut from = 0;
@@ -114,8 +120,10 @@ fn put_data(
 
 // Writes the data packets of a buffer behind the acknowledge.
 fn send(settings: Settings, at: usize, src: &[u8], reply: &mut [u8]) -> usize
-    requires { ⌜ (settings .size ≤ highestSize) × ((length (now src) ≡ pageBytes) × (at + uploadBytes ≤ length (now reply))) ⌝ }
-    ensures { λ r. ⌜ (r ≡ at + length (dataPackets (settings .address) (sizeOf (settings .size)) (now (src .entry)))) × (now (reply .exit) ≡ lay at (dataPackets (settings .address) (sizeOf (settings .size)) (now (src .entry))) (now (reply .entry))) ⌝ }
+    requires { ⌜ (settings .size ≤ highestSize)
+        × ((length (now src) ≡ pageBytes) × (at + uploadBytes ≤ length (now reply))) ⌝ }
+    ensures { λ r. ⌜ (r ≡ at + length (dataPackets (settings .address) (sizeOf (settings .size)) (now (src .entry))))
+        × (now (reply .exit) ≡ lay at (dataPackets (settings .address) (sizeOf (settings .size)) (now (src .entry))) (now (reply .entry))) ⌝ }
 {
     let z = settings::size_of(settings.size);
     let k = numbers::PAGE / z;
@@ -125,8 +133,10 @@ fn send(settings: Settings, at: usize, src: &[u8], reply: &mut [u8]) -> usize
 
 // Writes what an answer says, and returns its length.
 pub(crate) fn speak<'a>(a: Answer, b: &'a [u8], c: &'a [u8], reply: &mut [u8]) -> usize
-    requires { ⌜ Ready a × ((length (now b) ≡ pageBytes) × ((length (now c) ≡ pageBytes) × (replyRoom ≤ length (now reply)))) ⌝ }
-    ensures { λ r. ⌜ (r ≡ length (spokenOf a (now (b .entry)) (now (c .entry)))) × (now (reply .exit) ≡ lay 0 (spokenOf a (now (b .entry)) (now (c .entry))) (now (reply .entry))) ⌝ }
+    requires { ⌜ Ready a
+        × ((length (now b) ≡ pageBytes) × ((length (now c) ≡ pageBytes) × (replyRoom ≤ length (now reply)))) ⌝ }
+    ensures { λ r. ⌜ (r ≡ length (spokenOf a (now (b .entry)) (now (c .entry))))
+        × (now (reply .exit) ≡ lay 0 (spokenOf a (now (b .entry)) (now (c .entry))) (now (reply .entry))) ⌝ }
 {
     let speaks = a.speaks;
     if speaks {

@@ -25,7 +25,8 @@ pub(crate) fn search_pages(
     start: usize,
     count: usize,
 ) -> Answer
-    requires { ⌜ (length (now index) ≡ indexBytes) × ((length (now scores) ≤ mostPages) × ((start < 65536) × ((count < 65536) × Legal settings))) ⌝ }
+    requires { ⌜ (length (now index) ≡ indexBytes)
+        × ((length (now scores) ≤ mostPages) × ((start < 65536) × ((count < 65536) × Legal settings))) ⌝ }
     ensures { λ r. ⌜ ObeyedSearch r settings (searchFor n start count) (now (index .entry)) (now (scores .entry)) (now (thresholds .entry)) ⌝ }
 {
     let known = buffers::is_buffer(n);

@@ -9,14 +9,15 @@ ghost use Rattle.reader.specs.Commands.{CommandNeeds, RowNeeds};
 use crate::answers;
 use crate::answers::Answer;
 use crate::buffers;
-use crate::bytes;
+use crate::fields;
 use crate::keys;
 use crate::notes;
 use crate::parameters;
 use crate::search;
-use crate::stored;
+use crate::templates;
 use protocol::Settings;
 use protocol::codes;
+use protocol::command_codes;
 use protocol::numbers;
 use rules::commands;
 
@@ -40,39 +41,42 @@ pub(crate) fn row(
         (readOf (rowOf commands code) (now (content .entry)))) × Ready r ⌝ }
 {
     match code {
-        0x04 => {
+        command_codes::SEARCH => {
             let n = content[1];
-            let start = bytes::word_at(content, 2);
-            let count = bytes::word_at(content, 4);
+            let start = fields::word_at(content, 2);
+            let count = fields::word_at(content, 4);
             search::search_pages(settings, index, scores, thresholds, n, start, count)
         }
-        0x06 => {
+        command_codes::STORE => {
             let n = content[1];
-            let page = bytes::word_at(content, 2);
-            stored::store_page(settings, templates, index, buffer1, buffer2, n, page)
+            let page = fields::word_at(content, 2);
+            templates::store_page(settings, templates, index, buffer1, buffer2, n, page)
         }
-        0x07 => {
+        command_codes::LOAD_CHAR => {
             let n = content[1];
-            let page = bytes::word_at(content, 2);
-            stored::load_page(settings, templates, index, buffer1, buffer2, n, page)
+            let page = fields::word_at(content, 2);
+            templates::load_page(settings, templates, index, buffer1, buffer2, n, page)
         }
-        0x08 => buffers::up_char(settings, content[1]),
-        0x09 => buffers::down_char(settings, buffer1, buffer2, content[1]),
-        0x0C => {
-            let page = bytes::word_at(content, 1);
-            let n = bytes::word_at(content, 3);
-            stored::delete_pages(settings, templates, index, buffer1, buffer2, page, n)
+        command_codes::UP_CHAR => buffers::up_char(settings, content[1]),
+        command_codes::DOWN_CHAR => buffers::down_char(settings, buffer1, buffer2, content[1]),
+        command_codes::DELET_CHAR => {
+            let page = fields::word_at(content, 1);
+            let n = fields::word_at(content, 3);
+            templates::delete_pages(settings, templates, index, buffer1, buffer2, page, n)
         }
-        0x0D => stored::empty_all(settings, templates, index, buffer1, buffer2),
-        0x0E => parameters::set_parameter(settings, content[1], content[2]),
-        0x0F => parameters::read_parameters(settings, templates.len() / numbers::PAGE),
-        0x12 => keys::set_password(settings, content),
-        0x13 => keys::verify_password(settings, content),
-        0x15 => keys::set_address(settings, content),
-        0x18 => notes::write_note(settings, notepad, content),
-        0x19 => notes::read_note(settings, notepad, content[1]),
-        0x1D => stored::count_pages(settings, index),
-        0x1F => stored::read_index(settings, index, content[1]),
+        command_codes::EMPTY => templates::empty_all(settings, templates, index, buffer1, buffer2),
+        command_codes::SET_SYS_PARA => parameters::set_parameter(settings, content[1], content[2]),
+        command_codes::READ_SYS_PARA => parameters::read_parameters(
+            settings,
+            templates.len() / numbers::PAGE,
+        ),
+        command_codes::SET_PWD => keys::set_password(settings, content),
+        command_codes::VFY_PWD => keys::verify_password(settings, content),
+        command_codes::SET_ADDER => keys::set_address(settings, content),
+        command_codes::WRITE_NOTEPAD => notes::write_note(settings, notepad, content),
+        command_codes::READ_NOTEPAD => notes::read_note(settings, notepad, content[1]),
+        command_codes::TEMPLETE_NUM => templates::count_pages(settings, index),
+        command_codes::READ_INDEX_TABLE => templates::read_index(settings, index, content[1]),
         _ => answers::plain(codes::DONE, settings),
     }
 }

@@ -22,7 +22,10 @@ use rules::settings;
 // Ends an open transfer: its buffer is zeroed.
 pub(crate) fn end_transfer(settings: Settings, buffer1: &mut [u8], buffer2: &mut [u8]) -> Settings
     requires { ⌜ (length (now buffer1) ≡ pageBytes) × ((length (now buffer2) ≡ pageBytes) × Legal settings) ⌝ }
-    ensures { λ r. ⌜ ((t i m : List ℕ) → readerOf r t i m (now (buffer1 .exit)) (now (buffer2 .exit)) ≡ rested (readerOf settings t i m (now (buffer1 .entry)) (now (buffer2 .entry)))) × Legal r ⌝ }
+    ensures { λ r. ⌜ ((t i m : List ℕ)
+        → readerOf r t i m (now (buffer1 .exit)) (now (buffer2 .exit))
+        ≡ rested (readerOf settings t i m (now (buffer1 .entry)) (now (buffer2 .entry))))
+        × Legal r ⌝ }
 {
     let n = settings.transfer;
     if n == 0 {
@@ -42,7 +45,11 @@ fn place(
     last: bool,
 ) -> Answer
     requires { ⌜ Placing settings (now buffer1) (now buffer2) (now content) ⌝ }
-    ensures { λ r. ⌜ ((t i m : List ℕ) → saidOf r t i m (now (buffer1 .exit)) (now (buffer2 .exit)) ≡ takeAs (readerOf settings t i m (now (buffer1 .entry)) (now (buffer2 .entry))) (eqb (settings .transfer) 2) (settings .got) (now (content .entry)) true last) × Ready r ⌝ }
+    ensures { λ r. ⌜ ((t i m : List ℕ)
+        → saidOf r t i m (now (buffer1 .exit)) (now (buffer2 .exit))
+        ≡ takeAs (readerOf settings t i m (now (buffer1 .entry)) (now (buffer2 .entry))) (eqb (settings .transfer) 2) (settings .got)
+        (now (content .entry)) true last)
+        × Ready r ⌝ }
 {
     let got = settings.got as usize;
     let next = (got + content.len()) as u16;
@@ -64,7 +71,11 @@ pub(crate) fn take_part(
     last: bool,
 ) -> Answer
     requires { ⌜ (length (now buffer1) ≡ pageBytes) × ((length (now buffer2) ≡ pageBytes) × Legal settings) ⌝ }
-    ensures { λ r. ⌜ ((t i m : List ℕ) → saidOf r t i m (now (buffer1 .exit)) (now (buffer2 .exit)) ≡ takeIn (readerOf settings t i m (now (buffer1 .entry)) (now (buffer2 .entry))) last right (now (content .entry)) (plainOf settings .transfer)) × Ready r ⌝ }
+    ensures { λ r. ⌜ ((t i m : List ℕ)
+        → saidOf r t i m (now (buffer1 .exit)) (now (buffer2 .exit))
+        ≡ takeIn (readerOf settings t i m (now (buffer1 .entry)) (now (buffer2 .entry))) last right (now (content .entry))
+        (plainOf settings .transfer))
+        × Ready r ⌝ }
 {
     if settings.transfer == 0 {
         return answers::silent(settings);

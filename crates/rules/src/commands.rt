@@ -6,29 +6,30 @@ ghost use Rattle.rules.specs.Commands.{lenOf, isFree, gateOf};
 use crate::settings;
 use protocol::Settings;
 use protocol::codes;
+use protocol::command_codes;
 
 // The length field that a code fixes; 0 for the ranges of codes that no command has.
 pub fn required(code: u8) -> usize
     ensures { λ r. ⌜ r ≡ lenOf (rowOf commands code) ⌝ }
 {
     match code {
-        0x04 => 8,
-        0x06 => 6,
-        0x07 => 6,
-        0x08 => 4,
-        0x09 => 4,
-        0x0C => 7,
-        0x0D => 3,
-        0x0E => 5,
-        0x0F => 3,
-        0x12 => 7,
-        0x13 => 7,
-        0x15 => 7,
-        0x18 => 36,
-        0x19 => 4,
-        0x1D => 3,
-        0x1F => 4,
-        0x40 => 3,
+        command_codes::SEARCH => 8,
+        command_codes::STORE => 6,
+        command_codes::LOAD_CHAR => 6,
+        command_codes::UP_CHAR => 4,
+        command_codes::DOWN_CHAR => 4,
+        command_codes::DELET_CHAR => 7,
+        command_codes::EMPTY => 3,
+        command_codes::SET_SYS_PARA => 5,
+        command_codes::READ_SYS_PARA => 3,
+        command_codes::SET_PWD => 7,
+        command_codes::VFY_PWD => 7,
+        command_codes::SET_ADDER => 7,
+        command_codes::WRITE_NOTEPAD => 36,
+        command_codes::READ_NOTEPAD => 4,
+        command_codes::TEMPLETE_NUM => 3,
+        command_codes::READ_INDEX_TABLE => 4,
+        command_codes::HAND_SHAKE => 3,
         0x00..=0x03 => 0,
         0x05 => 0,
         0x0A..=0x0B => 0,
@@ -47,9 +48,9 @@ pub fn is_free(code: u8) -> bool
     ensures { λ r. ⌜ r ≡ isFree code ⌝ }
 {
     match code {
-        0x0F => true,
-        0x13 => true,
-        0x40 => true,
+        command_codes::READ_SYS_PARA => true,
+        command_codes::VFY_PWD => true,
+        command_codes::HAND_SHAKE => true,
         _ => false,
     }
 }

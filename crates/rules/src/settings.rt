@@ -199,7 +199,8 @@ fn has_fit_marks(s: Settings) -> bool
 // Whether the transfer beside fit marks is legal. The filled mark of its buffer is looked at last, and never on a locked reader.
 fn is_transfer_fit(s: Settings) -> bool
     requires { ⌜ (s .size ≤ highestSize) × (fitMarks (marksOf s) ≡ true) ⌝ }
-    ensures { λ r. ⌜ r ≡ fitTransfer (plainOf s) (readerOf s [] [] [] [] [] .guarded) (transferOf (marksOf s) (s .transfer) (s .got)) ⌝ }
+    ensures { λ r. ⌜ r ≡ fitTransfer (plainOf s) (readerOf s [] [] [] [] [] .guarded)
+        (transferOf (marksOf s) (s .transfer) (s .got)) ⌝ }
 {
     let got = s.got as usize;
     let w = s.transfer;

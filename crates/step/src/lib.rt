@@ -24,7 +24,11 @@ pub extern "C" fn bystrodol_step(
     run: &[u8],
     reply: &mut [u8],
 ) -> Answered
-    ensures { λ r. ⌜ endedOf (calledAt (now (settings .exit)) r) (now (templates .exit)) (now (index .exit)) (now (notepad .exit)) (now (buffer1 .exit)) (now (buffer2 .exit)) (now (reply .exit)) ≡ callOf core (readerOf (now (settings .entry)) (now (templates .entry)) (now (index .entry)) (now (notepad .entry)) (now (buffer1 .entry)) (now (buffer2 .entry))) (now (run .entry)) (lentOf (now (scores .entry)) (now (thresholds .entry)) (now (reply .entry))) ⌝ }
+    ensures { λ r. ⌜ endedOf (calledAt (now (settings .exit)) r)
+        (now (templates .exit)) (now (index .exit)) (now (notepad .exit)) (now (buffer1 .exit)) (now (buffer2 .exit)) (now (reply .exit))
+        ≡ callOf core
+        (readerOf (now (settings .entry)) (now (templates .entry)) (now (index .entry)) (now (notepad .entry)) (now (buffer1 .entry)) (now (buffer2 .entry)))
+        (now (run .entry)) (lentOf (now (scores .entry)) (now (thresholds .entry)) (now (reply .entry))) ⌝ }
 {
     let called = call::step(
         *settings,
@@ -53,7 +57,9 @@ pub extern "C" fn bystrodol_line_switch(
     buffer1: &mut [u8],
     buffer2: &mut [u8],
 ) -> u8
-    ensures { λ r. ⌜ ((t i n : List ℕ) → switchedOf (switchedAt (now (settings .exit)) r) t i n (now (buffer1 .exit)) (now (buffer2 .exit)) ≡ switchOf (readerOf (now (settings .entry)) t i n (now (buffer1 .entry)) (now (buffer2 .entry)))) ⌝ }
+    ensures { λ r. ⌜ ((t i n : List ℕ)
+        → switchedOf (switchedAt (now (settings .exit)) r) t i n (now (buffer1 .exit)) (now (buffer2 .exit))
+        ≡ switchOf (readerOf (now (settings .entry)) t i n (now (buffer1 .entry)) (now (buffer2 .entry)))) ⌝ }
 {
     let switched = call::line_switch(*settings, buffer1, buffer2);
     *settings = switched.settings;

@@ -44,7 +44,8 @@ fn lay_word(room: &mut [u8], at: usize, n: usize) -> usize
 // Lays the content from place at on and adds it up on the way, so that it is read once.
 fn lay_content(room: &mut [u8], at: usize, content: &[u8]) -> u16
     requires { ⌜ at + length (now content) ≤ length (now room) ⌝ }
-    ensures { λ r. ⌜ Laid (total (now (content .entry)) % 65536) at (now (content .entry)) (now (room .entry)) r (now (room .exit)) ⌝ }
+    ensures { λ r. ⌜ Laid (total (now (content .entry)) % 65536) at
+        (now (content .entry)) (now (room .entry)) r (now (room .exit)) ⌝ }
 {
     let mut acc: u16 = 0;
     let mut i = 0;
@@ -75,7 +76,8 @@ pub fn packet_sum(identifier: u8, content: &[u8]) -> usize
 // A packet at the front of the room.
 fn lay_packet(room: &mut [u8], address: [u8; 4], identifier: u8, content: &[u8]) -> usize
     requires { ⌜ length (now content) + frameBytes ≤ length (now room) ⌝ }
-    ensures { λ r. ⌜ Laid (length (now (content .entry)) + frameBytes) 0 (packet address identifier (now (content .entry))) (now (room .entry)) r (now (room .exit)) ⌝ }
+    ensures { λ r. ⌜ Laid (length (now (content .entry)) + frameBytes) 0
+        (packet address identifier (now (content .entry))) (now (room .entry)) r (now (room .exit)) ⌝ }
 {
     let n = content.len() + 2;
     let a = lay_head(room, address, identifier, n);
@@ -91,7 +93,8 @@ fn built_of(refusal: u8, length: usize) -> Built
 
 // Builds a packet at the front of the room. Refusal 4: identifier or content; then 2: the room is too short.
 pub fn build(address: [u8; 4], identifier: u8, content: &[u8], room: &mut [u8]) -> Built
-    ensures { λ r. ⌜ madeOf r (now (room .exit)) ≡ buildOf address identifier (now (content .entry)) (now (room .entry)) ⌝ }
+    ensures { λ r. ⌜ madeOf r (now (room .exit))
+        ≡ buildOf address identifier (now (content .entry)) (now (room .entry)) ⌝ }
 {
     let n = content.len();
     if 65535 < n {

@@ -1,7 +1,7 @@
-// Bytes: made of truths, widened, summed, compared, copied, and zeroed.
+// Bytes: made of truths, widened, joined to a number, summed, compared, copied, and zeroed.
 ghost use mathlib.Core.Path.{_≡_};
 ghost use mathlib.Core.Bool.{cond};
-ghost use Prim.Native.Nat.{_+_, _%_, _≤_, _<_};
+ghost use Prim.Native.Nat.{_+_, _*_, _%_, _≤_, _<_};
 ghost use lib.ListN.{length};
 ghost use Rattle.protocol.specs.Bytes.{zeros, total, same};
 ghost use Rattle.wire.specs.Laying.{layFront, Laid};
@@ -11,6 +11,13 @@ pub fn wide(x: u8) -> usize
     ensures { λ r. ⌜ (r ≡ x) × (r < 256) ⌝ }
 {
     x as usize
+}
+
+// The number of two bytes.
+pub fn word(high: u8, low: u8) -> usize
+    ensures { λ r. ⌜ (r ≡ high * 256 + low) × (r < 65536) ⌝ }
+{
+    wide(high) * 256 + wide(low)
 }
 
 // A truth as a number, 1 or 0.
@@ -45,7 +52,8 @@ pub fn is_same(a: [u8; 4], b: [u8; 4]) -> bool
 // Lays src over dst from place at on, and returns the place after it.
 pub(crate) fn lay_at(dst: &mut [u8], at: usize, src: &[u8]) -> usize
     requires { ⌜ at + length (now src) ≤ length (now dst) ⌝ }
-    ensures { λ r. ⌜ Laid (at + length (now (src .entry))) at (now (src .entry)) (now (dst .entry)) r (now (dst .exit)) ⌝ }
+    ensures { λ r. ⌜ Laid (at + length (now (src .entry))) at
+        (now (src .entry)) (now (dst .entry)) r (now (dst .exit)) ⌝ }
 {
     let mut i = 0;
     while i < src.len() {

@@ -1,9 +1,7 @@
 // Finding a packet: steps 1 to 4 of document 01.
 ghost use mathlib.Core.Path.{_≡_};
-ghost use Prim.Native.Nat.{_+_, _%_, _<_};
-ghost use lib.ListN.{length};
+ghost use Prim.Native.Nat.{_%_};
 ghost use Rattle.protocol.specs.Numbers.{wrapsAt};
-ghost use Rattle.protocol.specs.Bytes.{wordAt};
 ghost use Rattle.protocol.specs.Packet.{accepts};
 ghost use Rattle.protocol.specs.Finder.{startOf, allBut, findOf, usedOf};
 ghost use Rattle.protocol.specs.Services.{usedService};
@@ -52,10 +50,10 @@ pub fn limit_of(i: u8) -> usize
     ensures { λ r. ⌜ r ≡ limitOf i ⌝ }
 {
     match i {
-        1 => numbers::LONGEST_OTHER,
-        2 => numbers::LONGEST,
-        7 => numbers::LONGEST_OTHER,
-        8 => numbers::LONGEST,
+        numbers::COMMAND_PACKET => numbers::LONGEST_OTHER,
+        numbers::DATA_PACKET => numbers::LONGEST,
+        numbers::ACKNOWLEDGE_PACKET => numbers::LONGEST_OTHER,
+        numbers::LAST_PACKET => numbers::LONGEST,
         _ => 0,
     }
 }
@@ -70,14 +68,6 @@ pub fn is_head(i: u8, n: usize) -> bool
     n <= limit_of(i)
 }
 
-// The number in the two bytes at a place.
-fn word_at(s: &[u8], at: usize) -> usize
-    requires { ⌜ at + 1 < length (now s) ⌝ }
-    ensures { λ r. ⌜ (r ≡ wordAt (now (s .entry)) at) × (r < 65536) ⌝ }
-{
-    bytes::wide(s[at]) * 256 + bytes::wide(s[at + 1])
-}
-
 // Steps 1 to 4.
 pub fn find(s: &[u8]) -> Found
     ensures { λ r. ⌜ r ≡ findOf (now (s .entry)) ⌝ }
@@ -90,8 +80,9 @@ pub fn find(s: &[u8]) -> Found
     if left < numbers::HEAD {
         return Found::Unfinished { at: place };
     }
-    let i = s[place + 6];
-    let n = word_at(s, place + 7);
+    let i = s[place + numbers::IDENTIFIER_AT];
+    let l = place + numbers::LENGTH_AT;
+    let n = bytes::word(s[l], s[l + 1]);
     let fit = is_head(i, n);
     if fit {
         if left < numbers::HEAD + n {

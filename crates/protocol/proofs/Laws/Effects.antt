@@ -12,7 +12,6 @@ use Rattle.protocol.specs.Numbers.{pageBytes}
 use Rattle.protocol.specs.Bytes.{part, zeros, lay}
 use Rattle.protocol.specs.Reader.{Buffer, Guarded, Reader, bufferOf, withLibrary, withBuffer, withoutPages}
 use Rattle.protocol.specs.Table.{fillPage, erase, apply}
-use Rattle.protocol.specs.Step.{silence, takeAs}
 use Rattle.protocol.proofs.Laws.Lists.{inside-lay, before-lay, behind-lay, part-zeros}
 
 -- ---- a buffer by its number
@@ -21,11 +20,6 @@ pub buffer-same : (w : Bool) (b : Buffer) (g : Guarded) → bufferOf w (withBuff
 unfolding bufferOf withBuffer
 buffer-same true b g = refl
 buffer-same false b g = refl
-
-pub buffer-other : (w : Bool) (b : Buffer) (g : Guarded) → bufferOf (not w) (withBuffer w b g) ≡ bufferOf (not w) g
-unfolding bufferOf withBuffer
-buffer-other true b g = refl
-buffer-other false b g = refl
 
 pub buffer-own : (w : Bool) (g : Guarded) → withBuffer w (bufferOf w g) g ≡ g
 unfolding bufferOf withBuffer
@@ -39,13 +33,6 @@ each-buffer P true b g h k true = h
 each-buffer P true b g h k false = k
 each-buffer P false b g h k true = k
 each-buffer P false b g h k false = h
-
--- a data packet's bytes go in at the place reached
-pub taken-bytes : (r : Reader) (w last : Bool) (got : ℕ) (content : List ℕ)
-    → bufferOf w (takeAs r w got content true last .after .guarded) .bytes ≡ lay got content (bufferOf w (r .guarded) .bytes)
-unfolding takeAs silence
-taken-bytes r w true got content = ap (λ (b : Buffer). b .bytes) (buffer-same w _ (r .guarded))
-taken-bytes r w false got content = ap (λ (b : Buffer). b .bytes) (buffer-same w _ (r .guarded))
 
 -- ---- pages
 

@@ -11,6 +11,7 @@ use Rattle.protocol.specs.declared.Start.{Start}
 use Rattle.protocol.specs.declared.Start.the-variants.{Nowhere, At}
 use Rattle.protocol.specs.declared.Found.the-variants.{Noise, Unfinished, Unfit, Whole}
 use Rattle.protocol.specs.Numbers.{headBytes}
+use Rattle.protocol.specs.Bytes.{wordAt}
 use Rattle.protocol.specs.Packet.{accepts, identifierAt, lengthAt, endAt}
 use Rattle.protocol.specs.Finder.{startOf, allBut, findOf, findFrom}
 use Rattle.wire.proofs.Starts.{start-in}
@@ -31,7 +32,7 @@ module _ (s : List ℕ) (f : Start) (e : f ≡ startOf s) where
         rw (← e, g, lt-ltb _ _ h)
 
     -- the head is there, with the length field n, and fit says whether a packet can have it
-    module _ (n : ℕ) (fit : Bool) (l : headBytes ≤ length s - p) (w : n ≡ lengthAt s p) (a : fit ≡ accepts (identifierAt s p) n) where
+    module _ (n : ℕ) (fit : Bool) (l : headBytes ≤ length s - p) (a : fit ≡ accepts (identifierAt s p) n) (w : n ≡ lengthAt s p) where
       headed : p + headBytes ≤ length s
       headed = let i = start-in s f p e g in omega arith
 
@@ -78,11 +79,20 @@ add-i c = search needs
 shared-slice-read-i : tie.Need-shared-slice-read-i
 shared-slice-read-i c = search needs
 
-add-word-at : tie.Need-add-word-at
-add-word-at c = search needs
+add-l : tie.Need-add-l
+add-l c = search needs
 
-word-at-requires : tie.Need-word-at-requires
-word-at-requires c κs = search needs
+shared-slice-read-word : tie.Need-shared-slice-read-word
+shared-slice-read-word c = search needs
+
+add-word : tie.Need-add-word
+add-word c = search needs
+
+shared-slice-read-word-2 : tie.Need-shared-slice-read-word-2
+shared-slice-read-word-2 c = search needs
+
+word-requires : tie.Need-word-requires
+word-requires c κs = search needs
 
 is-head-requires : tie.Need-is-head-requires
 is-head-requires c κs = search needs
@@ -91,12 +101,15 @@ add-if3 : tie.Need-add-if3
 add-if3 c = search needs
 
 returns-3 : tie.Need-returns-3
+unfolding wordAt
 returns-3 c = search unfinished
 
 returns-4 : tie.Need-returns-4
+unfolding wordAt
 returns-4 c = search whole
 
 returns-5 : tie.Need-returns-5
+unfolding wordAt
 returns-5 c = search unfit
 
 pub find-spec : {M : Type 1} → statement M
@@ -112,8 +125,11 @@ find-spec =
     returns-2
     add-i
     shared-slice-read-i
-    add-word-at
-    word-at-requires
+    add-l
+    shared-slice-read-word
+    add-word
+    shared-slice-read-word-2
+    word-requires
     is-head-requires
     add-if3
     returns-3

@@ -19,8 +19,8 @@ use Rattle.reader.specs.Buffers.{Forgot}
 use Rattle.reader.specs.Commands.{obeyed}
 use Rattle.reader.proofs.Ready.{ready-alone, size-forgot}
 use borrow.Author.Needs.{needs}
-use Rattle.reader.proofs.stored.empty_all.Statement.{statement}
-use Rattle.reader.proofs.stored.empty_all.Tie as tie
+use Rattle.reader.proofs.templates.empty_all.Statement.{statement}
+use Rattle.reader.proofs.templates.empty_all.Tie as tie
 
 all-empty : (χ : Chip) (q s : Settings) (t i m b d u j v w : List ℕ) (a : Answer) → a ≡ codeAlone done q → u ≡ zeros (length t) → j ≡ zeros (length i)
     → Forgot 0 (length t / pageBytes) q s v w b d → saidOf a u j m v w ≡ obeyed χ s t i m b d empty

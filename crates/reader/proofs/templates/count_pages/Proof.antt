@@ -19,8 +19,8 @@ use Rattle.reader.specs.Commands.{obeyed}
 use Rattle.reader.proofs.Laws.{counts, high-byte}
 use Rattle.reader.proofs.Ready.{ready-listed}
 use borrow.Author.Needs.{needs}
-use Rattle.reader.proofs.stored.count_pages.Statement.{statement}
-use Rattle.reader.proofs.stored.count_pages.Tie as tie
+use Rattle.reader.proofs.templates.count_pages.Statement.{statement}
+use Rattle.reader.proofs.templates.count_pages.Tie as tie
 
 counted : (χ : Chip) (s : Settings) (t i m b d : List ℕ) (a : Answer) (n : ℕ) → a ≡ answerOf true 0 2 (set (set (replicate listedBytes 0) 0 (n / 256)) 1 (n % 256)) 0 s
     → n ≡ countOf indexBytes i → length i ≡ indexBytes → n < 65536 → saidOf a t i m b d ≡ obeyed χ s t i m b d templeteNum

@@ -10,8 +10,8 @@ use Rattle.library.specs.Lent.{writePage}
 use Rattle.reader.specs.Buffers.{chosenOf}
 use Rattle.reader.proofs.Laws.{chosen-long, writes}
 use borrow.Author.Needs.{needs}
-use Rattle.reader.proofs.stored.store_now.Statement.{statement}
-use Rattle.reader.proofs.stored.store_now.Tie as tie
+use Rattle.reader.proofs.templates.store_now.Statement.{statement}
+use Rattle.reader.proofs.templates.store_now.Tie as tie
 
 laid : (n p : ℕ) (t u b d x : List ℕ) → u ≡ writePage p x t → x ≡ chosenOf n b d → length b ≡ pageBytes → length d ≡ pageBytes → p < length t / pageBytes
     → u ≡ lay (pageBytes * p) (chosenOf n b d) t

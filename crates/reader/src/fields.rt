@@ -1,4 +1,4 @@
-// Parameters read off a content.
+// Numbers and words read off a content or a run.
 ghost use mathlib.Core.Path.{_≡_};
 ghost use Prim.Native.Nat.{_+_, _≤_, _<_};
 ghost use lib.ListN.{length};
@@ -10,7 +10,7 @@ pub(crate) fn word_at(s: &[u8], at: usize) -> usize
     requires { ⌜ at + 1 < length (now s) ⌝ }
     ensures { λ r. ⌜ (r ≡ wordAt (now (s .entry)) at) × (r < 65536) ⌝ }
 {
-    bytes::wide(s[at]) * 256 + bytes::wide(s[at + 1])
+    bytes::word(s[at], s[at + 1])
 }
 
 // The four bytes at a place.

@@ -8,8 +8,8 @@ use borrow.Author.Needs.{needs}
 use Rattle.protocol.specs.Bytes.{part}
 use Rattle.wire.specs.Laying.{layFront}
 use Rattle.library.proofs.Parts.{part-read}
-use Rattle.reader.proofs.bytes.four_at.Statement.{statement}
-use Rattle.reader.proofs.bytes.four_at.Tie as tie
+use Rattle.reader.proofs.fields.four_at.Statement.{statement}
+use Rattle.reader.proofs.fields.four_at.Tie as tie
 
 module _ (x : List ℕ) (at : ℕ) (d r : List ℕ) (e : length d ≡ 4) (h : at + 4 ≤ length x) (f : r ≡ layFront (take (at + 4 - at) (drop at x)) d) where
   copied : r ≡ part at 4 x

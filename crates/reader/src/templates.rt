@@ -31,8 +31,10 @@ fn store_now<'a>(
     n: u8,
     page: usize,
 )
-    requires { ⌜ (length (now b) ≡ pageBytes) × ((length (now c) ≡ pageBytes) × (page < length (now templates) / pageBytes)) ⌝ }
-    ensures { λ _. ⌜ (now (templates .exit) ≡ lay (pageBytes * page) (chosenOf n (now (b .entry)) (now (c .entry))) (now (templates .entry))) × (now (index .exit) ≡ setBit (now (index .entry)) page) ⌝ }
+    requires { ⌜ (length (now b) ≡ pageBytes)
+        × ((length (now c) ≡ pageBytes) × (page < length (now templates) / pageBytes)) ⌝ }
+    ensures { λ _. ⌜ (now (templates .exit) ≡ lay (pageBytes * page) (chosenOf n (now (b .entry)) (now (c .entry))) (now (templates .entry)))
+        × (now (index .exit) ≡ setBit (now (index .entry)) page) ⌝ }
 {
     let src = buffers::chosen(n, b, c);
     pages::write_page(templates, page, src);
@@ -49,8 +51,11 @@ pub(crate) fn store_page<'a>(
     n: u8,
     page: usize,
 ) -> Answer
-    requires { ⌜ (length (now b) ≡ pageBytes) × ((length (now c) ≡ pageBytes) × ((length (now templates) / pageBytes ≤ mostPages) × Legal settings)) ⌝ }
-    ensures { λ r. ⌜ ObeyedCopy r settings (store n page) (now (templates .entry)) (now (index .entry)) (now (b .entry)) (now (c .entry)) (now (templates .exit)) (now (index .exit)) (now (b .entry)) (now (c .entry)) ⌝ }
+    requires { ⌜ (length (now b) ≡ pageBytes)
+        × ((length (now c) ≡ pageBytes) × ((length (now templates) / pageBytes ≤ mostPages) × Legal settings)) ⌝ }
+    ensures { λ r. ⌜ ObeyedCopy r settings (store n page)
+        (now (templates .entry)) (now (index .entry)) (now (b .entry)) (now (c .entry))
+        (now (templates .exit)) (now (index .exit)) (now (b .entry)) (now (c .entry)) ⌝ }
 {
     let known = buffers::is_buffer(n);
     if !known {
@@ -81,8 +86,11 @@ pub(crate) fn load_page(
     n: u8,
     page: usize,
 ) -> Answer
-    requires { ⌜ (length (now buffer1) ≡ pageBytes) × ((length (now buffer2) ≡ pageBytes) × ((length (now templates) / pageBytes ≤ mostPages) × Legal settings)) ⌝ }
-    ensures { λ r. ⌜ ObeyedCopy r settings (loadChar n page) (now (templates .entry)) (now (index .entry)) (now (buffer1 .entry)) (now (buffer2 .entry)) (now (templates .entry)) (now (index .entry)) (now (buffer1 .exit)) (now (buffer2 .exit)) ⌝ }
+    requires { ⌜ (length (now buffer1) ≡ pageBytes)
+        × ((length (now buffer2) ≡ pageBytes) × ((length (now templates) / pageBytes ≤ mostPages) × Legal settings)) ⌝ }
+    ensures { λ r. ⌜ ObeyedCopy r settings (loadChar n page)
+        (now (templates .entry)) (now (index .entry)) (now (buffer1 .entry)) (now (buffer2 .entry))
+        (now (templates .entry)) (now (index .entry)) (now (buffer1 .exit)) (now (buffer2 .exit)) ⌝ }
 {
     let known = buffers::is_buffer(n);
     if !known {
@@ -109,8 +117,11 @@ pub(crate) fn delete_pages(
     page: usize,
     n: usize,
 ) -> Answer
-    requires { ⌜ (length (now buffer1) ≡ pageBytes) × ((length (now buffer2) ≡ pageBytes) × ((page < 65536) × ((n < 65536) × Legal settings))) ⌝ }
-    ensures { λ r. ⌜ ObeyedCopy r settings (deletChar page n) (now (templates .entry)) (now (index .entry)) (now (buffer1 .entry)) (now (buffer2 .entry)) (now (templates .exit)) (now (index .exit)) (now (buffer1 .exit)) (now (buffer2 .exit)) ⌝ }
+    requires { ⌜ (length (now buffer1) ≡ pageBytes)
+        × ((length (now buffer2) ≡ pageBytes) × ((page < 65536) × ((n < 65536) × Legal settings))) ⌝ }
+    ensures { λ r. ⌜ ObeyedCopy r settings (deletChar page n)
+        (now (templates .entry)) (now (index .entry)) (now (buffer1 .entry)) (now (buffer2 .entry))
+        (now (templates .exit)) (now (index .exit)) (now (buffer1 .exit)) (now (buffer2 .exit)) ⌝ }
 {
     let there = pages::is_span(page as u16, n as u16, templates.len() / numbers::PAGE);
     if !there {
@@ -130,8 +141,11 @@ pub(crate) fn empty_all(
     buffer1: &mut [u8],
     buffer2: &mut [u8],
 ) -> Answer
-    requires { ⌜ (length (now buffer1) ≡ pageBytes) × ((length (now buffer2) ≡ pageBytes) × ((length (now templates) / pageBytes ≤ mostPages) × Legal settings)) ⌝ }
-    ensures { λ r. ⌜ ObeyedCopy r settings empty (now (templates .entry)) (now (index .entry)) (now (buffer1 .entry)) (now (buffer2 .entry)) (now (templates .exit)) (now (index .exit)) (now (buffer1 .exit)) (now (buffer2 .exit)) ⌝ }
+    requires { ⌜ (length (now buffer1) ≡ pageBytes)
+        × ((length (now buffer2) ≡ pageBytes) × ((length (now templates) / pageBytes ≤ mostPages) × Legal settings)) ⌝ }
+    ensures { λ r. ⌜ ObeyedCopy r settings empty
+        (now (templates .entry)) (now (index .entry)) (now (buffer1 .entry)) (now (buffer2 .entry))
+        (now (templates .exit)) (now (index .exit)) (now (buffer1 .exit)) (now (buffer2 .exit)) ⌝ }
 {
     let pages = templates.len() / numbers::PAGE;
     bytes::zero(templates);
