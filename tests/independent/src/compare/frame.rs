@@ -200,6 +200,11 @@ impl Request {
 }
 
 impl Outcome {
+    /// The acknowledge code, if there is a reply.
+    pub fn code(&self) -> Option<u8> {
+        (self.answer.length > 0).then(|| self.room[9])
+    }
+
     /// The frame out, without the scores and thresholds.
     pub fn frame(&self) -> Vec<u8> {
         let Reader { settings, templates, index, notepad, buffers, .. } = &self.reader;

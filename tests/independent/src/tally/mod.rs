@@ -10,20 +10,29 @@ use crate::reader::receiver::Receiver;
 use crate::reader::*;
 use crate::tally::kinds::{Awaited::UpTo, *};
 use crate::tally::parameters::Done;
-use std::collections::BTreeMap;
+use std::collections::HashMap;
 
 #[derive(Default)]
 pub struct Tally {
     pub calls: usize,
-    counts: BTreeMap<(usize, usize), usize>,
+    counts: HashMap<(&'static str, usize), usize>,
     /// What was done last that matters to a ReadSysPara, and the settings that it left.
-    pub last: Option<(Done, Settings)>,
+    last: Option<(Done, Settings)>,
+}
+
+/// A packet that a call dealt with, and the acknowledge code of the reply, if there is one.
+pub struct Met<'a> {
+    request: &'a Request,
+    outcome: &'a Outcome,
+    packet: Packet<'a>,
+    code: Option<u8>,
 }
 
 impl Tally {
     pub fn add(&mut self, request: &Request, outcome: &Outcome) {
         self.calls += 1;
         let refusal = outcome.answer.refusal;
+        let run = request.whole_run();
         if let Some(receiver) = request.kind.receiver() {
             self.add_receiver(request, receiver, refusal);
         }
@@ -39,15 +48,27 @@ impl Tally {
             MARKS_SWITCHED
         } else {
             self.count(REFUSALS, refusal);
-            self.add_call(request, outcome);
+            if refusal == 0 {
+                self.count(CAPACITIES, request.reader.capacity());
+                self.add_header(&run);
+            } else {
+                self.add_refused(request);
+            }
             MARKS
         };
         if !request.reader.settings.marks_legal() {
             self.count(marks, refusal);
         }
-        self.add_origins(request, outcome);
-        self.add_search(request, outcome);
-        self.add_parameters(request, outcome);
+        let packet = find(&run).1.filter(|_| request.kind.is_call() && refusal == 0);
+        let met = packet.map(|packet| Met { request, outcome, packet, code: outcome.code() });
+        if let Some(met) = &met {
+            self.add_packet(met);
+            self.add_packet_with_origins(met);
+            self.add_packet_with_found_mark(met);
+        }
+        self.add_origins(request, refusal);
+        self.add_search(request, refusal);
+        self.add_parameters(request, outcome, met.as_ref());
     }
 
     fn add_bringing_over(&mut self, request: &Request, refusal: u8) {
@@ -57,19 +78,6 @@ impl Tally {
             (_, _, true) => self.count(STORED_INDEXES_REFUSED, stored),
             (_, true, _) => self.count(LENT_INDEXES_REFUSED, lent),
             _ => self.count(BOTH_INDEXES_REFUSED, stored),
-        }
-    }
-
-    fn add_call(&mut self, request: &Request, outcome: &Outcome) {
-        if outcome.answer.refusal != 0 {
-            self.add_refused(request);
-            return;
-        }
-        self.count(CAPACITIES, request.reader.capacity());
-        let run = request.whole_run();
-        self.add_header(&run);
-        if let Some(packet) = find(&run).1 {
-            self.add_packet(&packet, request, outcome);
         }
     }
 
@@ -109,12 +117,13 @@ impl Tally {
         }
     }
 
-    fn add_packet(&mut self, packet: &Packet, request: &Request, outcome: &Outcome) {
+    fn add_packet(&mut self, met: &Met) {
+        let Met { request, outcome, packet, code } = met;
         let before = &request.reader.settings;
-        if outcome.answer.length > 0 {
-            self.add_reply(packet, outcome.room[9], before.size());
-            self.add_pages(packet, request, outcome);
-            self.add_store(request, outcome.room[9]);
+        if let Some(code) = *code {
+            self.add_reply(packet, code, before.size());
+            self.add_pages(met, code);
+            self.add_store(request, code);
         } else if before.transfer != 0 && outcome.reader.settings.transfer == 0 {
             self.count(DOWNLOADS, before.size());
         }
@@ -138,8 +147,8 @@ impl Tally {
     }
 
     /// A reply to a command that names pages or tells the valid count.
-    fn add_pages(&mut self, packet: &Packet, request: &Request, outcome: &Outcome) {
-        let (code, listed) = (outcome.room[9], &outcome.room[10..outcome.answer.length - 2]);
+    fn add_pages(&mut self, Met { request, outcome, packet, .. }: &Met, code: u8) {
+        let listed = &outcome.room[10..outcome.answer.length - 2];
         match (packet.content, code) {
             ([READ_INDEX_TABLE, page], 0x00) => {
                 self.count(INDEX_PAGES_READ, *page);
@@ -224,21 +233,21 @@ impl Tally {
         }
     }
 
-    pub fn count(&mut self, kind: usize, which: impl Into<usize>) {
-        *self.counts.entry((kind, which.into())).or_default() += 1;
+    fn count(&mut self, kind: Kind, which: impl Into<usize>) {
+        *self.counts.entry((kind.name, which.into())).or_default() += 1;
     }
 
     /// A line for each of these kinds.
-    pub fn lines(&self, kinds: &[usize]) -> Vec<String> {
-        let each = |&place: &usize| {
-            let kind = &KINDS[place];
-            let number = |which| self.number(place, which);
+    pub fn lines(&self, kinds: &[Kind]) -> Vec<String> {
+        let each = |kind: &Kind| {
             let counts: Vec<String> = match kind.awaited {
                 UpTo(most) => {
-                    let least = (0..=most).map(number).min().unwrap_or(0);
+                    let least = (0..=most).map(|which| self.number(kind, which)).min().unwrap_or(0);
                     vec![format!("each from 0 to {most}, {least} times or more")]
                 }
-                _ => kind.awaited().map(|which| format!("{}={}", kind.label(which), number(which))).collect(),
+                _ => {
+                    kind.awaited().map(|which| format!("{}={}", kind.label(which), self.number(kind, which))).collect()
+                }
             };
             format!("{}: {}", kind.name, counts.join(" "))
         };
@@ -246,23 +255,22 @@ impl Tally {
     }
 
     /// What of these kinds did not occur.
-    pub fn gaps(&self, kinds: &[usize]) -> Vec<String> {
+    pub fn gaps(&self, kinds: &[Kind]) -> Vec<String> {
         let mut gaps = Vec::new();
-        for &place in kinds {
-            let kind = &KINDS[place];
-            let missing = kind.awaited().filter(|&which| self.number(place, which) == 0);
+        for kind in kinds {
+            let missing = kind.awaited().filter(|&which| self.number(kind, which) == 0);
             gaps.extend(missing.map(|which| format!("{}: {}", kind.name, kind.label(which))));
         }
         gaps
     }
 
-    fn number(&self, kind: usize, which: usize) -> usize {
-        self.counts.get(&(kind, which)).copied().unwrap_or(0)
+    fn number(&self, kind: &Kind, which: usize) -> usize {
+        self.counts.get(&(kind.name, which)).copied().unwrap_or(0)
     }
 }
 
 /// Whether a refused call would be carried out with this change of the reader.
-pub fn refused_for(change: fn(&mut Reader), request: &Request) -> bool {
+fn refused_for(change: fn(&mut Reader), request: &Request) -> bool {
     let mut asked = request.clone();
     change(&mut asked.reader);
     asked.carried_out().answer.refusal == 0

@@ -1,17 +1,16 @@
 //! Counts what the calls met and brought about of the origins of document 02's request [7].
 
-use crate::compare::frame::{self, Outcome, Request};
+use crate::compare::frame::{self, Request};
 use crate::reader::*;
 use crate::tally::kinds::*;
-use crate::tally::{refused_for, Tally};
+use crate::tally::{refused_for, Met, Tally};
 
 impl Tally {
-    pub fn add_origins(&mut self, request: &Request, outcome: &Outcome) {
-        let (reader, refusal) = (&request.reader, outcome.answer.refusal);
+    pub fn add_origins(&mut self, request: &Request, refusal: u8) {
+        let reader = &request.reader;
         let unfit = (0..2).any(|buffer| unfit(reader, buffer));
         if request.kind.is_call() && refusal == 0 {
             self.add_legal_origins(reader);
-            self.add_packet_with_origins(request, outcome);
         } else if request.kind.is_call() && unfit {
             self.count(UNFIT_ORIGINS, refusal);
             self.add_refused_origins(request);
@@ -56,17 +55,14 @@ impl Tally {
         }
     }
 
-    fn add_packet_with_origins(&mut self, request: &Request, outcome: &Outcome) {
-        let run = request.whole_run();
+    pub fn add_packet_with_origins(&mut self, Met { request, outcome, packet, code }: &Met) {
         let reader = &request.reader;
-        let packet = match find(&run).1.filter(|packet| packet.address == reader.settings.address) {
-            Some(packet) => packet,
-            None => return,
-        };
-        let code = (outcome.answer.length > 0).then(|| outcome.room[9]);
+        if packet.address != reader.settings.address {
+            return;
+        }
         if with_origin(reader).next().is_some() {
-            code.into_iter().for_each(|code| self.count(CODES_WITH_ORIGIN, code));
-            self.add_transfer_beside(&packet, &reader.settings, &outcome.reader.settings);
+            code.iter().for_each(|&code| self.count(CODES_WITH_ORIGIN, code));
+            self.add_transfer_beside(packet, &reader.settings, &outcome.reader.settings);
         }
         if let Some(code) = code.filter(|_| packet.identifier == COMMAND && packet.sum_right) {
             self.add_command_with_origins(packet.content, code, reader);
@@ -109,7 +105,7 @@ impl Tally {
     }
 
     /// A command that names a buffer, by the origin of this buffer and by that of the other.
-    fn add_named(&mut self, [with, beside]: [usize; 2], named: u8, code: u8, reader: &Reader) {
+    fn add_named(&mut self, [with, beside]: [Kind; 2], named: u8, code: u8, reader: &Reader) {
         for (buffer, _) in with_origin(reader).filter(|_| named == 1 || named == 2) {
             self.count(if buffer + 1 == usize::from(named) { with } else { beside }, code);
         }

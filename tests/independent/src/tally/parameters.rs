@@ -3,7 +3,7 @@
 use crate::compare::frame::{Outcome, Request};
 use crate::reader::*;
 use crate::tally::kinds::*;
-use crate::tally::Tally;
+use crate::tally::{Met, Tally};
 
 /// What was done to a reader before a ReadSysPara.
 #[derive(Clone, Copy)]
@@ -16,45 +16,38 @@ pub enum Done {
 }
 
 impl Tally {
-    pub fn add_parameters(&mut self, request: &Request, outcome: &Outcome) {
-        if outcome.answer.refusal != 0 {
-            return;
-        }
-        let run = request.whole_run();
-        let command = find(&run).1.filter(|packet| request.kind.is_call() && packet.identifier == COMMAND);
-        if let Some(packet) = &command {
-            self.add_at_lock(packet.content[0], request, outcome);
-            if packet.content[0] == READ_SYS_PARA {
-                self.add_read(packet, request, outcome);
-            }
-        }
-        let done = match (command.filter(|_| outcome.answer.length > 0), outcome.room.get(9)) {
-            (None, _) if request.kind.is_line_switch() => Done::LineSwitched,
-            (Some(packet), Some(code)) => match (packet.content[0], code) {
-                (SET_PWD, 0x00) => Done::PasswordSet,
-                (VFY_PWD, 0x13) => Done::WrongPassword,
-                (VFY_PWD, 0x00) => Done::RightPassword,
-                (READ_SYS_PARA, 0x00) => Done::ParametersRead,
-                _ => return,
-            },
-            _ => return,
+    pub fn add_parameters(&mut self, request: &Request, outcome: &Outcome, met: Option<&Met>) {
+        let done = match met.filter(|met| met.packet.identifier == COMMAND) {
+            Some(met) => self.add_command(met),
+            None => (request.kind.is_line_switch() && outcome.answer.refusal == 0).then_some(Done::LineSwitched),
         };
-        self.last = Some((done, outcome.reader.settings.clone()));
+        if let Some(done) = done {
+            self.last = Some((done, outcome.reader.settings.clone()));
+        }
     }
 
-    /// A command to a locked reader, by whether it passed the lock.
-    fn add_at_lock(&mut self, command: u8, request: &Request, outcome: &Outcome) {
-        if request.reader.settings.locked() && outcome.answer.length > 0 {
-            match outcome.room[9] {
-                0x00 => self.count(COMMANDS_AT_LOCK, command),
-                0x21 => self.count(COMMANDS_BARRED, command),
-                _ => {}
-            }
+    /// A command, by the lock; what it did that matters to a ReadSysPara.
+    fn add_command(&mut self, met: &Met) -> Option<Done> {
+        let command = met.packet.content[0];
+        match met.code.filter(|_| met.request.reader.settings.locked()) {
+            Some(0x00) => self.count(COMMANDS_AT_LOCK, command),
+            Some(0x21) => self.count(COMMANDS_BARRED, command),
+            _ => {}
+        }
+        if command == READ_SYS_PARA {
+            self.add_read(met);
+        }
+        match (command, met.code?) {
+            (SET_PWD, 0x00) => Some(Done::PasswordSet),
+            (VFY_PWD, 0x13) => Some(Done::WrongPassword),
+            (VFY_PWD, 0x00) => Some(Done::RightPassword),
+            (READ_SYS_PARA, 0x00) => Some(Done::ParametersRead),
+            _ => None,
         }
     }
 
     /// A ReadSysPara, by how it came and by the lock.
-    fn add_read(&mut self, packet: &Packet, request: &Request, outcome: &Outcome) {
+    fn add_read(&mut self, Met { request, outcome, packet, .. }: &Met) {
         let settings = &request.reader.settings;
         let which: usize = match packet.content.len() {
             _ if packet.address != settings.address => 3,
@@ -106,7 +99,7 @@ impl Tally {
     }
 
     /// Counts what was done last to a reader with these settings.
-    fn count_after(&mut self, kind: usize, settings: &Settings) {
+    fn count_after(&mut self, kind: Kind, settings: &Settings) {
         if let Some((done, _)) = self.last.as_ref().filter(|(_, left)| left == settings) {
             self.count(kind, *done as usize);
         }

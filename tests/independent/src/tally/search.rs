@@ -1,17 +1,17 @@
 //! Counts what the calls met and brought about of document 02's request [8]: Searches, scores and thresholds, and the
 //! found mark.
 
-use crate::compare::frame::{self, Outcome, Request};
+use crate::compare::frame::{self, Request};
 use crate::reader::*;
 use crate::tally::kinds::*;
-use crate::tally::{refused_for, Tally};
+use crate::tally::{refused_for, Met, Tally};
 use std::ops::Range;
 
 impl Tally {
-    pub fn add_search(&mut self, request: &Request, outcome: &Outcome) {
-        let (found, refusal) = (request.reader.settings.found, outcome.answer.refusal);
+    pub fn add_search(&mut self, request: &Request, refusal: u8) {
+        let found = request.reader.settings.found;
         if request.kind.is_call() && refusal == 0 {
-            self.add_answered(request, outcome);
+            return;
         } else if request.kind.is_call() {
             self.add_refused_chip(request);
             if !found.legal() && refused_for(|reader| reader.settings.found = CLEAR, request) {
@@ -53,15 +53,13 @@ impl Tally {
     }
 
     /// A packet that was answered, by the found mark; a Search also by more.
-    fn add_answered(&mut self, request: &Request, outcome: &Outcome) {
-        let run = request.whole_run();
+    pub fn add_packet_with_found_mark(&mut self, Met { request, outcome, packet, code }: &Met) {
         let Settings { found, transfer, .. } = request.reader.settings;
-        let packet = match find(&run).1 {
-            Some(packet) if outcome.answer.length > 0 => packet,
-            _ => return,
+        let (code, command) = match *code {
+            Some(code) => (code, packet.content[0]),
+            None => return,
         };
-        let (code, command) = (outcome.room[9], packet.content[0]);
-        let by_mark = |[clear, set]: [usize; 2]| if found.is_set() { set } else { clear };
+        let by_mark = |[clear, set]: [Kind; 2]| if found.is_set() { set } else { clear };
         self.count(by_mark([CODES_NOT_FOUND, CODES_FOUND]), code);
         if code == 0x00 {
             self.count(by_mark([COMMANDS_NOT_FOUND, COMMANDS_FOUND]), command);

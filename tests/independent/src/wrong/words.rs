@@ -39,7 +39,7 @@ impl<'a> Case<'a> {
             old: &request.reader,
             content: command.map_or(&[], |packet| packet.content),
             refusal: outcome.answer.refusal,
-            code: (outcome.answer.length > 0).then(|| outcome.room[9]),
+            code: outcome.code(),
             outcome,
         }
     }
