@@ -123,7 +123,8 @@ pub(crate) fn hear_packet(
     reply: &mut [u8],
 ) -> Called
     requires { ⌜ HearNeeds settings (now templates) (now index) (now buffer1) (now buffer2) (now scores) (now run) at len (now reply) ⌝ }
-    ensures { λ r. ⌜ endedOf r (now (templates .exit)) (now (index .exit)) (now (notepad .exit)) (now (buffer1 .exit)) (now (buffer2 .exit)) (now (reply .exit))
+    ensures { λ r. ⌜
+        endedOf r (now (templates .exit)) (now (index .exit)) (now (notepad .exit)) (now (buffer1 .exit)) (now (buffer2 .exit)) (now (reply .exit))
         ≡ carriedOf (at + headBytes + len)
         (answer (chipOf (now (scores .entry)) (now (thresholds .entry)))
         (readerOf settings (now (templates .entry)) (now (index .entry)) (now (notepad .entry)) (now (buffer1 .entry)) (now (buffer2 .entry)))
@@ -228,7 +229,8 @@ pub fn step_shaped(
     run: &[u8],
     reply: &mut [u8],
 ) -> Called
-    ensures { λ r. ⌜ endedOf r (now (templates .exit)) (now (index .exit)) (now (notepad .exit)) (now (buffer1 .exit)) (now (buffer2 .exit)) (now (reply .exit))
+    ensures { λ r. ⌜
+        endedOf r (now (templates .exit)) (now (index .exit)) (now (notepad .exit)) (now (buffer1 .exit)) (now (buffer2 .exit)) (now (reply .exit))
         ≡ callOf (shaped noted)
         (readerOf settings (now (templates .entry)) (now (index .entry)) (now (notepad .entry)) (now (buffer1 .entry)) (now (buffer2 .entry)))
         (now (run .entry)) (lentOf (now (scores .entry)) (now (thresholds .entry)) (now (reply .entry))) ⌝ }
@@ -286,7 +288,8 @@ pub fn step(
     run: &[u8],
     reply: &mut [u8],
 ) -> Called
-    ensures { λ r. ⌜ endedOf r (now (templates .exit)) (now (index .exit)) (now (notepad .exit)) (now (buffer1 .exit)) (now (buffer2 .exit)) (now (reply .exit))
+    ensures { λ r. ⌜
+        endedOf r (now (templates .exit)) (now (index .exit)) (now (notepad .exit)) (now (buffer1 .exit)) (now (buffer2 .exit)) (now (reply .exit))
         ≡ callOf core
         (readerOf settings (now (templates .entry)) (now (index .entry)) (now (notepad .entry)) (now (buffer1 .entry)) (now (buffer2 .entry)))
         (now (run .entry)) (lentOf (now (scores .entry)) (now (thresholds .entry)) (now (reply .entry))) ⌝ }

@@ -100,7 +100,8 @@ pub fn receive_shaped(
     piece: &[u8],
     reply: &mut [u8],
 ) -> Received
-    ensures { λ r. ⌜ receivedOf r (now (templates .exit)) (now (index .exit)) (now (notepad .exit)) (now (buffer1 .exit)) (now (buffer2 .exit)) (now (reply .exit))
+    ensures { λ r. ⌜
+        receivedOf r (now (templates .exit)) (now (index .exit)) (now (notepad .exit)) (now (buffer1 .exit)) (now (buffer2 .exit)) (now (reply .exit))
         ≡ receiveOf (shaped noted)
         (lineOf line (now (templates .entry)) (now (index .entry)) (now (notepad .entry)) (now (buffer1 .entry)) (now (buffer2 .entry)))
         (now (piece .entry)) (lentOf (now (scores .entry)) (now (thresholds .entry)) (now (reply .entry))) ⌝ }
@@ -163,8 +164,8 @@ pub fn receive_shaped(
     }
 }
 
-// A call of document 01's reader, whose notepad has 512. Where it is refused the line is handed back from where it came: then the compiler
-// copies it at no other place.
+// A call of document 01's reader, whose notepad has 512. Refused, it hands back the line that it took and not the one that it got back: they are the
+// same, and so the compiler keeps no copy.
 pub fn receive(
     line: Line,
     templates: &mut [u8],
@@ -177,7 +178,8 @@ pub fn receive(
     piece: &[u8],
     reply: &mut [u8],
 ) -> Received
-    ensures { λ r. ⌜ receivedOf r (now (templates .exit)) (now (index .exit)) (now (notepad .exit)) (now (buffer1 .exit)) (now (buffer2 .exit)) (now (reply .exit))
+    ensures { λ r. ⌜
+        receivedOf r (now (templates .exit)) (now (index .exit)) (now (notepad .exit)) (now (buffer1 .exit)) (now (buffer2 .exit)) (now (reply .exit))
         ≡ receiveOf core
         (lineOf line (now (templates .entry)) (now (index .entry)) (now (notepad .entry)) (now (buffer1 .entry)) (now (buffer2 .entry)))
         (now (piece .entry)) (lentOf (now (scores .entry)) (now (thresholds .entry)) (now (reply .entry))) ⌝ }
