@@ -12,6 +12,7 @@ mod wrong;
 use compare::frame::Request;
 use compare::probe::Probe;
 use compare::{compare, End, Extent, COVERING_CASES};
+use examples::Examples;
 use std::fs;
 use std::io::{self, Write};
 use std::process::ExitCode;
@@ -66,7 +67,7 @@ fn compare_program(arguments: &[String]) -> Result<(), End> {
         }
     }
     let program = rest.next().ok_or_else(|| format!("no program is named\n{USAGE}"))?;
-    let lines = compare(Probe::start(program, rest.as_slice())?, extent)?;
+    let lines = compare(Probe::start(program, rest.as_slice())?, &Examples::all(), extent)?;
     println!("{}", lines.join("\n"));
     Ok(())
 }
@@ -86,10 +87,11 @@ fn list_errors() -> Result<(), End> {
 /// Demands of each deliberate error that the comparer refuses it.
 fn refuse_errors() -> Result<(), End> {
     let extent = Extent { cases: COVERING_CASES, seed: 1, quiet: true };
+    let examples = Examples::all();
     let mut refused = 0;
     for wrong in wrong::all() {
         let name = &wrong.name;
-        match compare(|request: &Request| wrong.carried_out(request), extent) {
+        match compare(|request: &Request| wrong.carried_out(request), &examples, extent) {
             Err(End::Difference(_)) => refused += 1,
             Ok(_) | Err(End::Weakness(_)) => {
                 return Err(End::Difference(vec![format!("the deliberate error {name} is not refused")]))

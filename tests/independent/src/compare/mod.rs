@@ -9,7 +9,7 @@ mod shrink;
 use crate::cases::chance::Chance;
 use crate::cases::receivers::{self, Caller};
 use crate::cases::{self, bringing_over, counts, limits, origins, parameters, search, thousand, Dialogue};
-use crate::examples;
+use crate::examples::Examples;
 use crate::reader;
 use crate::tally::kinds::{BROUGHT, CALLED, FRESHENED, ON_A_LINE, RECEIVED};
 use crate::tally::Tally;
@@ -76,10 +76,10 @@ pub struct Extent {
 }
 
 /// Puts the examples and the cases to the other; lines that tell of the agreement.
-pub fn compare<O: Other>(other: O, extent: Extent) -> Result<Vec<String>, End> {
+pub fn compare<O: Other>(other: O, examples: &Examples, extent: Extent) -> Result<Vec<String>, End> {
     let Extent { cases, seed, quiet } = extent;
     let mut comparer = Comparer { other, readers: Tally::default(), receivers: Tally::default(), case: String::new() };
-    comparer.examples()?;
+    comparer.examples(examples)?;
     (comparer.readers, comparer.receivers) = Default::default();
     comparer.by_chance(extent)?;
     comparer.in_turn("of the thousand pages", bringing_over::all(seed).chain(thousand::all(seed)))?;
@@ -122,20 +122,20 @@ struct Comparer<O> {
 
 impl<O: Other> Comparer<O> {
     /// The examples, which also bind the independent reader and receiver.
-    fn examples(&mut self) -> Result<(), End> {
-        for (name, frame_in, frame_out) in examples::of_frames() {
+    fn examples(&mut self, examples: &Examples) -> Result<(), End> {
+        for (name, frame_in, frame_out) in &examples.of_frames {
             self.case = format!("the example {name}");
             let request = Request::read(&mut &frame_in[..]).ok().flatten();
             let request = request.ok_or_else(|| format!("there is no frame in {}", self.case))?;
             let outcome = self.agreed(&request)?;
-            self.demand(request.frame() == frame_in && outcome.frame() == frame_out, "gives another frame")?;
+            self.demand(request.frame() == *frame_in && outcome.frame() == *frame_out, "gives another frame")?;
         }
-        for example in examples::all() {
+        for example in &examples.of_steps {
             self.case = format!("the example {}", example.name);
-            let (mut receiver, mut reader) = (example.receiver, example.reader);
-            for step in example.steps {
+            let (mut receiver, mut reader) = (example.receiver.clone(), example.reader.clone());
+            for step in &example.steps {
                 let room = vec![0x5A; reader::ROOM];
-                let request = Request { kind: Kind::call(receiver), reader, run: step.run, room };
+                let request = Request { kind: Kind::call(receiver), reader, run: step.run.clone(), room };
                 let outcome = self.agreed(&request)?;
                 let answer = &outcome.answer;
                 let answered = answer.used == step.used && outcome.room[..answer.length] == step.reply;
