@@ -80,7 +80,6 @@ pub fn compare<O: Other>(other: O, examples: &Examples, extent: Extent) -> Resul
     let Extent { cases, seed, quiet } = extent;
     let mut comparer = Comparer { other, readers: Tally::default(), receivers: Tally::default(), case: String::new() };
     comparer.examples(examples)?;
-    (comparer.readers, comparer.receivers) = Default::default();
     comparer.by_chance(extent)?;
     comparer.in_turn("of the thousand pages", bringing_over::all(seed).chain(thousand::all(seed)))?;
     comparer.in_turn("at the limits", limits::all(seed).into_iter())?;
@@ -121,13 +120,13 @@ struct Comparer<O> {
 }
 
 impl<O: Other> Comparer<O> {
-    /// The examples, which also bind the independent reader and receiver.
+    /// The examples, which also bind the independent reader and receiver. They do not count.
     fn examples(&mut self, examples: &Examples) -> Result<(), End> {
         for (name, frame_in, frame_out) in &examples.of_frames {
             self.case = format!("the example {name}");
             let request = Request::read(&mut &frame_in[..]).ok().flatten();
             let request = request.ok_or_else(|| format!("there is no frame in {}", self.case))?;
-            let outcome = self.agreed(&request)?;
+            let outcome = self.compared(&request)?;
             self.demand(request.frame() == *frame_in && outcome.frame() == *frame_out, "gives another frame")?;
         }
         for example in &examples.of_steps {
@@ -136,7 +135,7 @@ impl<O: Other> Comparer<O> {
             for step in &example.steps {
                 let room = vec![0x5A; reader::ROOM];
                 let request = Request { kind: Kind::call(receiver), reader, run: step.run.clone(), room };
-                let outcome = self.agreed(&request)?;
+                let outcome = self.compared(&request)?;
                 let answer = &outcome.answer;
                 let answered = answer.used == step.used && outcome.room[..answer.length] == step.reply;
                 self.demand(answered && outcome.receiver == step.receiver, "gives another answer")?;
@@ -224,19 +223,25 @@ impl<O: Other> Comparer<O> {
         Ok(())
     }
 
-    /// The outcome on which both agree, in every byte.
+    /// The outcome on which both agree, in every byte. It counts.
     fn agreed(&mut self, request: &Request) -> Result<Outcome, End> {
+        let outcome = self.compared(request)?;
+        let tally = if request.kind.receiver().is_some() { &mut self.receivers } else { &mut self.readers };
+        tally.add(request, &outcome);
+        Ok(outcome)
+    }
+
+    fn compared(&mut self, request: &Request) -> Result<Outcome, End> {
         let paper = request.carried_out();
         let other = self.other.ask(request).map_err(|trouble| {
             let heading = format!("{trouble}, in {}:", self.case);
             [vec![heading], report::case(request)].concat().join("\n  ")
         })?;
-        if other != paper {
-            return Err(self.difference(request, other));
+        if other == paper {
+            Ok(paper)
+        } else {
+            Err(self.difference(request, other))
         }
-        let tally = if request.kind.receiver().is_some() { &mut self.receivers } else { &mut self.readers };
-        tally.add(request, &paper);
-        Ok(paper)
     }
 
     /// Tells of a case on which the two differ, made small.

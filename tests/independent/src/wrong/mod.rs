@@ -22,7 +22,7 @@ pub struct Wrong {
     shows: Shows,
     /// The requests that go wrong.
     such: fn(&Request) -> bool,
-    makes: Rc<dyn Fn(&Request) -> Outcome>,
+    makes: Makes,
 }
 
 /// Where an error shows.
@@ -113,12 +113,9 @@ impl Row<'_> {
     }
 
     /// The row as a whole: what the wrong one makes of a request.
-    fn makes(self, makes: impl Makes) {
-        let makes: Rc<dyn Fn(&Request) -> Outcome> = Rc::new(makes);
+    fn makes(self, makes: Makes) {
         for (name, shows, inside) in self.names {
-            let reader = Rc::clone(&makes);
-            let inner = move |request: &Request| reader(request);
-            let makes = if inside { Rc::new(holds(HOLDS, inner)) } else { Rc::clone(&makes) };
+            let makes = if inside { holds(HOLDS, Rc::clone(&makes)) } else { Rc::clone(&makes) };
             self.rows.push(Wrong { name, shows, such: self.such, makes });
         }
     }
