@@ -12,8 +12,10 @@ mod wrong;
 use compare::frame::Request;
 use compare::probe::Probe;
 use compare::{compare, End, Extent, COVERING_CASES};
+use examples::Examples;
 use std::fs;
 use std::io::{self, Write};
+use std::panic::{catch_unwind, AssertUnwindSafe};
 use std::process::ExitCode;
 
 const USAGE: &str = "usage: independent [--cases N] [--seed S] [--quiet] -- PROGRAM ARGS...
@@ -66,7 +68,7 @@ fn compare_program(arguments: &[String]) -> Result<(), End> {
         }
     }
     let program = rest.next().ok_or_else(|| format!("no program is named\n{USAGE}"))?;
-    let lines = compare(Probe::start(program, rest.as_slice())?, extent)?;
+    let lines = compare(Probe::start(program, rest.as_slice())?, &Examples::all(), extent)?;
     println!("{}", lines.join("\n"));
     Ok(())
 }
@@ -83,21 +85,25 @@ fn list_errors() -> Result<(), End> {
     Ok(())
 }
 
-/// Demands of each deliberate error that the comparer refuses it.
+/// Demands of each deliberate error that the comparer refuses it: the two differ.
 fn refuse_errors() -> Result<(), End> {
     let extent = Extent { cases: COVERING_CASES, seed: 1, quiet: true };
-    let mut refused = 0;
-    for wrong in wrong::all() {
-        let name = &wrong.name;
-        match compare(|request: &Request| wrong.carried_out(request), extent) {
-            Err(End::Difference(_)) => refused += 1,
-            Ok(_) | Err(End::Weakness(_)) => {
-                return Err(End::Difference(vec![format!("the deliberate error {name} is not refused")]))
-            }
-            Err(End::Trouble(trouble)) => return Err(End::Trouble(format!("the deliberate error {name}: {trouble}"))),
-        }
+    let examples = Examples::all();
+    let errors = wrong::all();
+    for wrong in &errors {
+        let compared = || compare(|request: &Request| wrong.carried_out(request), &examples, extent);
+        let failure = match catch_unwind(AssertUnwindSafe(compared)) {
+            Ok(Err(End::Difference(_))) => continue,
+            Ok(Err(End::Trouble(trouble))) => trouble,
+            Ok(_) => return Err(End::Difference(vec![format!("the deliberate error {} is not refused", wrong.name)])),
+            Err(_) => "it panics".to_string(),
+        };
+        return Err(End::Trouble(format!("the deliberate error {}: {failure}", wrong.name)));
     }
-    println!("independent: {refused} deliberate errors are refused");
+    if errors.is_empty() {
+        return Err(End::Trouble("there are no deliberate errors".into()));
+    }
+    println!("independent: {} deliberate errors are refused", errors.len());
     Ok(())
 }
 

@@ -1,6 +1,6 @@
 //! What is sent by chance about origins, by document 02's request [7].
 
-use crate::cases::{bytes_events, Author, Event};
+use crate::cases::author::{bytes_events, Author, Event};
 use crate::reader::*;
 
 impl Author<'_> {

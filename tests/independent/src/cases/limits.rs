@@ -1,8 +1,8 @@
 //! Cases at the limits of document 02's request [3], in turn: packets about the greatest lengths, and all size codes.
 
+use crate::cases::author::Author;
 use crate::cases::chance::Chance;
 use crate::cases::readers::sized_reader;
-use crate::cases::Author;
 use crate::compare::frame::{Kind, Request};
 use crate::reader::receiver::{Receiver, HOLDS};
 use crate::reader::*;

@@ -1,13 +1,13 @@
 //! Cases of document 02's request [13]: ReadSysParas and a fitter's visits by chance; and in turn ReadSysParas with all
 //! marks, in packets that are not right, in transfers, with all settings, and with guarded contents that differ.
 
+use crate::cases::author::{Author, Event};
 use crate::cases::chance::Chance;
 use crate::cases::origins::CAPACITIES;
 use crate::cases::readers::{capacity, fresh_reader, index_of, legal_reader, numbered_reader, password};
 use crate::cases::receivers;
 use crate::cases::search::in_transfer;
 use crate::cases::thousand::{calls, calls_of};
-use crate::cases::{Author, Event};
 use crate::compare::frame::Request;
 use crate::reader::*;
 

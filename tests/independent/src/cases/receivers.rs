@@ -1,10 +1,10 @@
 //! Cases of the receiver: single calls, a call for each length of a piece and each held count, and the caller of
 //! document 02's request [1].
 
+use crate::cases::author::{Author, Event};
 use crate::cases::chance::Chance;
 use crate::cases::chips;
 use crate::cases::readers::{any_legal_reader, legal_reader, sized_reader, spoiled_reader};
-use crate::cases::{Author, Event};
 use crate::compare::frame::{Kind, Outcome, Request};
 use crate::dialogue::templates;
 use crate::reader::receiver::{given_whole, Receiver, Rest, HOLDS};

@@ -1,12 +1,12 @@
 //! Cases of document 02's request [8]: Searches by chance; and in turn Searches of all ranges, scores about the thresholds,
 //! every code with the found mark set and clear, and scores, thresholds and found marks that do not fit.
 
+use crate::cases::author::Author;
 use crate::cases::chance::Chance;
 use crate::cases::origins::CAPACITIES;
 use crate::cases::readers::{index_of, legal_reader, numbered_reader};
 use crate::cases::receivers;
 use crate::cases::thousand::calls;
-use crate::cases::Author;
 use crate::compare::frame::{Kind, Request};
 use crate::reader::receiver::{Receiver, HOLDS};
 use crate::reader::*;

@@ -9,7 +9,7 @@ mod shrink;
 use crate::cases::chance::Chance;
 use crate::cases::receivers::{self, Caller};
 use crate::cases::{self, bringing_over, counts, limits, origins, parameters, search, thousand, Dialogue};
-use crate::examples;
+use crate::examples::Examples;
 use crate::reader;
 use crate::tally::kinds::{BROUGHT, CALLED, FRESHENED, ON_A_LINE, RECEIVED};
 use crate::tally::Tally;
@@ -76,11 +76,10 @@ pub struct Extent {
 }
 
 /// Puts the examples and the cases to the other; lines that tell of the agreement.
-pub fn compare<O: Other>(other: O, extent: Extent) -> Result<Vec<String>, End> {
+pub fn compare<O: Other>(other: O, examples: &Examples, extent: Extent) -> Result<Vec<String>, End> {
     let Extent { cases, seed, quiet } = extent;
     let mut comparer = Comparer { other, readers: Tally::default(), receivers: Tally::default(), case: String::new() };
-    comparer.examples()?;
-    (comparer.readers, comparer.receivers) = Default::default();
+    comparer.examples(examples)?;
     comparer.by_chance(extent)?;
     comparer.in_turn("of the thousand pages", bringing_over::all(seed).chain(thousand::all(seed)))?;
     comparer.in_turn("at the limits", limits::all(seed).into_iter())?;
@@ -121,22 +120,22 @@ struct Comparer<O> {
 }
 
 impl<O: Other> Comparer<O> {
-    /// The examples, which also bind the independent reader and receiver.
-    fn examples(&mut self) -> Result<(), End> {
-        for (name, frame_in, frame_out) in examples::of_frames() {
+    /// The examples, which also bind the independent reader and receiver. They do not count.
+    fn examples(&mut self, examples: &Examples) -> Result<(), End> {
+        for (name, frame_in, frame_out) in &examples.of_frames {
             self.case = format!("the example {name}");
             let request = Request::read(&mut &frame_in[..]).ok().flatten();
             let request = request.ok_or_else(|| format!("there is no frame in {}", self.case))?;
-            let outcome = self.agreed(&request)?;
-            self.demand(request.frame() == frame_in && outcome.frame() == frame_out, "gives another frame")?;
+            let outcome = self.compared(&request)?;
+            self.demand(request.frame() == *frame_in && outcome.frame() == *frame_out, "gives another frame")?;
         }
-        for example in examples::all() {
+        for example in &examples.of_steps {
             self.case = format!("the example {}", example.name);
-            let (mut receiver, mut reader) = (example.receiver, example.reader);
-            for step in example.steps {
+            let (mut receiver, mut reader) = (example.receiver.clone(), example.reader.clone());
+            for step in &example.steps {
                 let room = vec![0x5A; reader::ROOM];
-                let request = Request { kind: Kind::call(receiver), reader, run: step.run, room };
-                let outcome = self.agreed(&request)?;
+                let request = Request { kind: Kind::call(receiver), reader, run: step.run.clone(), room };
+                let outcome = self.compared(&request)?;
                 let answer = &outcome.answer;
                 let answered = answer.used == step.used && outcome.room[..answer.length] == step.reply;
                 self.demand(answered && outcome.receiver == step.receiver, "gives another answer")?;
@@ -224,19 +223,25 @@ impl<O: Other> Comparer<O> {
         Ok(())
     }
 
-    /// The outcome on which both agree, in every byte.
+    /// The outcome on which both agree, in every byte. It counts.
     fn agreed(&mut self, request: &Request) -> Result<Outcome, End> {
+        let outcome = self.compared(request)?;
+        let tally = if request.kind.receiver().is_some() { &mut self.receivers } else { &mut self.readers };
+        tally.add(request, &outcome);
+        Ok(outcome)
+    }
+
+    fn compared(&mut self, request: &Request) -> Result<Outcome, End> {
         let paper = request.carried_out();
         let other = self.other.ask(request).map_err(|trouble| {
             let heading = format!("{trouble}, in {}:", self.case);
             [vec![heading], report::case(request)].concat().join("\n  ")
         })?;
-        if other != paper {
-            return Err(self.difference(request, other));
+        if other == paper {
+            Ok(paper)
+        } else {
+            Err(self.difference(request, other))
         }
-        let tally = if request.kind.receiver().is_some() { &mut self.receivers } else { &mut self.readers };
-        tally.add(request, &paper);
-        Ok(paper)
     }
 
     /// Tells of a case on which the two differ, made small.

@@ -1,9 +1,8 @@
 //! Examples of document 02's request [13]: what a fitter sees of a locked reader. In frames, `search` has it.
 
-use crate::cases::readers::{fresh_reader, index_of};
-use crate::examples::{bytes, example, exchange, locked, two_stored, zeroes, Example, Step, FINE, LOCKED, PARAMETERS};
-use crate::reader::receiver::Receiver;
-use crate::reader::{Origin, Reader, CLEAR, SET};
+use super::*;
+use crate::cases::readers::index_of;
+use crate::reader::{Origin, CLEAR, SET};
 
 const SET_PASSWORD_0: &str = "EF 01 A 01 00 07 12 00 00 00 00 00 1A";
 const SET_PASSWORD_5: &str = "EF 01 A 01 00 07 12 00 00 00 05 00 1F";
@@ -111,9 +110,8 @@ fn of_packets() -> Vec<Example> {
         "1D",
         "1F 00",
     ];
-    let told = "00 0000 0000 000A 0003 A 0002 0006";
-    let others = [("0F", told), ("40", "00"), ("10", "19")].map(|(content, told)| exchange(content, &bytes(told)));
-    let steps = barred.iter().map(|content| exchange(content, &[0x21])).chain(others).collect();
+    let barred = barred.map(|content| format!("{content}: 21")).join(", ");
+    let contents = format!("{barred}, 0F: 00 0000 0000 000A 0003 A 0002 0006, 40: 00, 10: 19");
     vec![
         example(
             "ReadSysParas that are not right",
@@ -133,7 +131,7 @@ fn of_packets() -> Vec<Example> {
                 (PARAMETERS, 12, STATUS_0),
             ],
         ),
-        Example { name: "every command to a locked reader", receiver: None, reader: locked, steps },
+        exchanges("every command to a locked reader", None, &locked, &contents),
     ]
 }
 
@@ -193,26 +191,18 @@ fn of_guarded_contents() -> Vec<Example> {
         .into()
 }
 
-/// A locked reader that found, with an empty receiver: a piece, the bytes taken of it, the reply, and the bytes held
-/// afterwards.
+/// A locked reader that found, in pieces.
 fn of_receivers() -> Vec<Example> {
-    let pieces = [
+    let both = format!("{PASSWORD_5} {PARAMETERS}");
+    let steps = [
         ("EF 01 A 01", 7, "", "EF 01 A 01"),
         ("00 03 0F", 3, "", "EF 01 A 01 00 03 0F"),
         ("00 13 EF 01 A", 8, STATUS_0, "EF 01 A"),
         ("01 00 04 0F 00 00 14", 7, DAMAGED, ""),
         ("EF 01 A 01 00 03 0F 00", 11, "", "EF 01 A 01 00 03 0F 00"),
         ("14", 1, DAMAGED, ""),
+        (&both[..], 28, FINE, PARAMETERS),
+        ("", 0, STATUS_6, ""),
     ];
-    let both = format!("{PASSWORD_5} {PARAMETERS}");
-    let step = |(piece, used, reply, held): (&str, usize, &str, &str)| Step {
-        run: bytes(piece),
-        used,
-        reply: bytes(reply),
-        receiver: Some(Receiver::holding(&bytes(held))),
-    };
-    let steps = pieces.into_iter().chain([(&both[..], 28, FINE, PARAMETERS), ("", 0, STATUS_6, "")]).map(step);
-    let reader = locked(&open(true));
-    let name = "a fitter's packets in pieces";
-    vec![Example { name, receiver: Some(Receiver::empty()), reader, steps: steps.collect() }]
+    vec![pieces("a fitter's packets in pieces", &locked(&open(true)), &steps)]
 }

@@ -1,17 +1,12 @@
-//! Examples of document 02's request [8]: what a host sees of a Search, and in frames the Search and the status word, the
-//! latter with request [13] too.
+//! Examples of document 02's request [8]: what a host sees of a Search, and in frames the Search and the status word,
+//! the latter with request [13] too.
 
-use crate::cases::readers::{fresh_reader, index_of};
-use crate::dialogue::host::{packet, FRESH};
-use crate::examples::{bytes, exchange, Example, Frames};
-use crate::reader::receiver::HOLDS;
-use crate::reader::{Chip, Reader, ACKNOWLEDGE, COMMAND, DATA, LAST_DATA, PAGE, ROOM, SET};
+use super::*;
+use crate::cases::readers::index_of;
+use crate::reader::{Chip, DATA, LAST_DATA, ROOM, SET};
 
-/// A command's content, and what the acknowledge has.
-type Exchanges<'a> = &'a [(&'a str, &'a str)];
-
-/// Readers of 10 and of 1000 pages with buffer 1 filled. Of the first, pages 0 and 9 are stored, and of the second, pages
-/// 255, 256 and 999; the score of a page is its number, and the threshold of level 3 is 9.
+/// Readers of 10 and of 1000 pages with buffer 1 filled. Of the first, pages 0 and 9 are stored, and of the second,
+/// pages 255, 256 and 999; the score of a page is its number, and the threshold of level 3 is 9.
 pub fn all() -> Vec<Example> {
     let [few, many] = [10, 1000].map(|capacity| {
         let mut reader = fresh_reader(capacity);
@@ -22,73 +17,43 @@ pub fn all() -> Vec<Example> {
     });
     let [found, not_found] = ["02", "00"].map(|status| format!("00 00{status} 0000 000A 0003 A 0002 0006"));
     let [found, not_found] = [&found[..], &not_found];
+    let example = |name, reader, steps: &str| exchanges(name, None, reader, steps);
     vec![
         example(
             "a finger found, deleted and not found",
             &few,
-            &[
-                ("0F", not_found),
-                ("04 01 0000 000A", "00 0009 0009"),
-                ("0F", found),
-                ("04 01 0000 0009", "09 0000 0000"),
-                ("0F", not_found),
-                ("04 01 0009 FFFF", "00 0009 0009"),
-                ("04 01 000A 0001", "0B"),
-                ("04 02 0000 000A", "0C"),
-                ("04 03 0000 000A", "01"),
-                ("0C 0009 0001", "00"),
-                ("0F", found),
-                ("04 01 0000 000A", "09 0000 0000"),
-                ("0F", not_found),
-            ],
+            &format!(
+                "0F: {not_found}, 04 01 0000 000A: 00 0009 0009, 0F: {found}, 04 01 0000 0009: 09 0000 0000,
+                 0F: {not_found}, 04 01 0009 FFFF: 00 0009 0009, 04 01 000A 0001: 0B, 04 02 0000 000A: 0C,
+                 04 03 0000 000A: 01, 0C 0009 0001: 00, 0F: {found}, 04 01 0000 000A: 09 0000 0000,
+                 0F: {not_found}"
+            ),
         ),
         example(
             "other levels",
             &few,
-            &[
-                ("0E 05 01", "00"),
-                ("04 01 0000 0009", "00 0000 0000"),
-                ("0E 05 02", "00"),
-                ("04 01 0000 0009", "09 0000 0000"),
-                ("04 01 0000 000A", "00 0009 0009"),
-                ("0E 05 04", "00"),
-                ("04 01 0000 000A", "09 0000 0000"),
-            ],
+            "0E 05 01: 00, 04 01 0000 0009: 00 0000 0000, 0E 05 02: 00, 04 01 0000 0009: 09 0000 0000,
+             04 01 0000 000A: 00 0009 0009, 0E 05 04: 00, 04 01 0000 000A: 09 0000 0000",
         ),
         example(
             "a thousand pages",
             &many,
-            &[
-                ("04 01 0000 03E8", "00 03E7 03E7"),
-                ("04 01 0000 03E7", "00 0100 0100"),
-                ("04 01 0000 0100", "00 00FF 00FF"),
-                ("04 01 0101 02E6", "09 0000 0000"),
-                ("04 01 03E7 FFFF", "00 03E7 03E7"),
-                ("04 01 03E8 0001", "0B"),
-            ],
+            "04 01 0000 03E8: 00 03E7 03E7, 04 01 0000 03E7: 00 0100 0100, 04 01 0000 0100: 00 00FF 00FF,
+             04 01 0101 02E6: 09 0000 0000, 04 01 03E7 FFFF: 00 03E7 03E7, 04 01 03E8 0001: 0B",
         ),
     ]
 }
 
-fn example(name: &'static str, reader: &Reader, exchanges: Exchanges) -> Example {
-    let step = |&(content, acknowledge): &(&str, &str)| exchange(content, &bytes(acknowledge));
-    Example { name, receiver: None, reader: reader.clone(), steps: exchanges.iter().map(step).collect() }
-}
-
-/// How a reader of four pages stands whose memory is zero but for the index.
-#[derive(Clone, Copy)]
-struct Stand {
-    password: u8,
-    level: u8,
-    found: u8,
-    /// The settings from the transfer on; F stands for the found mark.
-    rest: &'static str,
-    /// The first byte of the index.
-    index: u8,
-}
-
-/// Pages 0, 2 and 3 are stored, and buffer 1 is filled.
-const FILLED: Stand = Stand { password: 0, level: 3, found: 0, rest: "00 0000 0000 00 01 00 F FFFF FFFF", index: 0x0D };
+/// Of four pages, 0, 2 and 3 are stored, and buffer 1 is filled; all memory is zero.
+const FILLED: Stand = Stand {
+    password: 0,
+    level: 3,
+    found: 0,
+    rest: "00 0000 0000 00 01 00 F FFFF FFFF",
+    pages: &[0; 4],
+    index: 0x0D,
+    buffers: [0; 2],
+};
 const VERIFIED: Stand = Stand { rest: "00 0000 0000 01 01 00 F FFFF FFFF", ..FILLED };
 const LOCKED: Stand = Stand { password: 5, ..FILLED };
 
@@ -99,21 +64,6 @@ const THRESHOLDS: &str = "0080 00C0 0100 0140 0180";
 
 fn found(found: u8, stand: Stand) -> Stand {
     Stand { found, ..stand }
-}
-
-/// What is asked of a reader that stands so, and what is to come of it.
-struct Asked<'a> {
-    kind: u8,
-    /// The bytes that a receiver holds before and after.
-    held: Option<[&'a [u8]; 2]>,
-    before: Stand,
-    scores: &'a str,
-    thresholds: &'a str,
-    run: &'a [u8],
-    room: usize,
-    /// The refusal, the bytes used or taken, and the reply.
-    told: (u8, usize, &'a [u8]),
-    after: Stand,
 }
 
 /// A receiver that holds nothing before and after.
@@ -132,62 +82,25 @@ const NOTHING: Asked = Asked {
     after: FILLED,
 };
 
-impl Asked<'_> {
-    /// The frame in and the frame out.
-    fn frames(&self, name: &'static str) -> Frames {
-        let (refusal, used, reply) = self.told;
-        let four = |number: usize| (number as u32).to_be_bytes().to_vec();
-        let [scores, thresholds] = [self.scores, self.thresholds].map(bytes);
-        let (scores_length, thresholds_length) = (scores.len() / 2, thresholds.len() / 2);
-        let room = vec![0x5A; self.room];
-        let lengths = [4 * PAGE, 128, PAGE, PAGE, PAGE, scores_length, thresholds_length, self.run.len(), self.room];
-        let cells = |held: &[u8]| {
-            let count = (held.len() as u16).to_be_bytes();
-            [&count[..], held, &vec![0; HOLDS - held.len()]].concat()
-        };
-        let [held_before, held_after] = self.held.map_or([Vec::new(), Vec::new()], |held| held.map(cells));
-        let frame_in = [
-            vec![self.kind],
-            settings(self.before),
-            lengths.map(four).concat(),
-            held_before,
-            memory(self.before),
-            scores,
-            thresholds,
-            self.run.to_vec(),
-            room.clone(),
-        ];
-        let frame_out = [
-            vec![refusal],
-            four(used),
-            four(reply.len()),
-            settings(self.after),
-            held_after,
-            memory(self.after),
-            reply.to_vec(),
-            room[reply.len()..].to_vec(),
-        ];
-        (name, frame_in.concat(), frame_out.concat())
-    }
+pub fn frames() -> Vec<Frames> {
+    let parts = [
+        of_ranges,
+        of_scores,
+        of_levels,
+        of_codes,
+        of_commands,
+        of_status,
+        of_refusals,
+        of_receivers,
+        of_line_switches,
+    ];
+    parts.iter().flat_map(|part| part()).collect()
 }
-
-fn settings(stand: Stand) -> Vec<u8> {
-    let rest = stand.rest.replace(" F ", &format!(" {:02X} ", stand.found));
-    bytes(&format!("000000{:02X} A {:02X} 02 06 {rest}", stand.password, stand.level))
-}
-
-/// Templates, index, notepad and buffers.
-fn memory(stand: Stand) -> Vec<u8> {
-    [vec![0; 4 * PAGE], vec![stand.index], vec![0; 127 + 3 * PAGE]].concat()
-}
-
-pub const OF_FRAMES: [fn() -> Vec<Frames>; 9] =
-    [of_ranges, of_scores, of_levels, of_codes, of_commands, of_status, of_refusals, of_receivers, of_line_switches];
 
 /// A Search by its parameters, with these scores, and what the acknowledge has; found before or not, without a receiver
 /// and with one that holds the first half.
 fn search(name: &'static str, stand: Stand, scores: &str, parameters: &str, acknowledge: &str) -> Vec<Frames> {
-    let run = packet(FRESH, COMMAND, &bytes(&format!("04 {parameters}")), 0);
+    let run = command(&format!("04 {parameters}"));
     let content = bytes(acknowledge);
     let reply = packet(FRESH, ACKNOWLEDGE, &content, 0);
     let (half, rest) = run.split_at(run.len() / 2);
@@ -266,9 +179,9 @@ fn of_levels() -> Vec<Frames> {
         ));
         all.extend(search("a score that is too low", stand, &scores(too_low), "01 0000 0004", "09 0000 0000"));
     }
-    let run = packet(FRESH, COMMAND, &bytes("04 01 0000 0004"), 0);
-    let none = packet(FRESH, ACKNOWLEDGE, &bytes("09 0000 0000"), 0);
-    let zero = packet(FRESH, ACKNOWLEDGE, &bytes("00 0000 0000"), 0);
+    let run = command("04 01 0000 0004");
+    let none = acknowledge("09 0000 0000");
+    let zero = acknowledge("00 0000 0000");
     let before = found(1, FILLED);
     let asked = Asked { before, run: &run, told: (0, run.len(), &none), ..NOTHING };
     all.push(Asked { thresholds: "0000 0000 FFFF 0000 0000", scores: "FFFE FFFF FFFE FFFE", ..asked }.frames("FFFF"));
@@ -348,8 +261,6 @@ fn of_commands() -> Vec<Frames> {
         (FILLED, "05", "19", FILLED),
         (open, "40", "00", FILLED),
     ];
-    let command = |content: &str| packet(FRESH, COMMAND, &bytes(content), 0);
-    let acknowledge = |content: &str| packet(FRESH, ACKNOWLEDGE, &bytes(content), 0);
     let mut all = Vec::new();
     for (before, content, told, after) in rows {
         all.extend(kept(before, &command(content), &acknowledge(told), after));
@@ -376,7 +287,7 @@ fn kept(before: Stand, run: &[u8], reply: &[u8], after: Stand) -> [Frames; 2] {
 /// ReadSysPara with each of the two bits, both and none, without a password, with one, and locked; a Search that ends a
 /// transfer.
 fn of_status() -> Vec<Frames> {
-    let run = packet(FRESH, COMMAND, &bytes("0F"), 0);
+    let run = command("0F");
     let with_password = Stand { password: 5, ..VERIFIED };
     let rows = [
         (0, FILLED, "00"),
@@ -397,11 +308,11 @@ fn of_status() -> Vec<Frames> {
         all.push(Asked { kind: 2, held: EMPTY, ..asked }.frames("status, with a receiver"));
     }
     let open = Stand { rest: "02 0000 0080 00 01 00 F FFFF FFFF", ..FILLED };
-    for (parameters, acknowledge, mark) in
+    for (parameters, told, mark) in
         [("01 0000 0004", "00 0002 0300", 1), ("01 0001 0001", "09 0000 0000", 0), ("02 0000 0004", "0C", 0)]
     {
-        let run = packet(FRESH, COMMAND, &bytes(&format!("04 {parameters}")), 0);
-        let reply = packet(FRESH, ACKNOWLEDGE, &bytes(acknowledge), 0);
+        let run = command(&format!("04 {parameters}"));
+        let reply = acknowledge(told);
         let (told, after) = ((0, run.len(), &reply[..]), found(mark, FILLED));
         let asked = Asked { before: open, run: &run, told, after, ..NOTHING };
         all.push(asked.frames("a Search in a transfer"));
@@ -437,7 +348,7 @@ fn of_refusals() -> Vec<Frames> {
         (found(0x80, VERIFIED), SCORES, THRESHOLDS, ROOM, 3),
         (found(0xFF, FILLED), SCORES, THRESHOLDS, ROOM, 3),
     ];
-    let runs = ["04 01 0000 0004", "40"].map(|content| packet(FRESH, COMMAND, &bytes(content), 0));
+    let runs = ["04 01 0000 0004", "40"].map(|content| command(content));
     let mut all = Vec::new();
     for (stand, scores, thresholds, room, refusal) in rows {
         for run in [&runs[0][..], &runs[1], &[]] {
@@ -453,11 +364,11 @@ fn of_refusals() -> Vec<Frames> {
 
 /// A Search in two pieces, which sees the scores of the second call.
 fn of_receivers() -> Vec<Frames> {
-    let run = packet(FRESH, COMMAND, &bytes("04 01 0000 0004"), 0);
+    let run = command("04 01 0000 0004");
     let (first, rest) = run.split_at(12);
     let higher = "0400 0900 0300 0300";
-    let reply = packet(FRESH, ACKNOWLEDGE, &bytes("00 0000 0400"), 0);
-    let none = packet(FRESH, ACKNOWLEDGE, &bytes("09 0000 0000"), 0);
+    let reply = acknowledge("00 0000 0400");
+    let none = acknowledge("09 0000 0000");
     let asked = Asked { kind: 2, held: Some([first, &[]]), run: rest, ..NOTHING };
     vec![
         Asked { held: Some([&[], first]), run: first, told: (0, 12, &[]), ..asked }.frames("the first piece"),

@@ -1,5 +1,6 @@
 //! Readers and receivers with one deliberate error each. Each is a row: where its error shows, its name, and what it
-//! makes of a request, in the words of `words`.
+//! makes of a request, in the words of `words`. So `rows.reader("keeps-mark").sets(coded(0x13), |now, old| now.verified =
+//! old.verified)` is a reader that is right but for what gets 13h, where the verified mark is now what it was of old.
 
 mod basics;
 mod bringing_over;
@@ -22,7 +23,7 @@ pub struct Wrong {
     shows: Shows,
     /// The requests that go wrong.
     such: fn(&Request) -> bool,
-    makes: Rc<dyn Fn(&Request) -> Outcome>,
+    makes: Makes,
 }
 
 /// Where an error shows.
@@ -74,6 +75,7 @@ pub struct Row<'a> {
 type Name = (String, Shows, bool);
 
 impl Rows {
+    /// A reader without a receiver.
     fn reader(&mut self, name: impl Into<String>) -> Row<'_> {
         self.begin(vec![(name.into(), WITHOUT_RECEIVER, false)])
     }
@@ -93,10 +95,12 @@ impl Rows {
         self.begin(vec![(format!("receiver-{name}"), WITH_RECEIVER, true), (name, WITHOUT_RECEIVER, false)])
     }
 
+    /// What gives fresh settings.
     fn fresh(&mut self, name: impl Into<String>) -> Row<'_> {
         self.begin(vec![(name.into(), FRESH, false)])
     }
 
+    /// What brings an index over.
     fn over(&mut self, name: impl Into<String>) -> Row<'_> {
         self.begin(vec![(name.into(), BRINGING_OVER, false)])
     }
@@ -113,12 +117,9 @@ impl Row<'_> {
     }
 
     /// The row as a whole: what the wrong one makes of a request.
-    fn makes(self, makes: impl Makes) {
-        let makes: Rc<dyn Fn(&Request) -> Outcome> = Rc::new(makes);
+    fn makes(self, makes: Makes) {
         for (name, shows, inside) in self.names {
-            let reader = Rc::clone(&makes);
-            let inner = move |request: &Request| reader(request);
-            let makes = if inside { Rc::new(holds(HOLDS, inner)) } else { Rc::clone(&makes) };
+            let makes = if inside { holds(HOLDS, Rc::clone(&makes)) } else { Rc::clone(&makes) };
             self.rows.push(Wrong { name, shows, such: self.such, makes });
         }
     }

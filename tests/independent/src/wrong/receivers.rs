@@ -13,7 +13,7 @@ const KEEPS_ALL: Pick = |case| CALLED(case) && !DROPS(case);
 pub fn add(rows: &mut Rows) {
     // What is taken, dropped and told.
     for most in [265, 266, 268] {
-        rows.receiver(format!("holds-{most}")).makes(holds(most, Request::carried_out));
+        rows.receiver(format!("holds-{most}")).makes(holds(most, Rc::new(Request::carried_out)));
     }
     rows.receiver("drops-one-more").keeps(DROPS_SOME, |now, _, _| *now = Receiver::holding(&now.held()[1..]));
     rows.receiver("keeps-used").keeps(CALLED, |now, _, run| *now = Receiver::holding(run));

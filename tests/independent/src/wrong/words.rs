@@ -9,8 +9,7 @@ pub use std::ops::Range;
 pub use std::rc::Rc;
 
 /// What a wrong one makes of a request.
-pub trait Makes: Fn(&Request) -> Outcome + 'static {}
-impl<F: Fn(&Request) -> Outcome + 'static> Makes for F {}
+pub type Makes = Rc<dyn Fn(&Request) -> Outcome>;
 
 /// Picks cases.
 pub trait Such: Fn(&Case) -> bool + 'static {}
@@ -144,13 +143,7 @@ pub fn coded(code: u8) -> impl Such {
 impl Row<'_> {
     /// Such a case also has this effect.
     pub fn also(self, such: impl Such, effect: impl Fn(&mut Case) + 'static) {
-        self.makes(move |request: &Request| {
-            let mut case = Case::of(request);
-            if such(&case) {
-                effect(&mut case);
-            }
-            case.outcome
-        });
+        self.makes(such_also(Box::new(such), Box::new(effect)));
     }
 
     /// Such a case also has this effect on the reader as it is now, by what it was of old.
@@ -255,9 +248,20 @@ impl Row<'_> {
     }
 }
 
+/// Where a case is such, it also has this effect.
+fn such_also(such: Box<dyn Fn(&Case) -> bool>, effect: Box<dyn Fn(&mut Case)>) -> Makes {
+    Rc::new(move |request: &Request| {
+        let mut case = Case::of(request);
+        if such(&case) {
+            effect(&mut case);
+        }
+        case.outcome
+    })
+}
+
 /// A receiver that takes bytes until so many are held, with this reader inside.
-pub fn holds(most: usize, reader: impl Makes) -> impl Makes {
-    move |request: &Request| {
+pub fn holds(most: usize, reader: Makes) -> Makes {
+    Rc::new(move |request: &Request| {
         let before = held_by(request);
         let fits = request.run.len().min(most.saturating_sub(before.held().len()));
         let run = [before.held(), &request.run[..fits]].concat();
@@ -274,7 +278,7 @@ pub fn holds(most: usize, reader: impl Makes) -> impl Makes {
             return refused_with(3, request);
         }
         outcome
-    }
+    })
 }
 
 /// The receiver before, of a request that has one.
