@@ -30,6 +30,7 @@ use Rattle.dialogues.proofs.Library.BroughtOver.{before, before-holds}
 use Rattle.dialogues.proofs.Library.Faithful.{Faithful, faithful-start}
 use Rattle.dialogues.proofs.Lines.ComesToRest.{Ready}
 use Rattle.dialogues.proofs.FromC.Steps.{LegalVault}
+use Rattle.dialogues.proofs.FromC.Lines.{LegalLine}
 use Rattle.dialogues.proofs.FromC.Secrets.{SameOpen}
 
 -- P9's reader with every page stored and both buffers filled, the first from page 3, and status bit 1 set
@@ -95,6 +96,7 @@ pub record MetFromC (v w : Vault) : Type 0 where
   pub other : LegalVault w
   pub key : v .settings .password ≡ 0 ∷ 0 ∷ 0 ∷ 5 ∷ []
   pub clear : v .settings .verified ≡ 0
+  pub still : v .settings .transfer ≡ 0
   pub settings : SameOpen (v .settings) (w .settings)
   pub pages : length (v .memory .templates) ≡ length (w .memory .templates)
   pub marks : (v .settings .filled1 ≡ 0) × (w .settings .filled1 ≡ 1)
@@ -113,10 +115,15 @@ from-c-met =
       other = record { typed = record { password = refl; address = refl; index = full-bytes 126 }; legal = premises-met .other };
       key = refl;
       clear = refl;
+      still = refl;
       settings = record { password = refl; address = refl; level = refl; size = refl; baud = refl; transfer = refl; sensor = refl; got = refl; verified = refl };
       pages = refl;
       marks = (refl, refl);
     }
+
+-- and with an empty receiver each is a legal line
+pub line-met : (v : Vault) → LegalVault v → LegalLine record { line = record { settings = v .settings; receiver = record { held = replicate 267 0; spare = 0; count = 0 } }; memory = v .memory }
+line-met v l = record { reader = l; few = omega arith }
 
 -- of request [5]'s by the full reader without a password: it is not locked, and each of its pages is stored
 pub open10 : Reader

@@ -132,6 +132,7 @@ record LoopEnds (χ : Chip) (v : LineVault) (s : List ℕ) (xs : List (Entry Lin
   rests : Rests core (offers core (triesOf xs) (lineIn v) s) lent
   rested : resting core (offers core (triesOf xs) (lineIn v) s) lent ≡ record { replies = repliesOf xs; after = lineIn (z .after); left = [] }
   silent : z .told .length ≡ 0
+  taken : leftOf s xs ≡ []
 
 ends : (χ : Chip) (v : LineVault) → length (v .line .receiver .held) ≡ 267 → (s : List ℕ) (xs : List (Entry LineVault)) (z : Entry LineVault) → (k : Loop χ v s xs z) → LoopEnds χ v s xs z (k .lent)
 unfolding onLine resting
@@ -154,15 +155,16 @@ ends χ v long s xs z k =
           ∙ (λ j. record { replies = repliesOf xs; after = receiveOf core x (sym none j) (k .lent) .after; left = none j })
           ∙ ap (λ (h : Handed). record { replies = repliesOf xs; after = h .after; left = [] }) (sym p);
       silent = ap (λ (h : Handed). h .told .length) p ∙ answers-nothing core x left (k .lent) full e u n;
+      taken = none;
     }
 
 -- where a run was cut does not matter: two loops over it, from one line of 267 cells, with the same scores and thresholds wherever a call deals with a Search. The
--- replies in order are the same; settings, receiver and memory lie the same at the end; and the last call replies nothing
+-- replies in order are the same; settings, receiver and memory lie the same at the end; all of the run is taken, and the last call replies nothing
 pub loop-cut-free : (χ : Chip) (v : LineVault) → length (v .line .receiver .held) ≡ 267 → (s : List ℕ) (xs ys : List (Entry LineVault)) (z w : Entry LineVault) → Loop χ v s xs z → Loop χ v s ys w
-    → (repliesOf xs ≡ repliesOf ys) × ((z .after ≡ w .after) × ((z .told .length ≡ 0) × (w .told .length ≡ 0)))
+    → (repliesOf xs ≡ repliesOf ys) × ((z .after ≡ w .after) × (((leftOf s xs ≡ []) × (leftOf s ys ≡ [])) × ((z .told .length ≡ 0) × (w .told .length ≡ 0))))
 loop-cut-free χ v long s xs ys z w k l =
     let a = ends χ v long s xs z k in
     let b = ends χ v long s ys w l in
     let same = cut-free core χ (lineIn v) s (triesOf xs) (triesOf ys) (k .lent) (l .lent) (a .serves) (b .serves) (a .sees) (b .sees) (a .rests) (b .rests) in
     let e = sym (a .rested) ∙ same ∙ b .rested in
-    (ap (λ (d : Ran). d .replies) e, (same-line (w .after) (z .after) (ap (λ (d : Ran). d .after) e), (a .silent, b .silent)))
+    (ap (λ (d : Ran). d .replies) e, (same-line (w .after) (z .after) (ap (λ (d : Ran). d .after) e), ((a .taken, b .taken), (a .silent, b .silent))))

@@ -13,7 +13,7 @@ use Rattle.protocol.specs.Numbers.{holds, longest}
 use Rattle.protocol.specs.Bytes.{Bytes}
 use Rattle.protocol.specs.Tests.{countBelow}
 use Rattle.protocol.specs.Reader.{fromPage, Reader, capacity}
-use Rattle.protocol.specs.Call.{core, Lent, Told, replyOf}
+use Rattle.protocol.specs.Call.{core, Lent, Told, replyOf, switchOf}
 use Rattle.protocol.specs.Dialogue.{Event, received, switch}
 use Rattle.dialogues.specs.History.{Exchange, exchanges, history, live}
 use Rattle.protocol.specs.Receiver.{bytesIn, fitting, runOf, Handed, receiveOf, lineSwitchOf}
@@ -26,16 +26,16 @@ use Rattle.protocol.proofs.Laws.Lines.{Line as Unless, unless, Follows}
 use Rattle.dialogues.proofs.Laws.History.{ever-capacity}
 use Rattle.protocol.proofs.Promises.Words.Told.{has, buffer}
 use Rattle.protocol.proofs.Promises.Refusals.LegalMeans.{core-holds, Lengths, Settled, legal-means}
-use Rattle.protocol.proofs.Promises.Refusals.Refused.{ChipLengths}
+use Rattle.protocol.proofs.Promises.Refusals.Refused.{Unused, ChipLengths, switch-refusals}
 use Rattle.protocol.proofs.Promises.Refusals.StaysLegal.{Legal}
 use Rattle.protocol.proofs.Promises.Refusals.Marks.{FitRecord, settled-fit}
 use Rattle.dialogues.proofs.Library.ValidCount.{Tells, tells-none, tells-ever}
 use Rattle.dialogues.proofs.Library.SizeCode.{Unset}
 use Rattle.dialogues.proofs.Library.Faithful.{Faithful, Holds}
 use Rattle.dialogues.proofs.Library.Untouched.{SawDeleted, Untouched}
-use Rattle.protocol.proofs.Promises.Lines.Receiver.{Hands, receive-refusals, never-refused}
+use Rattle.protocol.proofs.Promises.Lines.Receiver.{bare, Hands, receive-refusals, never-refused, Empties, line-switch-refusals}
 use Rattle.dialogues.proofs.Lines.ReceiverCalls.{as-calls, ever-few, seen-is, line-legal, line-only-by-deletion, line-faithful, line-code}
-use Rattle.dialogues.proofs.FromC.Steps.{same-vault, count-of, HeldPages, pages-held}
+use Rattle.dialogues.proofs.FromC.Steps.{same-vault, switchedSettings, switchedMemory, switch-leaves, count-of, HeldPages, pages-held}
 
 -- ---- a contract is a step: what the header's names stand for
 
@@ -143,6 +143,35 @@ receive-refusal v w piece lent t q =
     end (suc n) e = (
       ap (λ (o : Handed). o .told) (q .0) ∙ (λ j. record { refusal = e .0 .refusal j; used = e .0 .used j; length = e .0 .length j; room = e .0 .room j }),
       same-line v w (ap (λ (o : Handed). o .after) (q .0) ∙ e .1),
+    )
+
+-- the line switch takes any line, whatever bytes it is, and knows only refusal 1; it leaves what it leaves of a vault, and a receiver that holds nothing
+abbrev pub EmptyEnds : LineVault → Told → LineVault → ℕ → Type 0
+EmptyEnds v t w zero =
+    (t ≡ record { refusal = 0; used = 0; length = 0; room = [] })
+    × (w
+    ≡ record {
+      line = record { settings = switchedSettings (v .line .settings); receiver = record { held = replicate 267 0; spare = 0; count = 0 } };
+      memory = switchedMemory (v .memory);
+    })
+EmptyEnds v t w (suc n) = (t ≡ record { refusal = suc n; used = 0; length = 0; room = [] }) × (w ≡ v)
+
+pub empty-refusal : (v w : LineVault) (t : Told) → Receives v (record { event = switch; told = t; after = w } ∷ [])
+    → Follows (unless ((length (v .memory .buffer1) ≡ 512) × (length (v .memory .buffer2) ≡ 512)) 1 ∷ []) (EmptyEnds v t w)
+unfolding onLine
+empty-refusal v w t q =
+    let c = line-switch-refusals (lineIn v) in
+    (λ a. emptied (switch-refusals (lineIn v .reader) .0 a .refusal) (c .0 a), λ f. let e = c .1 f in (same 1 (e .0), same-line v w (ap (λ (o : Handed). o .after) (q .0) ∙ e .1)))
+  where
+    same : (n : ℕ) → Unused [] (bare (lineSwitchOf (lineIn v))) n → t ≡ record { refusal = n; used = 0; length = 0; room = [] }
+    same n e = ap (λ (o : Handed). o .told) (q .0) ∙ (λ j. record { refusal = e .refusal j; used = e .used j; length = e .length j; room = e .room j })
+
+    emptied : switchOf (lineIn v .reader) .told .refusal ≡ 0 → Empties (lineIn v) (lineSwitchOf (lineIn v)) 0 → EmptyEnds v t w 0
+    emptied z (u, (r, (n, (h, s)))) = (
+      same 0 u,
+      same-line _ w
+          (ap (λ (o : Handed). o .after) (q .0)
+          ∙ (λ j. record { reader = (r ∙ switch-leaves (v .line .settings) (v .memory) z) j; receiver = record { held = h j; spare = s j; count = n j } })),
     )
 
 -- ---- demand 1: a legal line is legal after any calls, its record is fit, and no call whose scores, thresholds and reply room are fit is refused

@@ -11,12 +11,14 @@ use Rattle.protocol.specs.declared.Settings.{Settings}
 use Rattle.protocol.specs.declared.Answered.{Answered}
 use Rattle.protocol.specs.Bytes.{Bytes}
 use Rattle.protocol.specs.Tests.{countBelow}
-use Rattle.protocol.specs.Reader.{fromPage, Reader, capacity}
-use Rattle.protocol.specs.Call.{core, Lent, Told, Ended, replyOf, callOf, switchOf}
+use Rattle.protocol.specs.Reader.{emptied, withTransfer, withMark, fromPage, Reader, capacity}
+use Rattle.protocol.specs.Table.{isBuffer}
+use Rattle.protocol.specs.Step.{wiped, switched}
+use Rattle.protocol.specs.Call.{switchRefusal, switchAs, refused, core, Lent, Told, Ended, replyOf, callOf, switchOf}
 use Rattle.protocol.specs.Dialogue.{Event, received, switch, on, finally}
 use Rattle.dialogues.specs.History.{Exchange, exchanges, Act, history, live}
 use Rattle.protocol.specs.Services.{countService}
-use Rattle.protocol.specs.Records.{marksOf, originOf, readerOf, lentOf, endedOf, switchedOf, calledAt, switchedAt}
+use Rattle.protocol.specs.Records.{transferOf, fitMarks, fitMark, originOf, readerOf, lentOf, endedOf, switchedOf, calledAt, switchedAt}
 use Rattle.dialogues.specs.Doors.{Memory, Vault, readerAt, readerIn, Entry, lastOf, eventsOf, toldOf, Until, ended, Steps, sees, saw}
 use borrow.Author.Tests.{eqb-true, ne-eqb}
 use Rattle.protocol.proofs.Laws.Lines.{Line, unless, Follows}
@@ -25,7 +27,7 @@ use Rattle.protocol.proofs.Promises.Words.Told.{has, buffer}
 use Rattle.protocol.proofs.Promises.Refusals.LegalMeans.{core-holds, Lengths, Settled, legal-means}
 use Rattle.protocol.proofs.Promises.Refusals.Refused.{Unused, Ends, ChipLengths, call-refusals, Switches, switch-refusals}
 use Rattle.protocol.proofs.Promises.Refusals.StaysLegal.{Legal, ever-legal}
-use Rattle.protocol.proofs.Promises.Refusals.Marks.{FitRecord, settled-fit, switch-clears}
+use Rattle.protocol.proofs.Promises.Refusals.Marks.{FitRecord, settled-fit}
 use Rattle.protocol.proofs.Promises.Words.OneResult.{one-reader}
 use Rattle.dialogues.proofs.Library.ValidCount.{Tells, tells-none, tells-count, tells-ever}
 use Rattle.dialogues.proofs.Library.SizeCode.{Unset, code-kept}
@@ -155,9 +157,41 @@ step-refusals v w run lent t q =
           λ j. record { settings = o .0 j; memory = o .1 j },
         )
 
--- the line switch takes any settings, whatever bytes the marks are, and knows only refusal 1; carried out, it leaves marks of 0
+-- what the line switch leaves: marks, transfer and bytes got 0, no origins, both buffers 512 zeros; all else as it lay
+abbrev pub switchedSettings : Settings → Settings
+switchedSettings s =
+    record {
+      password = s .password;
+      address = s .address;
+      level = s .level;
+      size = s .size;
+      baud = s .baud;
+      transfer = 0;
+      sensor = s .sensor;
+      got = 0;
+      verified = 0;
+      filled1 = 0;
+      filled2 = 0;
+      found = 0;
+      origin1 = 65535;
+      origin2 = 65535;
+    }
+
+abbrev pub switchedMemory : Memory → Memory
+switchedMemory m = record { templates = m .templates; index = m .index; notepad = m .notepad; buffer1 = replicate 512 0; buffer2 = replicate 512 0 }
+
+pub switch-leaves : (s : Settings) (m : Memory) → switchOf (readerAt s m) .told .refusal ≡ 0 → switchOf (readerAt s m) .after ≡ readerAt (switchedSettings s) (switchedMemory m)
+unfolding switchOf switchAs refused switched wiped emptied withTransfer withMark transferOf fitMarks fitMark isBuffer originOf
+switch-leaves s m = go (switchRefusal (readerAt s m .guarded))
+  where
+    go : (k : ℕ) → switchAs (readerAt s m) k .told .refusal ≡ 0 → switchAs (readerAt s m) k .after ≡ readerAt (switchedSettings s) (switchedMemory m)
+    go zero z = refl
+    go (suc k) z = absurd (omega (arith, z))
+
+-- it takes any settings, whatever bytes they are, and knows only refusal 1
 abbrev pub SwitchEnds : Vault → Told → Vault → ℕ → Type 0
-SwitchEnds v t w zero = (t ≡ record { refusal = 0; used = 0; length = 0; room = [] }) × (marksOf (w .settings) ≡ record { verified = 0; filled1 = 0; filled2 = 0; found = 0 })
+SwitchEnds v t w zero =
+    (t ≡ record { refusal = 0; used = 0; length = 0; room = [] }) × (w ≡ record { settings = switchedSettings (v .settings); memory = switchedMemory (v .memory) })
 SwitchEnds v t w (suc n) = (t ≡ record { refusal = suc n; used = 0; length = 0; room = [] }) × (w ≡ v)
 
 pub switch-refusal : (v w : Vault) (t : Told) → Steps v (record { event = switch; told = t; after = w } ∷ [])
@@ -168,15 +202,12 @@ switch-refusal v w t q = let c = switch-refusals (readerIn v) in (λ a. end 0 (c
     same : (n : ℕ) → Unused [] (switchOf (readerIn v)) n → t ≡ record { refusal = n; used = 0; length = 0; room = [] }
     same n e = ap (λ (x : Ended). x .told) (q .0) ∙ (λ j. record { refusal = e .refusal j; used = e .used j; length = e .length j; room = e .room j })
 
+    lies : (s : Settings) (m : Memory) → switchOf (readerIn v) .after ≡ readerAt s m → w ≡ record { settings = s; memory = m }
+    lies s m e = let o = same-vault (w .settings) s (w .memory) m (ap (λ (x : Ended). x .after) (q .0) ∙ e) in λ j. record { settings = o .0 j; memory = o .1 j }
+
     end : (n : ℕ) → Switches (readerIn v) (switchOf (readerIn v)) n → SwitchEnds v t w n
-    end zero e = (
-      same 0 e,
-      switch-clears (v .settings) (v .memory .templates) (v .memory .index) (v .memory .notepad) (v .memory .buffer1) (v .memory .buffer2) (w .memory .templates) (w .memory .index) (w .memory .notepad) (w .memory .buffer1) (w .memory .buffer2)
-          record { settings = w .settings; refusal = 0 } (rw (same 0 e) at (q .0)) refl,
-    )
-    end (suc n) e =
-        let o = same-vault (w .settings) (v .settings) (w .memory) (v .memory) (ap (λ (x : Ended). x .after) (q .0) ∙ e .1) in
-        (same (suc n) (e .0), λ j. record { settings = o .0 j; memory = o .1 j })
+    end zero e = (same 0 e, lies (switchedSettings (v .settings)) (switchedMemory (v .memory)) (switch-leaves (v .settings) (v .memory) (e .refusal)))
+    end (suc n) e = (same (suc n) (e .0), lies (v .settings) (v .memory) (e .1))
 
 -- ---- demand 1: a legal vault is legal after any calls, its record is fit, and no call whose scores, thresholds and reply room are fit is refused
 
