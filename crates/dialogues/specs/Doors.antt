@@ -75,13 +75,13 @@ Until marked (x ∷ y ∷ xs) = (marked (x .after) ≢ 1) × Until marked (y ∷
 
 -- ---- without a receiver
 
-abbrev pub ended : Told → Vault → Ended
-ended t w = record { told = t; after = readerIn w }
+abbrev pub endedIn : Told → Vault → Ended
+endedIn t w = record { told = t; after = readerIn w }
 
 -- each call went as the contract of its door says
 abbrev pub Steps : Vault → List (Entry Vault) → Type 0
 Steps v [] = Unit {0}
-Steps v (x ∷ xs) = (ended (x .told) (x .after) ≡ on core (readerIn v) (x .event)) × Steps (x .after) xs
+Steps v (x ∷ xs) = (endedIn (x .told) (x .after) ≡ on core (readerIn v) (x .event)) × Steps (x .after) xs
 
 -- what the host saw of each call: the run, and as many bytes of the reply room as the answer says
 abbrev pub sees : Event → Told → List Exchange → List Exchange
@@ -94,13 +94,13 @@ saw (x ∷ xs) = sees (x .event) (x .told) (saw xs)
 
 -- ---- with a receiver
 
-abbrev pub handed : Told → LineVault → Handed
-handed t w = record { told = t; after = lineIn w }
+abbrev pub handedIn : Told → LineVault → Handed
+handedIn t w = record { told = t; after = lineIn w }
 
 -- each call went as the contract of its door says
 abbrev pub Receives : LineVault → List (Entry LineVault) → Type 0
 Receives v [] = Unit {0}
-Receives v (x ∷ xs) = (handed (x .told) (x .after) ≡ onLine core (lineIn v) (x .event)) × Receives (x .after) xs
+Receives v (x ∷ xs) = (handedIn (x .told) (x .after) ≡ onLine core (lineIn v) (x .event)) × Receives (x .after) xs
 
 -- the same, and its run is what was held before and what fits of the piece
 abbrev pub seesOn : LineVault → Event → Told → List Exchange → List Exchange

@@ -14,7 +14,7 @@ use Rattle.protocol.specs.Call.{core, Lent, carried}
 use Rattle.protocol.specs.Dialogue.{Event, received, switch}
 use Rattle.protocol.specs.Receiver.{Line, Handed, runOf, handed, receiveOf}
 use Rattle.dialogues.specs.Caller.{Try, Ran, offers, served, SearchesSee, Rests, resting, onLine}
-use Rattle.dialogues.specs.Doors.{LineVault, lineIn, Entry, lastOf, handed as back, Receives}
+use Rattle.dialogues.specs.Doors.{LineVault, lineIn, Entry, lastOf, handedIn, Receives}
 use Rattle.protocol.proofs.Laws.Holding.{holding-sized, few-held, Carried, accepted}
 use Rattle.dialogues.proofs.Lines.Cuts.{cut-free, offers-nothing, answers-nothing, stops-at-rest}
 use Rattle.dialogues.proofs.Lines.Caller.{spoken, before, offers-more, served-more, sees-more}
@@ -94,12 +94,12 @@ same χ (x ∷ xs) v s q o e l = go (x .event) (q .0) (o .0) (l .0) (same χ xs 
     rest : List ℕ
     rest = drop (x .told .used) s
 
-    go : (a : Event) → back (x .told) (x .after) ≡ onLine core (lineIn v) a → FrontOf s a → LendsToSearch χ v a → Same (x .after) rest χ xs
+    go : (a : Event) → handedIn (x .told) (x .after) ≡ onLine core (lineIn v) a → FrontOf s a → LendsToSearch χ v a → Same (x .after) rest χ xs
         → Same v s χ (record { event = a; told = x .told; after = x .after } ∷ xs)
     go switch p f m i = absurd f
     go (received piece lent) p f m i =
         let t : Try = record { size = length piece; lent = lent } in
-        let c : receiveOf core (lineIn v) (take (length piece) s) lent ≡ back (x .told) (x .after) = ap (λ (y : List ℕ). receiveOf core (lineIn v) y lent) f ∙ sym p in
+        let c : receiveOf core (lineIn v) (take (length piece) s) lent ≡ handedIn (x .told) (x .after) = ap (λ (y : List ℕ). receiveOf core (lineIn v) y lent) f ∙ sym p in
         record {
           ran =
               offers-more core t (triesOf xs) (lineIn v) s
@@ -117,7 +117,7 @@ unfolding onLine handed carried holds longest
 cells [] v z q s o e = z
 cells (x ∷ xs) v z q s o e = cells xs (x .after) (go (x .event) (q .0) (o .0)) (q .1) (drop (x .told .used) s) (o .1) (e .1)
   where
-    go : (a : Event) → back (x .told) (x .after) ≡ onLine core (lineIn v) a → FrontOf s a → length (x .after .line .receiver .held) ≡ 267
+    go : (a : Event) → handedIn (x .told) (x .after) ≡ onLine core (lineIn v) a → FrontOf s a → length (x .after .line .receiver .held) ≡ 267
     go switch p f = absurd f
     go (received piece lent) p f =
         let c : Carried core (lineIn v) piece lent = accepted core (lineIn v) piece lent (sym (ap (λ (h : Handed). h .told .refusal) p) ∙ e .0) in
@@ -141,7 +141,7 @@ ends χ v long s xs z k =
     let x : Line = lineIn (lastOf v xs) in
     let left : List ℕ = leftOf s xs in
     let full = cells xs v long (k .calls) s (k .offered) (k .served) in
-    let p : back (z .told) (z .after) ≡ receiveOf core x left (k .lent) = k .last .0 ∙ ap (onLine core x) (k .all) in
+    let p : handedIn (z .told) (z .after) ≡ receiveOf core x left (k .lent) = k .last .0 ∙ ap (onLine core x) (k .all) in
     let e : receiveOf core x left (k .lent) .told .refusal ≡ 0 = sym (ap (λ (h : Handed). h .told .refusal) p) ∙ k .accepted in
     let u : receiveOf core x left (k .lent) .told .used ≡ 0 = sym (ap (λ (h : Handed). h .told .used) p) ∙ k .takes in
     let n : receiveOf core x left (k .lent) .after .receiver .count ≡ x .receiver .count = sym (ap (λ (h : Handed). h .after .receiver .count) p) ∙ k .leaves in
