@@ -1,5 +1,6 @@
 pub mod Seen
 pub mod ValidCount
+pub mod Moved
 pub mod Untouched
 pub mod BroughtOver
 pub mod DeletedFinger

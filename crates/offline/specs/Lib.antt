@@ -1,2 +1,3 @@
 pub mod CloseGaps
 pub mod Records
+pub mod Life

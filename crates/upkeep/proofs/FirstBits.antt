@@ -9,7 +9,7 @@ use lib.ListN.{length, set, getD, length-set, length-replicate}
 use lib.Seq.{set-set, set-getD, getD-set-same, getD-set-other}
 use borrow.Author.Tests.{le-ltb}
 use Rattle.protocol.specs.Bytes.{byteAt, zeros}
-use Rattle.protocol.specs.Index.{stored, setBit}
+use Rattle.protocol.specs.Index.{setBit}
 use Rattle.protocol.proofs.Laws.Index.{byte-zeros}
 use Rattle.protocol.proofs.Laws.Bits.{shift-byte}
 use Rattle.offline.specs.CloseGaps.{firstBits}

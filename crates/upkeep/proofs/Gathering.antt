@@ -12,7 +12,7 @@ use borrow.Rule.Slice.PartMut.{putMid}
 use Rattle.protocol.specs.Numbers.{pageBytes, noPage}
 use Rattle.protocol.specs.Bytes.{part, lay, zeros}
 use Rattle.protocol.specs.Tests.{countBelow, listed}
-use Rattle.protocol.specs.Index.{stored, setBit}
+use Rattle.protocol.specs.Index.{stored}
 use Rattle.offline.specs.CloseGaps.{rank, newPage, gathered, closedTemplates, firstBits}
 use Rattle.protocol.proofs.Laws.Lists.{length-lay, head-lay, last-lay}
 use Rattle.protocol.proofs.Laws.Effects.{away}

@@ -154,15 +154,14 @@ module _ (σ : Shape) (ok : σ .most ≤ 8 * σ .indexed) where
       go zero false = copy-emptied _
       go (suc n) w = f w
 
-  -- one call or line switch
-  pub stays-faithful : (r : Reader) → Legal σ ok r → Faithful r → (e : Event) → Faithful (on σ r e .after)
-  unfolding bufferOf
-  stays-faithful r l f e = let k = stays-faith r l (faith r f) e in record { buffer1 = k false; buffer2 = k true }
-
   ever-faith : (r : Reader) → Legal σ ok r → Faith r → (es : List Event) → Legal σ ok (finally σ r es) × Faith (finally σ r es)
   unfolding finally
   ever-faith r l f [] = (l, f)
   ever-faith r l f (e ∷ es) = ever-faith (on σ r e .after) (stays-legal σ ok r l e) (stays-faith r l f e) es
+
+  pub stays-faithful : (r : Reader) → Legal σ ok r → Faithful r → (es : List Event) → Faithful (finally σ r es)
+  unfolding bufferOf
+  stays-faithful r l f es = let k = ever-faith r l (faith r f) es .1 in record { buffer1 = k false; buffer2 = k true }
 
   -- ---- the promise
 

@@ -2,17 +2,17 @@
 use mathlib.Core.Bool.{Bool, true, false, _||_, cond}
 use mathlib.Core.Path.{_≡_, refl, sym, ap, ap₂, _∙_}
 use mathlib.Core.Logic.{_⊎_, inl, inr}
-use mathlib.Core.List.{List, [], _∷_, _++_, append-nil}
+use mathlib.Core.List.{List, [], _++_, append-nil}
 use Prim.Native.Nat.{ℕ, zero, suc, _+_, _-_, _*_, _≤_, _<_}
 use native.Mathlib.Nat.{not-suc-le-zero, eq-or-lt-of-le, le-of-suc-le-suc}
 use native.Mathlib.Omega.{arith}
 use native.Mathlib.Decide.{ℕ-discrete, decLe, decLt}
 use lib.Dec.{T, eqb, ltb}
 use borrow.Author.Tests.{lt-ltb, le-ltb, ne-eqb}
-use lib.ListN.{length, take, drop, getD, length-append, length-drop, length-replicate, List·getD-append}
-use lib.Seq.{take-at, drop-at, take-all, length-take-le, take-add, drop-append-add, getD-append-add}
+use lib.ListN.{length, take, drop, length-append, length-drop, length-replicate}
+use lib.Seq.{take-at, drop-at, take-all, length-take-le, take-add, drop-append-add}
 use Rattle.protocol.specs.Bytes.{part, zeros}
-use Rattle.protocol.specs.Tests.{countBelow, listed}
+use Rattle.protocol.specs.Tests.{countBelow}
 use Rattle.protocol.specs.Index.{stored, setBits, clearFrom}
 use Rattle.offline.specs.CloseGaps.{rank, newPage, gathered, closedTemplates, firstBits, closedIndex}
 use Rattle.protocol.proofs.Laws.Logic.{eqb-same}

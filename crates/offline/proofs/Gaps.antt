@@ -1,0 +1,4 @@
+pub mod Refusals
+pub mod Closes
+pub mod StaysLegal
+pub mod Again

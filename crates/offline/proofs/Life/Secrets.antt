@@ -1,0 +1,128 @@
+-- Demand 3 over any life: no host learns more because gaps were closed between its runs. "two legal locked readers of equal capacity and, but for the filled marks,
+-- equal settings, whose templates, index, notepad, buffers and filled marks differ at will, answer any sequence of runs alike, line switches among them, up to and
+-- including the first accepted password": closings among them, too, with any tables, refused or not.
+use mathlib.Core.Bool.{Bool, true, false, _&&_, cond}
+use mathlib.Core.Path.{_≡_, refl, sym, ap, ap₂, _∙_, subst}
+use mathlib.Core.List.{List, [], _∷_}
+use Prim.Native.Nat.{ℕ, zero, suc, _*_, _≤_}
+use lib.Dec.{T}
+use Rattle.protocol.specs.Numbers.{badLength, badSetting}
+use Rattle.protocol.specs.Tests.{verdict}
+use Rattle.protocol.specs.Index.{clearFrom}
+use Rattle.protocol.specs.Reader.{Transfer, closed, Plain, Guarded, Reader, capacity, locked}
+use Rattle.protocol.specs.Call.{Shape, fitPlain, fitTransfer, fitOrigins, sound, legal, Told}
+use Rattle.protocol.specs.Dialogue.{Event, received, switch, on, finally, Dialogue, over, first, dialogue}
+use Rattle.protocol.proofs.Laws.Locked.{veiled, shut-of, locked-call, plain-or, locked-switch}
+use Rattle.protocol.proofs.Promises.Refusals.StaysLegal.{Legal, stays-legal, ever-legal}
+use Rattle.protocol.proofs.Promises.Secrets.Lock.{mark, Blind, second-half}
+use Rattle.dialogues.proofs.Laws.History.{ever-capacity}
+use Rattle.offline.specs.CloseGaps.{Closed, fitClosing, closeRefusal, closeAs, closeOf}
+use Rattle.offline.specs.Life.{Deed, calls, closing, answers, PairedDeeds}
+use Rattle.offline.proofs.Gaps.Refusals.{close-kinds}
+use Rattle.offline.proofs.Gaps.StaysLegal.{closed-legal}
+use Rattle.offline.proofs.Life.Library.{close-capacity}
+
+-- ---- the first half: "its copy with only the verified mark changed" is one after a closing, too
+
+-- none is legal beside any mark
+same-transfer : (p q : Plain) (g : Guarded) (t : Transfer) → t ≡ closed → fitTransfer p g t ≡ fitTransfer q g t
+unfolding fitTransfer
+same-transfer p q g t z = rw z refl
+
+same-refusal : (σ : Shape) (r : Reader) → r .plain .transfer ≡ closed → (b : Bool) (table : List ℕ) → closeRefusal σ (mark b r) table ≡ closeRefusal σ r table
+unfolding closeRefusal sound fitPlain
+same-refusal σ r z b table =
+    let g = r .guarded in
+    ap (λ (x : Bool). verdict ((fitClosing σ g table, badLength) ∷ (fitPlain (r .plain) && x && clearFrom (g .index) (capacity g) && fitOrigins g, badSetting) ∷ []))
+    (same-transfer (mark b r .plain) (r .plain) g (r .plain .transfer) z)
+
+pub closed-copy : (σ : Shape) (r : Reader) → r .plain .transfer ≡ closed → (b : Bool) (table : List ℕ)
+    → closeOf σ (mark b r) table ≡ (let e = closeOf σ r table in record { refusal = e .refusal; table = e .table; after = mark b (e .after) })
+unfolding closeOf closeAs
+closed-copy σ r z b table = ap (closeAs (mark b r) table) (same-refusal σ r z b table) ∙ go (closeRefusal σ r table)
+  where
+    go : (n : ℕ) → closeAs (mark b r) table n ≡ (let e = closeAs r table n in record { refusal = e .refusal; table = e .table; after = mark b (e .after) })
+    go zero = refl
+    go (suc n) = refl
+
+-- ---- the second half
+
+module _ (σ : Shape) (ok : σ .most ≤ 8 * σ .indexed) where
+  -- a locked reader keeps its settings, but for a right password
+  pub still-locked : (r : Reader) → T (legal σ r) → T (locked (r .plain)) → (e : Event) → on σ r e .after .plain .verified ≡ false → on σ r e .after .plain ≡ r .plain
+  unfolding on
+  still-locked r f l (received s lent) = rw (locked-call σ r f l s lent) (plain-or (veiled (r .plain) (capacity (r .guarded))) (shut-of σ r f l .unverified) s _ (lent .room))
+  still-locked r f l switch = rw (locked-switch σ r f l) (λ v. refl)
+
+  -- where a dialogue leaves off
+  record Leaves (r : Reader) (d : Dialogue) : Type 0 where
+    legally : Legal σ ok (d .last)
+    pages : capacity (d .last .guarded) ≡ capacity (r .guarded)
+    settings : d .last .plain .verified ≡ false → d .last .plain ≡ r .plain
+
+  leaves : (es : List Event) (r : Reader) → Legal σ ok r → T (locked (r .plain)) → Leaves r (dialogue σ r es)
+  unfolding dialogue over first finally
+  leaves [] r l k = record { legally = l; pages = refl; settings = λ v. refl }
+  leaves (e ∷ es) r l k = go (t .plain .verified) refl (leaves es t m)
+    where
+      t : Reader
+      t = on σ r e .after
+
+      m : Legal σ ok t
+      m = stays-legal σ ok r l e
+
+      same : capacity (t .guarded) ≡ capacity (r .guarded)
+      same = ever-capacity σ ok r (e ∷ [])
+
+      go : (b : Bool) → t .plain .verified ≡ b → (T (locked (t .plain)) → Leaves t (dialogue σ t es))
+          → Leaves r (first e (on σ r e .told) (cond b (over t) (dialogue σ t es)))
+      go true v ih = record { legally = m; pages = same; settings = λ w. still-locked r (l .legal) k e w }
+      go false v ih =
+          let p : t .plain ≡ r .plain = still-locked r (l .legal) k e v in
+          let i = ih (subst (λ (x : Plain). T (locked x)) (sym p) k) in
+          record { legally = i .legally; pages = i .pages ∙ same; settings = λ w. i .settings w ∙ p }
+
+  close-plain : (r : Reader) (table : List ℕ) → closeOf σ r table .after .plain ≡ r .plain
+  unfolding closeAs
+  close-plain r table = close-kinds σ r table (λ (e : Closed). e .after .plain ≡ r .plain) (λ n. refl) (λ t u. refl)
+
+  pub answer-alike : (ds gs : List Deed) (r t : Reader) → PairedDeeds (capacity (r .guarded)) ds gs → Legal σ ok r → Legal σ ok t → T (locked (r .plain)) → r .plain ≡ t .plain
+      → capacity (r .guarded) ≡ capacity (t .guarded) → answers σ r ds ≡ answers σ t gs
+  unfolding answers
+  answer-alike [] [] r t q l m k e c = refl
+  answer-alike [] (g ∷ gs) r t q l m k e c = absurd q
+  answer-alike (d ∷ ds) [] r t q l m k e c = absurd q
+  answer-alike (calls es ∷ ds) (closing u ∷ gs) r t q l m k e c = absurd q
+  answer-alike (closing u ∷ ds) (calls fs ∷ gs) r t q l m k e c = absurd q
+  answer-alike (closing u ∷ ds) (closing w ∷ gs) r t q l m k e c =
+      let x : Reader = closeOf σ r u .after in
+      let y : Reader = closeOf σ t w .after in
+      answer-alike ds gs x y (subst (λ (n : ℕ). PairedDeeds n ds gs) (sym (close-capacity σ ok r u)) q) (closed-legal σ ok r u l) (closed-legal σ ok t w m)
+      (subst (λ (p : Plain). T (locked p)) (sym (close-plain r u)) k) (close-plain r u ∙ e ∙ sym (close-plain t w)) (close-capacity σ ok r u ∙ c ∙ sym (close-capacity σ ok t w))
+  answer-alike (calls es ∷ ds) (calls fs ∷ gs) r t (p, q) l m k e c =
+      ap₂ (λ (a : List Told) (b : List (List Told)). a ∷ b) (blind .told)
+      (go (x .last .plain .verified) (y .last .plain .verified) refl (sym (ap (λ (p : Plain). p .verified) (blind .settings)))
+      (answer-alike ds gs (x .last) (y .last) (subst (λ (n : ℕ). PairedDeeds n ds gs) (sym (one .pages)) q) (one .legally) (other .legally)))
+    where
+      x : Dialogue
+      x = dialogue σ r es
+
+      y : Dialogue
+      y = dialogue σ t fs
+
+      blind : Blind (capacity (r .guarded)) (r .guarded) (t .guarded) x y
+      blind = second-half σ r t (l .legal) (m .legal) k e c es fs p
+
+      one : Leaves r x
+      one = leaves es r l k
+
+      other : Leaves t y
+      other = leaves fs t m (subst (λ (p : Plain). T (locked p)) e k)
+
+      go : (a b : Bool) → x .last .plain .verified ≡ a → b ≡ a
+          → (T (locked (x .last .plain)) → x .last .plain ≡ y .last .plain → capacity (x .last .guarded) ≡ capacity (y .last .guarded) → answers σ (x .last) ds ≡ answers σ (y .last) gs)
+          → cond a [] (answers σ (x .last) ds) ≡ cond b [] (answers σ (y .last) gs)
+      go true b v w ih = rw w refl
+      go false b v w ih =
+          rw w
+          (ih (subst (λ (p : Plain). T (locked p)) (sym (one .settings v)) k) (blind .settings) (one .pages ∙ c ∙ sym (other .pages)))
