@@ -1,3 +1,4 @@
 pub mod Laws
 pub mod Gaps
 pub mod Life
+pub mod FromC

@@ -1,3 +1,4 @@
 pub mod Library
 pub mod Deleted
 pub mod Secrets
+pub mod Lines

@@ -1,3 +1,4 @@
 pub mod CloseGaps
 pub mod Records
 pub mod Life
+pub mod Turns

@@ -178,11 +178,11 @@ open-plain s z h k o =
     (λ j.
     settings (o .password j) (o .address j) (o .level j) (o .size j) (o .baud j) (o .sensor j) (isSet (o .verified j)) (transferOf (marksOf z) (o .transfer j) (o .got j)))
 
-mark-bytes : (a b : ℕ) → a ≤ 1 → b ≤ 1 → isSet a ≡ isSet b → a ≡ b
+pub mark-bytes : (a b : ℕ) → a ≤ 1 → b ≤ 1 → isSet a ≡ isSet b → a ≡ b
 unfolding fitMark
 mark-bytes a b l m e = sym (mark-is a (lt-ltb a 2 (omega arith))) ∙ ap markOf e ∙ mark-is b (lt-ltb b 2 (omega arith))
 
-plain-open : (s z : Settings) → FitRecord s → FitRecord z → plainOf s ≡ plainOf z → SameOpen s z
+pub plain-open : (s z : Settings) → FitRecord s → FitRecord z → plainOf s ≡ plainOf z → SameOpen s z
 plain-open s z h k e =
     let t = transfer-same (marksOf s) (marksOf z) (s .transfer) (s .got) (z .transfer) (z .got) (ap (λ (p : Plain). p .transfer) e) in
     record {

@@ -53,7 +53,7 @@ module _ (σ : Shape) (ok : σ .most ≤ 8 * σ .indexed) (r : Reader) (table : 
           (rank-still (σ .indexed) (capacity g) (g .templates) (g .index) (k .long) (k .wide) (omega (arith, k .high)) (rank (g .index) p)
           (omega (arith, rank-lt (g .index) p (capacity g) (o .below) (o .there))))
 
-  sound-closed : T (fitClosing σ (r .guarded) table) → T (sound r) → T (sound (closeAs r table 0 .after))
+  pub sound-closed : T (fitClosing σ (r .guarded) table) → T (sound r) → T (sound (closeAs r table 0 .after))
   unfolding closeAs sound closedUp bufferOf
   sound-closed t u =
       let k : Able σ r table = able σ r table t u in

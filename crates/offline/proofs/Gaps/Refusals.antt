@@ -35,7 +35,7 @@ abbrev pub CloseEnds : Reader → List ℕ → Closed → ℕ → Type 0
 CloseEnds r table e zero = e .refusal ≡ 0
 CloseEnds r table e (suc n) = (e .refusal ≡ suc n) × ((e .table ≡ table) × (e .after ≡ r))
 
-closing-mean : (g : Guarded) (table : List ℕ) → T (fitClosing core g table) ↔ ClosingLengths g table
+pub closing-mean : (g : Guarded) (table : List ℕ) → T (fitClosing core g table) ↔ ClosingLengths g table
 unfolding core fitClosing within capacity
 closing-mean g table = (to, from)
   where
