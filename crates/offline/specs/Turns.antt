@@ -1,11 +1,12 @@
 -- What a C caller hands to the doors of include/bystrodol.h and gets back, turn after turn: calls, as `Doors` of `dialogues` has them, and bystrodol_close_gaps between
 -- them.
 use mathlib.Core.Path.{_≡_}
+use mathlib.Core.Logic.{_≢_}
 use mathlib.Core.List.{List, [], _∷_}
 use Prim.Native.Nat.{ℕ}
 use Rattle.protocol.specs.declared.Settings.{Settings}
-use Rattle.protocol.specs.Call.{core}
-use Rattle.dialogues.specs.Doors.{Memory, Vault, LineVault, readerAt, Entry, lastOf, eventsOf, Steps, saw, Receives, sawOn}
+use Rattle.protocol.specs.Call.{core, Told}
+use Rattle.dialogues.specs.Doors.{Memory, Vault, LineVault, readerAt, Entry, lastOf, eventsOf, toldOf, Until, Steps, saw, Receives, sawOn}
 use Rattle.offline.specs.CloseGaps.{Closed, closeOf}
 use Rattle.offline.specs.Life.{Deed, calls, closing, Sight, exchanged, told}
 
@@ -30,6 +31,23 @@ abbrev pub deedsOf : {S : Type 0} → List (Turn S) → List Deed
 deedsOf [] = []
 deedsOf (called xs ∷ ts) = calls (eventsOf xs) ∷ deedsOf ts
 deedsOf (closed y ∷ ts) = closing (y .lent) ∷ deedsOf ts
+
+-- what each call got back; a closing tells a host nothing
+abbrev pub toldTurns : {S : Type 0} → List (Turn S) → List (List Told)
+toldTurns [] = []
+toldTurns (called xs ∷ ts) = toldOf xs ∷ toldTurns ts
+toldTurns (closed y ∷ ts) = toldTurns ts
+
+-- "up to and including the first accepted password": only the last call may leave a verified mark of 1, where `marked` tells the mark
+abbrev pub Never : {S : Type 0} → (S → ℕ) → List (Entry S) → Type 0
+Never marked [] = Unit {0}
+Never marked (x ∷ xs) = (marked (x .after) ≢ 1) × Never marked xs
+
+abbrev pub UntilTurn : {S : Type 0} → (S → ℕ) → List (Turn S) → Type 0
+UntilTurn marked [] = Unit {0}
+UntilTurn marked (called xs ∷ []) = Until marked xs
+UntilTurn marked (called xs ∷ t ∷ ts) = Never marked xs × UntilTurn marked (t ∷ ts)
+UntilTurn marked (closed y ∷ ts) = UntilTurn marked ts
 
 -- bystrodol_close_gaps went as its contract says, on these settings and this memory before it and after it
 abbrev pub ByContract : {S : Type 0} → Settings → Memory → Closing S → Settings → Memory → Type 0

@@ -67,7 +67,7 @@ module _ (x : Line) where
   unfolding holding
   switch-few few = switch-kinds x (λ (o : Handed). o .after .receiver .count ≤ 267) (λ k e. few) (λ e. omega arith)
 
-  switch-reader : lineSwitchOf x .after .reader ≡ switchOf (x .reader) .after
+  pub switch-reader : lineSwitchOf x .after .reader ≡ switchOf (x .reader) .after
   switch-reader =
       switch-kinds x (λ (o : Handed). o .after .reader ≡ switchOf (x .reader) .after)
       (λ k e. sym (switch-stays (x .reader) (λ z. let t = switch-tells (x .reader) in absurd (omega arith)))) (λ e. refl)

@@ -48,11 +48,15 @@ module _ (σ : Shape) (ok : σ .most ≤ 8 * σ .indexed) where
   ever-legal (calls es ∷ ds) r l = ever-legal ds (finally σ r es) (calling.ever-legal σ ok r l es)
   ever-legal (closing table ∷ ds) r l = ever-legal ds (closeOf σ r table .after) (closed-legal σ ok r table l)
 
+  pub close-length : (r : Reader) (table : List ℕ) → length (closeOf σ r table .after .guarded .templates) ≡ length (r .guarded .templates)
+  unfolding closeAs closedUp
+  close-length r table =
+      close-kinds σ r table (λ (e : Closed). length (e .after .guarded .templates) ≡ length (r .guarded .templates)) (λ k. refl)
+      (λ t u. length-closed (capacity (r .guarded)) (r .guarded .templates) (r .guarded .index) (able σ r table t u .long))
+
   pub close-capacity : (r : Reader) (table : List ℕ) → capacity (closeOf σ r table .after .guarded) ≡ capacity (r .guarded)
-  unfolding capacity closeAs closedUp
-  close-capacity r table =
-      close-kinds σ r table (λ (e : Closed). capacity (e .after .guarded) ≡ capacity (r .guarded)) (λ k. refl)
-      (λ t u. ap (λ (n : ℕ). n / 512) (length-closed (capacity (r .guarded)) (r .guarded .templates) (r .guarded .index) (able σ r table t u .long)))
+  unfolding capacity
+  close-capacity r table = ap (λ (n : ℕ). n / 512) (close-length r table)
 
   pub life-capacity : (ds : List Deed) (r : Reader) → capacity (lastly σ r ds .guarded) ≡ capacity (r .guarded)
   unfolding lastly deed

@@ -82,7 +82,7 @@ module _ (σ : Shape) (ok : σ .most ≤ 8 * σ .indexed) where
           let i = ih (subst (λ (x : Plain). T (locked x)) (sym p) k) in
           record { legally = i .legally; pages = i .pages ∙ same; settings = λ w. i .settings w ∙ p }
 
-  close-plain : (r : Reader) (table : List ℕ) → closeOf σ r table .after .plain ≡ r .plain
+  pub close-plain : (r : Reader) (table : List ℕ) → closeOf σ r table .after .plain ≡ r .plain
   unfolding closeAs
   close-plain r table = close-kinds σ r table (λ (e : Closed). e .after .plain ≡ r .plain) (λ n. refl) (λ t u. refl)
 
