@@ -5,6 +5,7 @@ pub mod bringing_over;
 pub mod chance;
 mod chips;
 pub mod counts;
+pub mod gaps;
 mod leavers;
 pub mod limits;
 pub mod origins;
@@ -22,7 +23,7 @@ use crate::reader::*;
 use std::collections::VecDeque;
 
 /// A reader that is called again and again, each time with what is left of the bytes that came in, and with new scores
-/// and thresholds.
+/// and thresholds. At times its gaps are closed between.
 pub struct Dialogue {
     chance: Chance,
     reader: Reader,
@@ -42,9 +43,12 @@ impl Dialogue {
         Dialogue { chance, reader, left: Vec::new(), waiting: true, events: VecDeque::new(), scenes }
     }
 
-    /// The next call or line switch; none when the dialogue is over.
+    /// The next call, line switch or closing of the gaps; none when the dialogue is over.
     pub fn next(&mut self) -> Option<Request> {
         let mut kind = Kind::Call;
+        if self.waiting && self.events.is_empty() && self.chance.percent(10) {
+            return Some(gaps::closing(self.reader.clone()));
+        }
         if self.waiting {
             while self.events.is_empty() {
                 self.next_scene()?;
@@ -77,7 +81,8 @@ impl Dialogue {
     }
 }
 
-/// One call or line switch of a reader that is legal or spoiled, or fresh settings or an index brought over for it.
+/// One call or line switch of a reader that is legal or spoiled, or fresh settings, an index brought over or the gaps
+/// closed for it.
 pub fn single(mut chance: Chance) -> Request {
     let (reader, room) = spoiled_reader(&mut chance);
     let run = Author { chance: &mut chance, reader: &reader }.run();
@@ -85,6 +90,7 @@ pub fn single(mut chance: Chance) -> Request {
         0..=11 => Kind::LineSwitch,
         12..=21 => Kind::FreshSettings,
         22..=33 => return bringing_over::by_chance(&mut chance, Request { kind: Kind::BringOver, reader, run, room }),
+        34..=45 => return gaps::by_chance(&mut chance, Request { kind: Kind::CloseGaps, reader, run, room }),
         _ => Kind::Call,
     };
     chips::suited(&mut chance, Request { kind, reader, run, room })

@@ -1,7 +1,7 @@
 //! The frames that a probe takes and gives. All numbers are high byte first.
 
 use crate::reader::receiver::{self, Receiver};
-use crate::reader::{self, Answer, Chip, Mark, Origin, Reader, Settings, COMMAND, SEARCH};
+use crate::reader::{self, gaps, Answer, Chip, Mark, Origin, Reader, Settings, COMMAND, SEARCH};
 use std::io::{Error, ErrorKind, Read, Result};
 
 /// What a frame in asks for, and of what.
@@ -11,10 +11,11 @@ pub struct Request {
     pub reader: Reader,
     /// The run, the piece that a receiver is offered, or the stored index that is brought over.
     pub run: Vec<u8>,
+    /// The reply room, or the bytes of the table that a closing of the gaps fills.
     pub room: Vec<u8>,
 }
 
-/// The six kinds of a request, with the receiver before the reader where there is one.
+/// The seven kinds of a request, with the receiver before the reader where there is one.
 #[derive(Clone, PartialEq, Eq)]
 pub enum Kind {
     Call,
@@ -25,6 +26,8 @@ pub enum Kind {
     FreshSettings,
     /// A stored index, which is the run, brought over into the reader's; nothing else is looked at or touched.
     BringOver,
+    /// The gaps closed. Notepad, buffers, scores, thresholds and run are not looked at or touched.
+    CloseGaps,
 }
 
 /// What a frame out tells.
@@ -87,6 +90,7 @@ impl Kind {
             Kind::ReceiverLineSwitch(_) => 3,
             Kind::FreshSettings => 4,
             Kind::BringOver => 5,
+            Kind::CloseGaps => 6,
         }
     }
 
@@ -99,6 +103,7 @@ impl Kind {
             3 => Ok(Kind::ReceiverLineSwitch(Receiver::empty())),
             4 => Ok(Kind::FreshSettings),
             5 => Ok(Kind::BringOver),
+            6 => Ok(Kind::CloseGaps),
             other => Err(broken(format!("a frame begins with {other}"))),
         }
     }
@@ -118,6 +123,12 @@ impl Request {
                 Answer::without_reply(0)
             }
             Kind::BringOver => reader::bring_over(&run, &mut reader.index),
+            Kind::CloseGaps => {
+                let mut table = numbers(&room);
+                let answer = gaps::close_gaps(&mut reader, &mut table);
+                lay_numbers(&mut room, &table);
+                answer
+            }
         };
         Outcome { answer, receiver: kind.receiver().cloned(), reader, room }
     }
@@ -298,8 +309,14 @@ fn numbers_to_bytes(numbers: &[u16]) -> Vec<u8> {
     numbers.iter().flat_map(|number| number.to_be_bytes()).collect()
 }
 
-fn numbers(bytes: &[u8]) -> Vec<u16> {
+/// Numbers of two bytes each; a last byte by itself is none.
+pub fn numbers(bytes: &[u8]) -> Vec<u16> {
     bytes.chunks_exact(2).map(|pair| u16::from_be_bytes([pair[0], pair[1]])).collect()
+}
+
+/// Lays numbers over the first bytes of these.
+pub fn lay_numbers(bytes: &mut [u8], numbers: &[u16]) {
+    bytes[..2 * numbers.len()].copy_from_slice(&numbers_to_bytes(numbers));
 }
 
 fn read_bytes<const N: usize>(input: &mut impl Read) -> Result<[u8; N]> {

@@ -8,10 +8,10 @@ mod shrink;
 
 use crate::cases::chance::Chance;
 use crate::cases::receivers::{self, Caller};
-use crate::cases::{self, bringing_over, counts, limits, origins, parameters, search, thousand, Dialogue};
+use crate::cases::{self, bringing_over, counts, gaps, limits, origins, parameters, search, thousand, Dialogue};
 use crate::examples::Examples;
 use crate::reader;
-use crate::tally::kinds::{BROUGHT, CALLED, FRESHENED, ON_A_LINE, RECEIVED};
+use crate::tally::kinds::{BROUGHT, CALLED, CLOSED, FRESHENED, ON_A_LINE, RECEIVED};
 use crate::tally::Tally;
 use frame::{Kind, Outcome, Request};
 use std::time::{Duration, Instant};
@@ -87,17 +87,18 @@ pub fn compare<O: Other>(other: O, examples: &Examples, extent: Extent) -> Resul
     comparer.in_turn("of the origins", origins::all())?;
     comparer.in_turn("of the searches", search::all())?;
     comparer.in_turn("of the parameters", parameters::all())?;
+    comparer.in_turn("of the gaps", gaps::all(seed))?;
     comparer.in_turn("of every length", receivers::every_length(seed))?;
     comparer.cut_runs(seed)?;
     let Comparer { other, readers, receivers, .. } = comparer;
     other.finish()?;
 
-    let of_readers = [ON_A_LINE, CALLED, FRESHENED, BROUGHT].concat();
+    let of_readers = [ON_A_LINE, CALLED, FRESHENED, BROUGHT, CLOSED].concat();
     let of_receivers = [ON_A_LINE, CALLED, RECEIVED].concat();
-    let mut gaps = readers.gaps(&of_readers);
-    gaps.extend(receivers.gaps(&of_receivers).iter().map(|gap| format!("with a receiver, {gap}")));
-    if !gaps.is_empty() && cases >= COVERING_CASES {
-        return Err(End::Weakness(gaps));
+    let mut missing = readers.missing(&of_readers);
+    missing.extend(receivers.missing(&of_receivers).iter().map(|what| format!("with a receiver, {what}")));
+    if !missing.is_empty() && cases >= COVERING_CASES {
+        return Err(End::Weakness(missing));
     }
     let mut lines = Vec::new();
     for (who, tally, kinds) in [("reader", &readers, &of_readers), ("receiver", &receivers, &of_receivers)] {

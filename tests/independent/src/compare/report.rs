@@ -15,6 +15,7 @@ pub fn case(request: &Request) -> Vec<String> {
         Kind::ReceiverLineSwitch(_) => "a line switch of the receiver",
         Kind::FreshSettings => "fresh settings",
         Kind::BringOver => "an index brought over",
+        Kind::CloseGaps => "the gaps closed",
     };
     let mut lines = vec![
         what.to_string(),
@@ -28,7 +29,8 @@ pub fn case(request: &Request) -> Vec<String> {
     lines.push(memory("buffer 2", &reader.buffers[1]));
     lines.push(numbers("scores", &reader.chip.scores));
     lines.push(numbers("thresholds", &reader.chip.thresholds));
-    lines.push(memory("reply room", &request.room));
+    let room = if request.kind == Kind::CloseGaps { "table" } else { "reply room" };
+    lines.push(memory(room, &request.room));
     if let Some(receiver) = request.kind.receiver() {
         lines.push(format!("held count {}, {}", receiver.count, memory("cells", &receiver.cells)));
         if receiver.legal() {
@@ -114,7 +116,7 @@ fn memories(outcome: &Outcome) -> Vec<(&'static str, &[u8])> {
         ("notepad", &reader.notepad),
         ("buffer 1", &reader.buffers[0]),
         ("buffer 2", &reader.buffers[1]),
-        ("reply room", &outcome.room),
+        ("reply room or table", &outcome.room),
     ];
     memories.extend(outcome.receiver.iter().map(|receiver| ("cells", &receiver.cells[..])));
     memories

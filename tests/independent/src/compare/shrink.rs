@@ -1,6 +1,6 @@
 //! Makes a case on which two readers differ small, as long as they still differ.
 
-use crate::compare::frame::{Outcome, Request};
+use crate::compare::frame::{Kind, Outcome, Request};
 use crate::reader::receiver::{Receiver, HOLDS};
 use crate::reader::*;
 
@@ -29,7 +29,7 @@ const FIELDS: [Freshen; 13] = [
     },
 ];
 
-/// The memories by number: templates, index, notepad, buffers 1 and 2, reply room.
+/// The memories by number: templates, index, notepad, buffers 1 and 2, reply room or table.
 const MEMORIES: usize = 6;
 
 struct Shrinker<F> {
@@ -151,7 +151,9 @@ impl<F: FnMut(&Request) -> Result<Outcome, String>> Shrinker<F> {
     }
 
     fn right_length(&mut self, which: usize) {
-        let lengths = [PAGE * self.case.reader.capacity().max(1), INDEX, PAGE, PAGE, PAGE, ROOM];
+        let pages = self.case.reader.capacity().max(1);
+        let room = if self.case.kind == Kind::CloseGaps { 2 * pages } else { ROOM };
+        let lengths = [PAGE * pages, INDEX, PAGE, PAGE, PAGE, room];
         self.attempt(|case| memory(case, which).resize(lengths[which], 0));
     }
 
@@ -180,8 +182,12 @@ impl<F: FnMut(&Request) -> Result<Outcome, String>> Shrinker<F> {
     }
 }
 
-/// Takes away the pages from this one on, their bits and their scores.
+/// Takes away the pages from this one on, their bits, their scores and their numbers in a table.
 fn keep_pages(case: &mut Request, pages: usize) {
+    if case.kind == Kind::CloseGaps {
+        let rest = case.room.len().saturating_sub(2 * (case.reader.capacity() - pages));
+        case.room.truncate(rest);
+    }
     for page in pages..case.reader.capacity() {
         if let Some(byte) = case.reader.index.get_mut(page / 8) {
             *byte &= !bit(page);

@@ -44,7 +44,7 @@ impl Coverage {
     }
 
     /// What was not shown.
-    pub fn gaps(&self) -> Vec<String> {
+    pub fn missing(&self) -> Vec<String> {
         let told = |(command, length_right, code): Shown| {
             let length = if length_right { "its" } else { "a wrong" };
             format!("{command:02X}h of {length} length answered {code:02X}h")

@@ -101,8 +101,8 @@ pub fn stored() -> Result<Stored, Vec<String>> {
     demand(replies.starts_with(&example), "it does not begin with the replies to P1 and P8")?;
     demand(rest.left.len() == MOST_LEFT, "it does not end with the longest unfinished packet")?;
     demand(sent.len() < MOST_SENT, "it is too long")?;
-    let gaps = [bench.tally.gaps(ON_A_LINE), bench.coverage.gaps()].concat();
-    demand(gaps.is_empty(), &format!("it does not show:\n  {}", gaps.join("\n  ")))?;
+    let missing = [bench.tally.missing(ON_A_LINE), bench.coverage.missing()].concat();
+    demand(missing.is_empty(), &format!("it does not show:\n  {}", missing.join("\n  ")))?;
 
     let heading = format!(
         "the stored dialogue: {} exchanges, {} bytes sent, {} bytes replied in {packets} packets",

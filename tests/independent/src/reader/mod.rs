@@ -2,6 +2,7 @@
 //! Store of its request [5], the thousand pages of its request [6], the origins of its request [7], the Search of its
 //! request [8] and the ReadSysPara of its request [13], written from those papers alone and in document 01's order.
 
+pub mod gaps;
 pub mod receiver;
 
 use std::ops::{Range, RangeInclusive};
@@ -317,13 +318,13 @@ impl Reader {
         self.buffers.iter().all(|buffer| buffer.len() == PAGE)
     }
 
+    /// Whether the templates are 1 to 1000 whole pages, and the index has its length.
+    fn library_fits(&self) -> bool {
+        self.templates.len() % PAGE == 0 && (1..=MOST_PAGES).contains(&self.capacity()) && self.index.len() == INDEX
+    }
+
     fn lengths_fit(&self) -> bool {
-        self.templates.len() % PAGE == 0
-            && (1..=MOST_PAGES).contains(&self.capacity())
-            && self.index.len() == INDEX
-            && self.notepad.len() == PAGE
-            && self.buffers_fit()
-            && self.chip_fits()
+        self.library_fits() && self.notepad.len() == PAGE && self.buffers_fit() && self.chip_fits()
     }
 
     pub fn chip_fits(&self) -> bool {
@@ -345,12 +346,17 @@ impl Reader {
             .all(|(origin, mark)| origin.page().map_or(true, |page| mark.is_set() && stored(page)))
     }
 
+    /// Whether there is nothing that refusal 3 is for. The lengths fit.
+    fn legal(&self) -> bool {
+        self.settings.legal() && self.bit_beyond().is_none() && self.origins_legal()
+    }
+
     pub fn refusal(&self, room: usize) -> u8 {
         if !self.lengths_fit() {
             1
         } else if room < ROOM {
             2
-        } else if !self.settings.legal() || self.bit_beyond().is_some() || !self.origins_legal() {
+        } else if !self.legal() {
             3
         } else {
             0

@@ -1,5 +1,6 @@
 //! Counts what the calls brought about, to show that the cases reach everything.
 
+mod gaps;
 pub mod kinds;
 mod origins;
 mod parameters;
@@ -18,6 +19,8 @@ pub struct Tally {
     counts: HashMap<(&'static str, usize), usize>,
     /// What was done last that matters to a ReadSysPara, and the settings that it left.
     last: Option<(Done, Settings)>,
+    /// What the last closing of the gaps left.
+    closed: Option<Reader>,
 }
 
 /// A packet that a call dealt with, and the acknowledge code of the reply, if there is one.
@@ -43,6 +46,9 @@ impl Tally {
         } else if request.kind == frame::Kind::BringOver {
             self.add_bringing_over(request, refusal);
             MARKS_BROUGHT_OVER
+        } else if request.kind == frame::Kind::CloseGaps {
+            self.add_closing(request, outcome);
+            MARKS_CLOSED
         } else if request.kind.is_line_switch() {
             self.count(SWITCHES, refusal);
             MARKS_SWITCHED
@@ -65,6 +71,7 @@ impl Tally {
             self.add_packet(met);
             self.add_packet_with_origins(met);
             self.add_packet_with_found_mark(met);
+            self.add_packet_after_closing(met);
         }
         self.add_origins(request, refusal);
         self.add_search(request, refusal);
@@ -255,13 +262,13 @@ impl Tally {
     }
 
     /// What of these kinds did not occur.
-    pub fn gaps(&self, kinds: &[Kind]) -> Vec<String> {
-        let mut gaps = Vec::new();
+    pub fn missing(&self, kinds: &[Kind]) -> Vec<String> {
+        let mut missing = Vec::new();
         for kind in kinds {
-            let missing = kind.awaited().filter(|&which| self.number(kind, which) == 0);
-            gaps.extend(missing.map(|which| format!("{}: {}", kind.name, kind.label(which))));
+            let not_met = kind.awaited().filter(|&which| self.number(kind, which) == 0);
+            missing.extend(not_met.map(|which| format!("{}: {}", kind.name, kind.label(which))));
         }
-        gaps
+        missing
     }
 
     fn number(&self, kind: &Kind, which: usize) -> usize {

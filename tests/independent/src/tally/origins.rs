@@ -9,7 +9,9 @@ impl Tally {
     pub fn add_origins(&mut self, request: &Request, refusal: u8) {
         let reader = &request.reader;
         let unfit = (0..2).any(|buffer| unfit(reader, buffer));
-        if request.kind.is_call() && refusal == 0 {
+        if request.kind == frame::Kind::CloseGaps {
+            return;
+        } else if request.kind.is_call() && refusal == 0 {
             self.add_legal_origins(reader);
         } else if request.kind.is_call() && unfit {
             self.count(UNFIT_ORIGINS, refusal);
@@ -161,7 +163,7 @@ impl Tally {
 }
 
 /// The buffers that have an origin, and its page.
-fn with_origin(reader: &Reader) -> impl Iterator<Item = (usize, usize)> {
+pub fn with_origin(reader: &Reader) -> impl Iterator<Item = (usize, usize)> {
     let origins = reader.settings.origins;
     (0..2).filter_map(move |buffer| origins[buffer].page().map(|page| (buffer, page)))
 }

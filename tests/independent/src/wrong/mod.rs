@@ -6,6 +6,7 @@ mod basics;
 mod bringing_over;
 mod chips;
 mod found;
+mod gaps;
 mod limits;
 mod origins;
 mod parameters;
@@ -32,6 +33,7 @@ const WITHOUT_RECEIVER: Shows = |kind| matches!(kind, Kind::Call | Kind::LineSwi
 const WITH_RECEIVER: Shows = |kind| matches!(kind, Kind::ReceiverCall(_) | Kind::ReceiverLineSwitch(_));
 const FRESH: Shows = |kind| *kind == Kind::FreshSettings;
 const BRINGING_OVER: Shows = |kind| *kind == Kind::BringOver;
+const CLOSING: Shows = |kind| *kind == Kind::CloseGaps;
 
 /// All wrong ones.
 pub fn all() -> Vec<Wrong> {
@@ -47,6 +49,7 @@ pub fn all() -> Vec<Wrong> {
     found::add(&mut rows);
     chips::add(&mut rows);
     parameters::add(&mut rows);
+    gaps::add(&mut rows);
     rows.0
 }
 
@@ -103,6 +106,11 @@ impl Rows {
     /// What brings an index over.
     fn over(&mut self, name: impl Into<String>) -> Row<'_> {
         self.begin(vec![(name.into(), BRINGING_OVER, false)])
+    }
+
+    /// What closes the gaps.
+    fn closing(&mut self, name: impl Into<String>) -> Row<'_> {
+        self.begin(vec![(name.into(), CLOSING, false)])
     }
 
     fn begin(&mut self, names: Vec<Name>) -> Row<'_> {

@@ -1,0 +1,209 @@
+//! Counts what the closings of document 02's request [9] met and brought about.
+
+use crate::compare::frame::{Outcome, Request};
+use crate::reader::*;
+use crate::tally::kinds::*;
+use crate::tally::origins::with_origin;
+use crate::tally::{Met, Tally};
+
+/// A change of a request that makes a part of it fit.
+type Mend = fn(&mut Request);
+
+const MEND_TEMPLATES: Mend = |request| {
+    let pages = request.reader.capacity().clamp(1, MOST_PAGES);
+    request.reader.templates.resize(PAGE * pages, 0);
+    request.reader.index.iter_mut().skip(MOST_PAGES / 8).for_each(|byte| *byte = 0);
+    MEND_TABLE(request);
+};
+const MEND_INDEX: Mend = |request| request.reader.index.resize(INDEX, 0);
+const MEND_TABLE: Mend = |request| request.room.resize(2 * request.reader.capacity(), 0);
+
+/// The settings one by one; an origin that hangs on a filled mark goes with it.
+const MEND_SETTINGS: [Mend; 8] = [
+    |request| request.reader.settings.level = 3,
+    |request| request.reader.settings.size_code = 2,
+    |request| request.reader.settings.baud_factor = 6,
+    |request| request.reader.settings.verified = CLEAR,
+    |request| request.reader.settings.filled = [CLEAR; 2],
+    |request| request.reader.settings.found = CLEAR,
+    |request| (request.reader.settings.transfer, request.reader.settings.got) = (0, 0),
+    |request| request.reader.settings.origins = [NONE; 2],
+];
+
+impl Tally {
+    pub fn add_closing(&mut self, request: &Request, outcome: &Outcome) {
+        let refusal = outcome.answer.refusal;
+        self.count(CLOSINGS, refusal);
+        if request.room.len() % 2 == 1 {
+            self.count(CLOSINGS_BY_ODD_BYTE, refusal);
+        }
+        match refusal {
+            0 => {
+                self.add_closed(request, outcome);
+                self.add_closed_with(request);
+                self.closed = Some(outcome.reader.clone());
+            }
+            1 => self.add_closing_refused_for_lengths(request),
+            _ => self.add_closing_refused_for_settings(request),
+        }
+    }
+
+    /// A closing that was carried out, by its gaps, its pages and its origins.
+    fn add_closed(&mut self, request: &Request, outcome: &Outcome) {
+        let old = &request.reader;
+        let capacity = old.capacity();
+        let stored: Vec<usize> = (0..capacity).filter(|&page| old.stored(page)).collect();
+        let count = stored.len();
+        self.count(CLOSINGS_BY_CAPACITY, capacity);
+        if self.closed.as_ref() == Some(old) {
+            self.count(SECOND_CLOSINGS, usize::from(count > 0) + usize::from(count == capacity));
+        }
+        let gaps = [
+            count == capacity,
+            count > 0 && stored[0] > 0,
+            stored.windows(2).any(|pair| pair[0] + 1 < pair[1]),
+            count > 0 && stored[count - 1] + 1 < capacity,
+            count == 0,
+        ];
+        (0..gaps.len()).filter(|&gap| gaps[gap]).for_each(|gap| self.count(CLOSINGS_BY_GAP, gap));
+        let zero = |page: usize| old.template(page).iter().all(|&byte| byte == 0);
+        for page in (0..capacity).filter(|&page| !old.stored(page)) {
+            self.count(CLOSINGS_BY_PAGE, usize::from(!zero(page)));
+            if !zero(page) {
+                self.count(DIRTY_VACANT, (page + 1).saturating_sub(count).min(2));
+            }
+        }
+        for (new, &page) in stored.iter().enumerate() {
+            self.count(CLOSINGS_BY_PAGE, 2 + (page - new).min(2));
+            if page != new {
+                self.count(PAGES_MOVED_FROM, page);
+                self.count(PAGES_MOVED_TO, new);
+                if zero(page) {
+                    self.count(CLOSINGS_BY_PAGE, 5_usize);
+                }
+            }
+        }
+        if stored.last() >= Some(&count) {
+            self.count(COUNTS_CLOSED, count % 8);
+        }
+        self.add_closed_origins(old, &outcome.reader);
+    }
+
+    /// The origins, by whether they moved.
+    fn add_closed_origins(&mut self, old: &Reader, new: &Reader) {
+        let [mut moved, mut left] = [0_usize; 2];
+        for (buffer, page) in with_origin(old) {
+            if new.settings.origins[buffer] == Origin::of(page) {
+                left += buffer + 1;
+                continue;
+            }
+            moved += buffer + 1;
+            self.count(ORIGINS_MOVED_FROM, page);
+            if old.settings.origins[1 - buffer] == NONE {
+                self.count(ORIGINS_BESIDE_NONE, buffer + 1);
+            }
+        }
+        for (kind, buffers) in [(ORIGINS_MOVED, moved), (ORIGINS_NOT_MOVED, left)] {
+            if buffers > 0 {
+                self.count(kind, buffers);
+            }
+        }
+    }
+
+    /// A closing that was carried out, by what else was there.
+    fn add_closed_with(&mut self, request: &Request) {
+        let Reader { settings, notepad, buffers, chip, .. } = &request.reader;
+        self.count(CLOSINGS_LIKE_CALLS, request.reader.refusal(request.room.len()));
+        self.count(CLOSINGS_BY_LOCK, if settings.locked() { 2_usize } else { (settings.password != [0; 4]).into() });
+        self.count(CLOSINGS_BY_TRANSFER, settings.transfer);
+        self.count(CLOSINGS_BY_FOUND, settings.found.is_set());
+        let others = [
+            notepad.len() != PAGE,
+            buffers[0].len() != PAGE,
+            buffers[1].len() != PAGE,
+            chip.scores.len() != request.reader.capacity(),
+            chip.thresholds.len() != THRESHOLDS,
+            request.run.is_empty(),
+        ];
+        (0..others.len()).filter(|&other| others[other]).for_each(|other| self.count(NOT_LENT, other));
+    }
+
+    /// A closing with refusal 1, by what it alone was refused for and what would come next.
+    fn add_closing_refused_for_lengths(&mut self, request: &Request) {
+        let Reader { templates, index, .. } = &request.reader;
+        let (capacity, table) = (request.reader.capacity(), request.room.len() / 2);
+        let whole_pages = templates.len() % PAGE == 0 && (1..=MOST_PAGES).contains(&capacity);
+        for (place, mend) in [MEND_TEMPLATES, MEND_INDEX, MEND_TABLE].into_iter().enumerate() {
+            match (place, refusal_with(mend, request)) {
+                (0, _) if whole_pages => {}
+                (_, 3) => self.count(LENGTHS_BEFORE_SETTINGS, place),
+                (0, 0) if templates.len() % PAGE == 0 => self.count(TEMPLATES_REFUSED, capacity),
+                (0, 0) => self.count(UNEVEN_TEMPLATES_REFUSED, templates.len() % PAGE),
+                (1, 0) => self.count(INDEXES_REFUSED_CLOSED, index.len()),
+                (2, 0) if table == 0 => self.count(TABLES_REFUSED, 0_usize),
+                (2, 0) if table + 1 == capacity => self.count(TABLES_REFUSED, 1_usize),
+                (2, 0) if table == capacity + 1 => self.count(TABLES_REFUSED, 2_usize),
+                (2, 0) if table == 2 * capacity => self.count(TABLES_REFUSED, 3_usize),
+                _ => {}
+            }
+        }
+    }
+
+    /// A closing with refusal 3, by what it alone was refused for.
+    fn add_closing_refused_for_settings(&mut self, request: &Request) {
+        let (settings, capacity) = (&request.reader.settings, request.reader.capacity());
+        for (place, mend) in MEND_SETTINGS.into_iter().enumerate() {
+            if refusal_with(mend, request) == 0 {
+                self.count(SETTINGS_REFUSED, place);
+            }
+        }
+        if let Some(page) = request.reader.bit_beyond() {
+            if refusal_with(|request| clear_beyond(&mut request.reader), request) == 0 {
+                self.count(BITS_REFUSED_CLOSED, page / 8 / INDEX_PAGE);
+                if page == capacity {
+                    self.count(BITS_AT_C, capacity);
+                }
+            }
+        }
+        if refusal_with(|request| request.reader.settings.origins = [NONE; 2], request) == 0 {
+            for (buffer, page) in with_origin(&request.reader) {
+                let which: usize = match page {
+                    _ if page >= capacity => (page - capacity).min(1),
+                    _ if !request.reader.stored(page) => 2,
+                    _ if !settings.filled[buffer].is_set() => 3,
+                    _ => continue,
+                };
+                self.count(ORIGINS_REFUSED_CLOSED, which);
+            }
+        }
+    }
+
+    /// A command to a reader with the settings, templates and index that a closing left.
+    pub fn add_packet_after_closing(&mut self, Met { request, packet, code, .. }: &Met) {
+        let Reader { settings, templates, index, .. } = &request.reader;
+        let same = |left: &Reader| left.settings == *settings && left.index == *index && left.templates == *templates;
+        let after = packet.identifier == COMMAND && self.closed.as_ref().map_or(false, same);
+        if let Some(code) = code.filter(|_| after) {
+            if code == 0x00 {
+                self.count(COMMANDS_AFTER_CLOSING, packet.content[0]);
+            }
+            if packet.content[0] == LOAD_CHAR {
+                self.count(LOADS_AFTER_CLOSING, code);
+            }
+        }
+    }
+}
+
+/// The refusal that a closing would get with this change, or 0.
+fn refusal_with(mend: Mend, request: &Request) -> u8 {
+    let mut asked = request.clone();
+    mend(&mut asked);
+    asked.carried_out().answer.refusal
+}
+
+/// Clears the bits at or above C.
+fn clear_beyond(reader: &mut Reader) {
+    while let Some(page) = reader.bit_beyond() {
+        reader.index[page / 8] &= !bit(page);
+    }
+}
