@@ -111,6 +111,13 @@ static void set_stored(uint8_t *index, size_t page) { index[page / 8] |= (uint8_
 
 static void clear_stored(uint8_t *index, size_t page) { index[page / 8] &= (uint8_t)~(1u << page % 8); }
 
+/* The first pages are stored, so many of them, and no other. */
+static void set_first_stored(uint8_t *index, size_t count) {
+    memset(index, 0xFF, count / 8);
+    memset(index + count / 8, 0, BYSTRODOL_INDEX_BYTES - count / 8);
+    index[count / 8] = (uint8_t)((1u << count % 8) - 1);
+}
+
 static unsigned count_stored(const uint8_t *index) {
     unsigned count = 0;
     for (size_t i = 0; i < BYSTRODOL_INDEX_BYTES; i++) count += (unsigned)__builtin_popcount(index[i]);
@@ -190,6 +197,17 @@ static int is_origin(uint16_t origin, uint8_t filled, const uint8_t *index, size
 static int are_origins(const struct bystrodol_settings *settings, const uint8_t *index, size_t pages) {
     return is_origin(settings->origin1, settings->filled1, index, pages) &&
            is_origin(settings->origin2, settings->filled2, index, pages);
+}
+
+/* ---- what is lent, for every call */
+
+static int are_pages(size_t templates_length) {
+    return templates_length % BYSTRODOL_PAGE_BYTES == 0 && templates_length >= BYSTRODOL_PAGE_BYTES &&
+           templates_length <= BYSTRODOL_PAGES_MOST * BYSTRODOL_PAGE_BYTES;
+}
+
+static int is_reader(const struct bystrodol_settings *settings, const uint8_t *index, size_t pages) {
+    return is_legal(settings) && fits(index, pages) && are_origins(settings, index, pages);
 }
 
 /* ---- the commands: parameters in, acknowledge code out */
@@ -500,14 +518,14 @@ struct bystrodol_answer plain_step(struct bystrodol_settings *settings, uint8_t 
                                    size_t reply_length) {
     struct bystrodol_answer answer = {BYSTRODOL_ACCEPTED, 0, 0};
     size_t pages = templates_length / BYSTRODOL_PAGE_BYTES;
-    if (templates_length % BYSTRODOL_PAGE_BYTES != 0 || pages < 1 || pages > BYSTRODOL_PAGES_MOST ||
+    if (!are_pages(templates_length) ||
         index_length != BYSTRODOL_INDEX_BYTES || notepad_length != BYSTRODOL_PAGE_BYTES ||
         buffer1_length != BYSTRODOL_PAGE_BYTES || buffer2_length != BYSTRODOL_PAGE_BYTES || scores_length != pages ||
         thresholds_length != BYSTRODOL_THRESHOLDS)
         answer.refusal = BYSTRODOL_BAD_LENGTH;
     else if (reply_length < BYSTRODOL_REPLY_BYTES)
         answer.refusal = BYSTRODOL_BAD_ROOM;
-    else if (!is_legal(settings) || !fits(index, pages) || !are_origins(settings, index, pages))
+    else if (!is_reader(settings, index, pages))
         answer.refusal = BYSTRODOL_BAD_SETTING;
     else {
         struct reader reader = {settings, templates, pages, index, notepad, buffer1, buffer2, scores, thresholds, reply};
@@ -583,4 +601,33 @@ uint8_t plain_receiver_switch(struct bystrodol_line *line, uint8_t *buffer1, siz
         line->receiver.count = 0;
     }
     return refusal;
+}
+
+/* ---- closing the gaps, of request [9] */
+
+static void follow(uint16_t *origin, const uint16_t *table) {
+    if (*origin != BYSTRODOL_NO_PAGE) *origin = table[*origin];
+}
+
+uint8_t plain_close_gaps(struct bystrodol_settings *settings, uint8_t *templates, size_t templates_length,
+                         uint8_t *index, size_t index_length, uint16_t *table, size_t table_length) {
+    size_t pages = templates_length / BYSTRODOL_PAGE_BYTES, next = 0;
+    if (!are_pages(templates_length) || index_length != BYSTRODOL_INDEX_BYTES || table_length != pages)
+        return BYSTRODOL_BAD_LENGTH;
+    if (!is_reader(settings, index, pages)) return BYSTRODOL_BAD_SETTING;
+    for (size_t page = 0; page < pages; page++) {
+        if (!is_stored(index, page)) {
+            table[page] = BYSTRODOL_NO_PAGE;
+            continue;
+        }
+        if (page != next)
+            memmove(templates + BYSTRODOL_PAGE_BYTES * next, templates + BYSTRODOL_PAGE_BYTES * page,
+                    BYSTRODOL_PAGE_BYTES);
+        table[page] = (uint16_t)next++;
+    }
+    memset(templates + BYSTRODOL_PAGE_BYTES * next, 0, BYSTRODOL_PAGE_BYTES * (pages - next));
+    set_first_stored(index, next);
+    follow(&settings->origin1, table);
+    follow(&settings->origin2, table);
+    return BYSTRODOL_ACCEPTED;
 }
