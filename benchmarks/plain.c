@@ -202,8 +202,8 @@ static int are_origins(const struct bystrodol_settings *settings, const uint8_t 
 /* ---- what is lent, for every call */
 
 static int are_pages(size_t templates_length) {
-    return templates_length % BYSTRODOL_PAGE_BYTES == 0 && templates_length >= BYSTRODOL_PAGE_BYTES &&
-           templates_length <= BYSTRODOL_PAGES_MOST * BYSTRODOL_PAGE_BYTES;
+    size_t pages = templates_length / BYSTRODOL_PAGE_BYTES;
+    return templates_length % BYSTRODOL_PAGE_BYTES == 0 && pages >= 1 && pages <= BYSTRODOL_PAGES_MOST;
 }
 
 static int is_reader(const struct bystrodol_settings *settings, const uint8_t *index, size_t pages) {
