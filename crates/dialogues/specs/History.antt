@@ -3,11 +3,12 @@ use mathlib.Core.Bool.{Bool, false, _&&_, _||_, not, cond}
 use mathlib.Core.List.{List, [], _∷_, _++_}
 use Prim.Native.Nat.{ℕ}
 use lib.Dec.{eqb}
+use lib.ListN.{length, getD}
 use Rattle.protocol.specs.declared.Found.{Found}
 use Rattle.protocol.specs.declared.Found.the-variants.{Noise, Unfinished, Unfit, Whole}
 use Rattle.protocol.specs.Numbers.{done}
 use Rattle.protocol.specs.Bytes.{same}
-use Rattle.protocol.specs.Tests.{among}
+use Rattle.protocol.specs.Tests.{among, some}
 use Rattle.protocol.specs.Packet.{addressAt}
 use Rattle.protocol.specs.Finder.{findOf}
 use Rattle.protocol.specs.Reader.{Reader}
@@ -27,11 +28,12 @@ exchanges σ r [] = []
 exchanges σ r (received s lent ∷ es) = record { run = s; reply = replyOf (callOf σ r s lent .told) } ∷ exchanges σ (callOf σ r s lent .after) es
 exchanges σ r (switch ∷ es) = exchanges σ (switchOf r .after) es
 
--- pages put in, and taken out
+-- pages put in, taken out, and moved: each page's new number, by a table
 pub data Act : Type 0 where
   put : ℕ → Act
   cut : ℕ → ℕ → Act
   cutAll : Act
+  moved : List ℕ → Act
 
 unfoldable pub actsOf : Barred → List Act
 actsOf (searchFor b p n) = []
@@ -87,3 +89,5 @@ live [] q = false
 live (put p ∷ old) q = eqb p q || live old q
 live (cut p n ∷ old) q = not (among p n q) && live old q
 live (cutAll ∷ old) q = false
+-- "a moved page goes on as stored under its new number, and its old number no longer stands for it"
+live (moved table ∷ old) q = some (λ p. live old p && eqb (getD table p 0) q) (length table)

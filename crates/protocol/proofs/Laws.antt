@@ -2,6 +2,7 @@ pub mod Logic
 pub mod Marks
 pub mod Lines
 pub mod Lists
+pub mod Below
 pub mod Bits
 pub mod Index
 pub mod Count

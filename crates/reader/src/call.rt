@@ -1,7 +1,9 @@
 // A whole call of the reader, and the line switch.
 ghost use mathlib.Core.Path.{_≡_};
+ghost use mathlib.Core.Bool.{_&&_};
 ghost use mathlib.Core.List.{List};
 ghost use Prim.Native.Nat.{ℕ, _+_, _≤_};
+ghost use lib.Dec.{leb};
 ghost use lib.ListN.{length};
 ghost use Rattle.protocol.specs.declared.Found.the-variants.{Whole};
 ghost use Rattle.protocol.specs.Numbers.{headBytes, mostPages};
@@ -213,6 +215,16 @@ pub(crate) fn is_sound(settings: Settings, index: &[u8], pages: usize) -> bool
         return false;
     }
     origins::are_fit(settings, index, pages)
+}
+
+// The same for whoever has not counted the pages: of more than a library has, none are legal.
+pub fn is_legal(settings: Settings, index: &[u8], pages: usize) -> bool
+    ensures { λ r. ⌜ r ≡ (leb pages mostPages && soundOf pages (now (index .entry)) settings) ⌝ }
+{
+    if numbers::MOST_PAGES < pages {
+        return false;
+    }
+    is_sound(settings, index, pages)
 }
 
 // A call of a reader with a notepad of `noted` bytes: its settings and lent memory, scores and thresholds, a received run, and a reply room.

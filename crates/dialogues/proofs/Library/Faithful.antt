@@ -39,6 +39,11 @@ pub record Faithful (r : Reader) : Type 0 where
 abbrev Faith : Reader → Type 0
 Faith r = (w : Bool) → Copy (r .guarded .templates) (bufferOf w (r .guarded))
 
+faith : (r : Reader) → Faithful r → Faith r
+unfolding bufferOf
+faith r f true = f .buffer2
+faith r f false = f .buffer1
+
 copy-none : (t : List ℕ) (b : Buffer) → b .origin ≡ noOrigin → Copy t b
 copy-none t b e p h = no-page p (sym e ∙ h)
 
@@ -149,6 +154,11 @@ module _ (σ : Shape) (ok : σ .most ≤ 8 * σ .indexed) where
       go zero false = copy-emptied _
       go (suc n) w = f w
 
+  -- one call or line switch
+  pub stays-faithful : (r : Reader) → Legal σ ok r → Faithful r → (e : Event) → Faithful (on σ r e .after)
+  unfolding bufferOf
+  stays-faithful r l f e = let k = stays-faith r l (faith r f) e in record { buffer1 = k false; buffer2 = k true }
+
   ever-faith : (r : Reader) → Legal σ ok r → Faith r → (es : List Event) → Legal σ ok (finally σ r es) × Faith (finally σ r es)
   unfolding finally
   ever-faith r l f [] = (l, f)
@@ -170,12 +180,7 @@ module _ (σ : Shape) (ok : σ .most ≤ 8 * σ .indexed) where
 
   pub ever-faithful : (r : Reader) → Legal σ ok r → Faithful r → (es : List Event) (b p : ℕ) → buffer b (finally σ r es .guarded) .origin ≡ fromPage p
       → Holds (finally σ r es) b p
-  unfolding bufferOf
-  ever-faithful r l f es = let h = ever-faith r l start es in held (finally σ r es) (good σ ok (finally σ r es) (h .0)) (h .1)
-    where
-      start : Faith r
-      start true = f .buffer2
-      start false = f .buffer1
+  ever-faithful r l f es = let h = ever-faith r l (faith r f) es in held (finally σ r es) (good σ ok (finally σ r es) (h .0)) (h .1)
 
 -- ---- a start
 

@@ -19,7 +19,7 @@ use Rattle.protocol.specs.Data.{acknowledge}
 use Rattle.protocol.specs.Step.{Heard, nothing, order, piece, hear, rested}
 use Rattle.protocol.specs.Call.{Shape, core, Lent, fitLent, legal, Ended, callOf}
 use Rattle.protocol.specs.Dialogue.{Event, received, on, finally}
-use Rattle.dialogues.specs.History.{Exchange, exchanges, Act, put, cut, cutAll, actsOf, actsIn, addressee, asks, grants, actsSeen, history}
+use Rattle.dialogues.specs.History.{Exchange, exchanges, Act, put, cut, cutAll, moved, actsOf, actsIn, addressee, asks, grants, actsSeen, history}
 use Rattle.protocol.proofs.Laws.Logic.{eqb-same}
 use Rattle.protocol.proofs.Laws.Lists.{same-eq}
 use Rattle.protocol.proofs.Laws.Index.{Fine, not-among, stored-with, stored-span, fine-with, fine-span, fine-zeros}
@@ -155,6 +155,7 @@ Cut q [] = ⊥
 Cut q (put p ∷ old) = Cut q old
 Cut q (cut p n ∷ old) = ((p ≤ q) × (q < p + n)) ⊎ Cut q old
 Cut q (cutAll ∷ old) = Unit {0}
+Cut q (moved table ∷ old) = Cut q old
 
 module _ (q : ℕ) (x : Exchange) (a : List ℕ) (e : x .reply ≡ acknowledge a 0x00 []) (old : List Act) where
   abbrev Seen : Heard → Type 0

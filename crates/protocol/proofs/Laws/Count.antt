@@ -1,5 +1,5 @@
 -- Counting: how many numbers below n have a property, and so how many bits of an index are set.
-use mathlib.Core.Bool.{Bool, false, cond}
+use mathlib.Core.Bool.{Bool, true, false, cond}
 use mathlib.Core.Path.{_≡_, refl, sym, ap, ap₂, _∙_}
 use mathlib.Core.List.{List, [], _∷_, _++_, foldr}
 use Prim.Native.Nat.{ℕ, zero, suc, _+_, _-_, _*_, _/_, _%_, _^_, _≤_, _<_}
@@ -29,6 +29,27 @@ pub count-none : (f : ℕ → Bool) (n : ℕ) → ((q : ℕ) → q < n → f q �
 unfolding countBelow
 count-none f zero h = refl
 count-none f (suc n) h = rw (h n (omega arith)) (omega (arith, count-none f n (λ q l. h q (omega arith))))
+
+pub count-le : (f : ℕ → Bool) (n : ℕ) → countBelow f n ≤ n
+unfolding countBelow
+count-le f zero = omega arith
+count-le f (suc n) = go (f n) (count-le f n)
+  where
+    go : (b : Bool) → countBelow f n ≤ n → cond b 1 0 + countBelow f n ≤ suc n
+    go true h = omega arith
+    go false h = omega arith
+
+pub count-all : (f : ℕ → Bool) (n : ℕ) → ((q : ℕ) → q < n → f q ≡ true) → countBelow f n ≡ n
+unfolding countBelow
+count-all f zero h = refl
+count-all f (suc n) h = rw (h n (omega arith)) (omega (arith, count-all f n (λ q l. h q (omega arith))))
+
+-- the first k of n
+pub count-first : (f : ℕ → Bool) (k n : ℕ) → k ≤ n → ((q : ℕ) → q < k → f q ≡ true) → ((q : ℕ) → k ≤ q → q < n → f q ≡ false) → countBelow f n ≡ k
+count-first f k n h a b =
+    let e : n ≡ k + (n - k) = omega arith in
+    ap (countBelow f) e ∙ count-add f k (n - k)
+    ∙ ap₂ (λ (i j : ℕ). i + j) (count-all f k a) (count-none (λ q. f (k + q)) (n - k) (λ q l. b (k + q) (omega arith) (omega arith))) ∙ omega arith
 
 -- where no bit at or above c is set, the set bits are the stored pages below c
 pub below-capacity : (x : List ℕ) (c : ℕ) → c ≤ bits x → T (clearFrom x c) → setBits x ≡ countBelow (stored x) c

@@ -187,16 +187,16 @@ origin-means t x b m = (
   λ h p e. let k = h p e in record { below = k .below (length t / 512) m; there = memory .bit-stored x p .1 (k .there); filled = k .filled },
 )
 
--- what refusal 3 tests is this
-pub settings-mean : (r : Reader) → Lengths (r .guarded) → T (sound r) ↔ Settled r
+-- what refusal 3 tests is this, of templates of n pages
+pub settled-means : (r : Reader) (n : ℕ) → length (r .guarded .templates) ≡ 512 * n → T (sound r) ↔ Settled r
 unfolding core sound fitPlain within highestSize capacity bufferOf
-settings-mean r m = (to, from)
+settled-means r n m = (to, from)
   where
     x : List ℕ
     x = r .guarded .index
 
     whole : length (r .guarded .templates) ≡ 512 * capacity (r .guarded)
-    whole = omega (arith, m .templates)
+    whole = omega (arith, m)
 
     roots : (b : Buffer) → Rooted (capacity (r .guarded)) x b ↔ ((p : ℕ) → b .origin ≡ fromPage p → LegalOrigin (r .guarded .templates) x b p)
     roots b = origin-means (r .guarded .templates) x b whole
@@ -225,13 +225,16 @@ settings-mean r m = (to, from)
         let d2 = le→leb (r .plain .baud) 12 (s .baud .1) in
         let k = lt→ltb (r .plain .sensor) 65536 (s .sensor) in
         let t = transfer-means (r .plain) (r .guarded) (s .size) (r .plain .transfer) .1 (s .transfer) in
-        let c = clear-to x (capacity (r .guarded)) (λ q l h. bit-clear x q .1 (s .clear (capacity (r .guarded)) q (omega (arith, m .templates)) l)) in
+        let c = clear-to x (capacity (r .guarded)) (λ q l h. bit-clear x q .1 (s .clear (capacity (r .guarded)) q (omega (arith, m)) l)) in
         let o = fit-origins (r .guarded) each in
         search (and-i) depth 9
       where
         each : (w : Bool) → Rooted (capacity (r .guarded)) x (bufferOf w (r .guarded))
         each false = roots (r .guarded .buffer1) .1 (s .origin1)
         each true = roots (r .guarded .buffer2) .1 (s .origin2)
+
+pub settings-mean : (r : Reader) → Lengths (r .guarded) → T (sound r) ↔ Settled r
+settings-mean r m = settled-means r (m .pages) (m .templates)
 
 -- ---- "Legal reader: one that gets none of refusals 1 to 3", both ways
 

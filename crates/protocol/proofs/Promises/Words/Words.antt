@@ -10,7 +10,7 @@ use borrow.Author.Tests.{ltb-true, lt-ltb, eqb-true, eq-eqb, ne-eqb}
 use lib.ListN.{length, getD, take, replicate}
 use Rattle.protocol.specs.Numbers.{pageBytes, leastPages, mostPages, indexBytes, indexPageBytes, oldIndexBytes, addedBytes, notepadBytes, noteBytes, replyRoom, fourBytes, levels, benchPages, lowestLevel, highestLevel, lowestBaud, highestBaud, highestSize, baudParameter, levelParameter, sizeParameter, verifiedStatus, foundStatus, firstMark, secondMark, headBytes, frameBytes, commandPacket, dataPacket, acknowledgePacket, lastPacket, shortest, longest, longestOther, holds, done, badPacket, notFound, badPage, nothingThere, nothingToSend, transferFailed, badRange, wrongPassword, unknownCommand, badParameter, badValue, badNotePage, passwordFirst, pageTaken, badLength, badRoom, badSetting, badContent, noCount, noPage}
 use Rattle.protocol.specs.Bytes.{Bytes, two, four, same, lay, joined}
-use Rattle.protocol.specs.Tests.{countBelow}
+use Rattle.protocol.specs.Tests.{some, countBelow, listed}
 use Rattle.protocol.specs.Index.{bit, stored, setBits}
 use Rattle.protocol.specs.Reader.{Marks, closed, opened, unfit, Plain, noOrigin, fromPage, Buffer, Guarded, Reader, capacity, sizeOf, keyed, locked, bufferOf, emptied, loadedFrom, storedOn, fresh, zeroed}
 use Rattle.protocol.specs.Table.{isBuffer, second, statusOf}
@@ -19,6 +19,7 @@ use Rattle.protocol.specs.Dialogue.{Event, received, switch, on, finally
 use Rattle.protocol.specs.Records.{fitMark, fitMarks, transferOf, originOf, freshOf}
 use Rattle.protocol.proofs.Laws.Logic.{T→true, T→false, and-l, and-r, and-i}
 use Rattle.protocol.proofs.Laws.Marks.{fit-marks, fit-verified, fit-filled1, fit-filled2, fit-found, transfer-kinds, none-beside, into-beside}
+use Rattle.protocol.proofs.Laws.Below.{some-at, some-none, length-listed, at-listed}
 use Rattle.protocol.proofs.Laws.Lists.{same-refl, same-eq, length-lay, at-before, at-inside, at-behind}
 use Rattle.protocol.proofs.Laws.Count.{set-weights}
 
@@ -225,6 +226,11 @@ pub record Lists : Type 0 where
   pub none-counted : (f : ℕ → Bool) → countBelow f 0 ≡ 0
   pub true-counted : (f : ℕ → Bool) (n : ℕ) → f n ≡ true → countBelow f (suc n) ≡ countBelow f n + 1
   pub false-counted : (f : ℕ → Bool) (n : ℕ) → f n ≡ false → countBelow f (suc n) ≡ countBelow f n
+  -- whether it is true of some of them; and a list of as many numbers, one for each
+  pub some-true : (f : ℕ → Bool) (n i : ℕ) → i < n → f i ≡ true → some f n ≡ true
+  pub none-true : (f : ℕ → Bool) (n : ℕ) → ((i : ℕ) → i < n → f i ≡ false) → some f n ≡ false
+  pub listed-long : (f : ℕ → ℕ) (n : ℕ) → length (listed f n) ≡ n
+  pub listed-at : (f : ℕ → ℕ) (n i : ℕ) → i < n → getD (listed f n) i 0 ≡ f i
   -- the reply is the front of the reply room, as long as was told
   pub reply-is : (t : Told) → replyOf t ≡ take (t .length) (t .room)
 
@@ -266,6 +272,10 @@ lists =
       none-counted = λ f. refl;
       true-counted = λ f n e. rw e (omega arith);
       false-counted = λ f n e. rw e (omega arith);
+      some-true = some-at;
+      none-true = some-none;
+      listed-long = length-listed;
+      listed-at = at-listed;
       reply-is = λ t. refl;
     }
 

@@ -1,0 +1,2 @@
+pub mod CloseGaps
+pub mod Records
