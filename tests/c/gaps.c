@@ -219,7 +219,8 @@ static void afterwards(void) {
 
 enum { FEW = 8, PLENTY = 1000, SIGN_WRITES = 3 };
 
-/* What the board keeps. The sign is the byte is_moving, written behind table and next; told is the table for the hosts. */
+/* What the board keeps. The sign is the byte is_moving, written behind table and next. next is a byte, too, and so saved wholly or not at all; told is the table
+ * for the hosts. */
 static struct {
     struct library {
         uint8_t pages[FEW][BYSTRODOL_PAGE_BYTES], index[BYSTRODOL_INDEX_BYTES];
@@ -291,7 +292,7 @@ static void power_fails(size_t pages, unsigned bits) {
     memcpy(old_library.pages, parts[TEMPLATES], lengths[TEMPLATES]), memcpy(old_library.index, parts[INDEX], BYSTRODOL_INDEX_BYTES);
     closes("a library that is saved", bits);
     for (size_t first = 0; first <= most; first++)
-        for (size_t second = pages <= 5 ? 0 : most; second <= most; second++) is_saved(bits << 16 | first << 8 | second, first, second);
+        for (size_t second = pages <= 5 ? 0 : most; second <= most; second++) is_saved(pages << 24 | bits << 16 | first << 8 | second, first, second);
 }
 
 static void checks(void) {
