@@ -298,10 +298,10 @@ static void bound_gaps_row(const char *name, size_t capacity, size_t first, size
 
 static void measure_libraries(size_t capacity) {
     gaps.length = 0;
-    bound_gaps_row("gaps: none, all stored", capacity, 0, 1);
-    bound_gaps_row("gaps: page 0", capacity, 1, 1);
-    bound_gaps_row("gaps: every second page", capacity, 1, 2);
-    begin_gaps("gaps: none stored", capacity, capacity, 1);
+    bound_gaps_row("no gap, all stored", capacity, 0, 1);
+    bound_gaps_row("one gap, page 0", capacity, 1, 1);
+    bound_gaps_row("every second page stored", capacity, 1, 2);
+    begin_gaps("none stored", capacity, capacity, 1);
     measure_gaps(BYSTRODOL_ACCEPTED);
     begin_gaps("gaps: refusal 1, the table", capacity, 1, 2);
     table_length--;
@@ -582,7 +582,7 @@ int print_counts(void) {
     put_table("| at 257, 999, 1000 pages      |257: ours |   257: C | ratio |999: ours |   999: C | ratio "
               "|1000:ours |  1000: C | ratio |\n|---|---:|---:|---:|---:|---:|---:|---:|---:|---:|\n",
               &calls, 3, 3, &summary);
-    put_table("| gaps closed, at 64, 1000     | 64: ours |    64: C | ratio |1000:ours |  1000: C | ratio |\n"
+    put_table("| closing the gaps, 64, 1000   | 64: ours |    64: C | ratio |1000:ours |  1000: C | ratio |\n"
               "|---|---:|---:|---:|---:|---:|---:|\n",
               &gaps, 0, LIBRARIES, &summary);
     put_table("| a received byte, in pieces   |  1: ours |     1: C | ratio | 16: ours |    16: C | ratio "
