@@ -3,7 +3,7 @@
 #include "system.h"
 
 struct reader reader;
-size_t pages, reply_length;
+size_t pages, reply_length, table_length;
 uint8_t run[RUN_MOST];
 size_t run_length;
 
@@ -38,13 +38,14 @@ void copy_reader(struct reader *to, const struct reader *from) { memcpy(to, from
 void fill_memory(struct memory *memory) { fill_random(memory, sizeof *memory - unused()); }
 
 void make_reader(size_t capacity) {
-    pages = capacity;
+    pages = table_length = capacity;
     reply_length = BYSTRODOL_REPLY_BYTES;
     reader.line.settings = bystrodol_fresh();
     memset(reader.line.receiver.held, 0xEF, sizeof reader.line.receiver.held);
     reader.line.receiver.count = 0;
     fill_memory(&reader.memory);
     fill_random(reader.reply, sizeof reader.reply);
+    fill_random(reader.table, sizeof reader.table);
     make_index_legal(&reader.memory);
 }
 
@@ -96,7 +97,8 @@ struct command command_of(size_t number, size_t capacity) {
 #define LENT(part) reader.memory.part, sizeof reader.memory.part
 #define BUFFERS LENT(buffer1), LENT(buffer2)
 #define NUMBERS reader.memory.scores, pages, reader.memory.thresholds, BYSTRODOL_THRESHOLDS
-#define MEMORY reader.memory.templates, BYSTRODOL_PAGE_BYTES * pages, LENT(index), LENT(notepad), BUFFERS, NUMBERS
+#define LIBRARY reader.memory.templates, BYSTRODOL_PAGE_BYTES * pages, LENT(index)
+#define MEMORY LIBRARY, LENT(notepad), BUFFERS, NUMBERS
 
 struct bystrodol_answer call_stepped(__typeof__(bystrodol_step) *step) {
     return STEPPED(step, step(&reader.line.settings, MEMORY, run, run_length, reader.reply, reply_length));
@@ -106,6 +108,10 @@ void fresh_stepped(__typeof__(bystrodol_fresh) *fresh) { reader.line.settings = 
 
 uint8_t line_switch_stepped(__typeof__(bystrodol_line_switch) *line_switch) {
     return STEPPED(line_switch, line_switch(&reader.line.settings, BUFFERS));
+}
+
+uint8_t close_gaps_stepped(__typeof__(bystrodol_close_gaps) *close_gaps) {
+    return STEPPED(close_gaps, close_gaps(&reader.line.settings, LIBRARY, reader.table, table_length));
 }
 
 struct bystrodol_received receive_stepped(__typeof__(bystrodol_receive) *receive, const uint8_t *piece, size_t n) {

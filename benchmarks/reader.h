@@ -20,11 +20,12 @@ struct memory {
 struct reader {
     struct bystrodol_line line;
     uint8_t reply[REPLY_ROOM];
+    uint16_t table[BYSTRODOL_PAGES_MOST];
     struct memory memory;
 };
 
 extern struct reader reader;
-extern size_t pages, reply_length;
+extern size_t pages, reply_length, table_length;
 
 /* Copies a reader, but for the templates behind the pages in use. */
 void copy_reader(struct reader *to, const struct reader *from);
@@ -78,6 +79,7 @@ struct command command_of(size_t number, size_t capacity);
 void fresh_stepped(__typeof__(bystrodol_fresh) *fresh);
 struct bystrodol_answer call_stepped(__typeof__(bystrodol_step) *step);
 uint8_t line_switch_stepped(__typeof__(bystrodol_line_switch) *line_switch);
+uint8_t close_gaps_stepped(__typeof__(bystrodol_close_gaps) *close_gaps);
 
 /* ---- the same of its receiver */
 

@@ -1,6 +1,7 @@
 /*
  * A reader in an area of memory: its line, and each part that is lent, with guard bytes around it. Memory of bytes begins at odd addresses; what has length 0 is
- * lent as NULL. The reader is called through three doors: a receiver that is offered the whole run, one that already holds half of it, and none.
+ * lent as NULL. The table is that of closing the gaps. The reader is called through three doors: a receiver that is offered the whole run, one that already holds
+ * half of it, and none.
  * What a call may change is changed in a copy of the area as it was, and then every byte of the two is compared.
  */
 #include "bystrodol.h"
@@ -8,16 +9,18 @@
 
 /* ---- the area */
 
-enum { SCORES, THRESHOLDS, INDEX, NOTEPAD, BUFFER1, BUFFER2, RUN, REPLY, TEMPLATES, PARTS };
+enum { TABLE, SCORES, THRESHOLDS, INDEX, NOTEPAD, BUFFER1, BUFFER2, RUN, REPLY, TEMPLATES, PARTS };
 enum { GUARD = 64, MOST = 1025 * BYSTRODOL_PAGE_BYTES };
 
-/* The room for each part, more than is right. Scores and thresholds are numbers of two bytes. */
-static const size_t rooms[PARTS] = {1026, 11, 386, 514, 514, 514, 268, 702, MOST};
-static const char *const names[PARTS] = {"scores", "thresholds", "index", "notepad", "buffer 1", "buffer 2", "run", "reply room", "templates"};
+/* The room for each part, more than is right. Table, scores and thresholds are numbers of two bytes. */
+static const size_t rooms[PARTS] = {1026, 1026, 11, 386, 514, 514, 514, 268, 702, MOST};
+static const char *const names[PARTS] = {"table", "scores", "thresholds", "index", "notepad", "buffer 1", "buffer 2", "run", "reply room", "templates"};
 
 static struct area {
     uint8_t before_line[GUARD];
     struct bystrodol_line line;
+    uint8_t before_table[GUARD];
+    uint16_t table[1026];
     uint8_t before_scores[GUARD];
     uint16_t scores[1026];
     uint8_t before_thresholds[GUARD];
@@ -46,13 +49,14 @@ static inline size_t extent(void) { return (size_t)(parts[TEMPLATES] - (uint8_t 
 
 static inline void save(void) { memcpy(&was, &area, extent()); }
 
-/* A legal reader of so many bytes of templates: fresh settings but for found mark and address, bytes in all memory, no two pages alike, and no page stored; a reply
- * room, and no run. Its receiver has any bytes, and a count above 267. */
+/* A legal reader of so many bytes of templates: fresh settings but for found mark and address, bytes in all memory, no two halves of pages alike, and no page stored;
+ * a reply room, and no run. Its receiver has any bytes, and a count above 267. */
 static inline void set_up_bytes(size_t templates) {
-    const size_t right[PARTS] = {templates / BYSTRODOL_PAGE_BYTES, BYSTRODOL_THRESHOLDS, BYSTRODOL_INDEX_BYTES, BYSTRODOL_PAGE_BYTES, BYSTRODOL_PAGE_BYTES,
-                                 BYSTRODOL_PAGE_BYTES, 0, BYSTRODOL_REPLY_BYTES, templates};
+    const size_t pages = templates / BYSTRODOL_PAGE_BYTES;
+    const size_t right[PARTS] = {pages, pages, BYSTRODOL_THRESHOLDS, BYSTRODOL_INDEX_BYTES, BYSTRODOL_PAGE_BYTES, BYSTRODOL_PAGE_BYTES, BYSTRODOL_PAGE_BYTES, 0,
+                                 BYSTRODOL_REPLY_BYTES, templates};
     memcpy(lengths, right, sizeof right);
-    parts[SCORES] = (uint8_t *)area.scores, parts[THRESHOLDS] = (uint8_t *)area.thresholds;
+    parts[TABLE] = (uint8_t *)area.table, parts[SCORES] = (uint8_t *)area.scores, parts[THRESHOLDS] = (uint8_t *)area.thresholds;
     for (size_t i = INDEX, at = GUARD + 1; i < PARTS; at += rooms[i++] + GUARD) parts[i] = area.bytes + at;
     memcpy(&area, &pattern, extent());
     area.line.settings = bystrodol_fresh();
@@ -71,7 +75,7 @@ static inline void set_up_stored(size_t pages) {
 }
 
 static inline void fill_pattern(void) {
-    for (size_t i = 0; i < sizeof pattern; i++) ((uint8_t *)&pattern)[i] = (uint8_t)(0xA5 + 7 * i + i / 509);
+    for (size_t i = 0; i < sizeof pattern; i++) ((uint8_t *)&pattern)[i] = (uint8_t)(0xA5 + 7 * i + i / 101 + i / 20011);
 }
 
 /* ---- calls */
@@ -137,7 +141,7 @@ static inline uint8_t *page_was(size_t page) { return part_was(TEMPLATES) + BYST
 static inline const char *name_at(const uint8_t *at) {
     for (int i = 0; i < PARTS; i++)
         if (at >= parts[i] && at < parts[i] + lengths[i] * (i <= THRESHOLDS ? 2 : 1)) return names[i];
-    return at < (uint8_t *)&area.line || at >= area.before_scores ? "guards" : at < (uint8_t *)&area.line.receiver ? "settings" : "receiver";
+    return at < (uint8_t *)&area.line || at >= area.before_table ? "guards" : at < (uint8_t *)&area.line.receiver ? "settings" : "receiver";
 }
 
 /* Every byte of the area is that of another; of the first that is not, the part is named. */
@@ -158,6 +162,28 @@ static inline void is_refused(const char *name, size_t which, uint8_t refusal) {
 }
 
 static inline void refuses(const char *name, size_t which, uint8_t refusal) { call(), is_refused(name, which, refusal); }
+
+/* ---- lengths that are not right */
+
+static uint16_t many[0x10000 + BYSTRODOL_PAGE_BYTES];
+
+/* Every length of a part but the right one; one that differs from it above 16 bits, too. */
+static inline void bad_lengths(int i, void (*refuses_length)(int, size_t)) {
+    set_up(10);
+    const size_t right = lengths[i];
+    for (size_t length = 0; length <= rooms[i]; length++)
+        if (length != right) refuses_length(i, length);
+    parts[i] = (uint8_t *)many;
+    refuses_length(i, 0x10000 + right);
+}
+
+/* Lengths of templates that are no whole pages, no pages or more than 1000. */
+static inline void bad_templates(void (*refuses_length)(int, size_t)) {
+    static const size_t wrong[] = {0, 1, 511, 513, 5119, 5121, 1000 * 512 - 1, 1000 * 512 + 1, 1001 * 512, 1024 * 512, MOST - 1, MOST};
+    for (size_t i = 0; i < sizeof wrong / sizeof *wrong; i++) set_up_bytes(wrong[i]), refuses_length(TEMPLATES, wrong[i]);
+}
+
+/* ---- answers, and what they leave */
 
 /* The whole run is answered with these bytes, and a receiver holds nothing now. */
 static inline void is_answered(const char *name, size_t which, const uint8_t *reply, size_t length) {

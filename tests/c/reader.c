@@ -3,11 +3,9 @@
  * says; every command and code that the header names, and all that each command changes.
  * tests/c/run builds and runs it. It writes one line, 'reader: N checks passed', and ends with 0; or names each failed check and ends with 1.
  */
-#include "area.h"
+#include "settings.h"
 
 /* ---- refusals 1 and 2: lent lengths and the reply room */
-
-static uint16_t many[0x10000 + BYSTRODOL_PAGE_BYTES];
 
 static void refuses_length(int i, size_t length) {
     lengths[i] = length;
@@ -17,25 +15,9 @@ static void refuses_length(int i, size_t length) {
     is_all("a refused line switch", length);
 }
 
-/* Every length of a part but the right one; one that differs from it above 16 bits, too. */
-static void bad_lengths(void) {
-    for (int i = SCORES; i <= BUFFER2; i++) {
-        set_up(10);
-        const size_t right = lengths[i];
-        for (size_t length = 0; length <= rooms[i]; length++)
-            if (length != right) refuses_length(i, length);
-        parts[i] = (uint8_t *)many;
-        refuses_length(i, 0x10000 + right);
-    }
-}
-
 static void bad_pages(void) {
-    static const size_t wrong[] = {0, 1, 511, 513, 5119, 5121, 1000 * 512 - 1, 1000 * 512 + 1, 1001 * 512, 1024 * 512, MOST - 1, MOST};
     static const size_t right[] = {1, 8, 9, 64, 255, 256, 257, 999, BYSTRODOL_PAGES_MOST};
-    for (size_t i = 0; i < sizeof wrong / sizeof *wrong; i++) {
-        set_up_bytes(wrong[i]);
-        refuses(names[TEMPLATES], wrong[i], BYSTRODOL_BAD_LENGTH);
-    }
+    bad_templates(refuses_length);
     for (size_t i = 0; i < sizeof right / sizeof *right; i++) set_up_stored(right[i]), is_read("pages", right[i]);
 }
 
@@ -63,24 +45,8 @@ static void order(void) {
 
 /* ---- refusal 3: settings and index, as the header says */
 
-/* Pages 0, 1, 3, 4, 5, 6 and 9 of ten are stored. */
-static void set_up_some(void) { set_up(10), parts[INDEX][0] = 0x7B, parts[INDEX][1] = 0x02; }
-
-static int is_origin(uint16_t origin, uint8_t filled) {
-    return origin == BYSTRODOL_NO_PAGE || (origin < 10 && (parts[INDEX][origin / 8] >> origin % 8 & 1) && filled == 1);
-}
-
-static int is_legal(const struct bystrodol_settings *s) {
-    const int is_open = s->verified || !(s->password[0] | s->password[1] | s->password[2] | s->password[3]);
-    if (s->verified > 1 || s->filled1 > 1 || s->filled2 > 1 || s->found > 1) return 0;
-    if (!is_origin(s->origin1, s->filled1) || !is_origin(s->origin2, s->filled2)) return 0;
-    if (s->level < 1 || s->level > 5 || s->size > 3 || s->baud < 1 || s->baud > 12) return 0;
-    if (s->transfer == 0) return s->got == 0;
-    return s->transfer <= 2 && s->got < 512 && s->got % (32 << s->size) == 0 && is_open && !(s->transfer == 1 ? s->filled1 : s->filled2);
-}
-
 /* ReadSysPara tells them, or is refused. The line switch takes them all, and keeps what it does not clear. Whether they are legal is returned. */
-static int any_settings(const char *name, size_t which, const struct bystrodol_settings *s) {
+static int is_taken(const char *name, size_t which, const struct bystrodol_settings *s) {
     set_up_some(), area.line.settings = *s;
     put(BYSTRODOL_PACKET_COMMAND, CONTENT(BYSTRODOL_COMMAND_READ_SYS_PARA));
     if (is_legal(s)) is_read(name, which);
@@ -88,56 +54,6 @@ static int any_settings(const char *name, size_t which, const struct bystrodol_s
     set_up_some(), area.line.settings = *s;
     is_switched(name, which);
     return is_legal(s);
-}
-
-/* Legal settings in twelve ways: each buffer filled from a page or not; without a password, locked, and open; with a transfer where there can be one. */
-static struct bystrodol_settings legal_settings(size_t way) {
-    const uint8_t filled1 = way & 1, filled2 = way >> 1 & 1, lock = (uint8_t)(way / 4), transfer = lock == 1 || (filled1 && filled2) ? 0 : filled1 ? 2 : 1;
-    return (struct bystrodol_settings){{0, 0, 0, lock ? 7 : 0}, {1, 2, 3, 4}, 4, 1, 11, transfer, 0x1234, transfer ? 192 : 0, lock == 2, filled1, filled2, found,
-                                       filled1 ? 3 : BYSTRODOL_NO_PAGE, filled2 ? 9 : BYSTRODOL_NO_PAGE};
-}
-
-/* Every byte of the settings takes every value, the marks among them. */
-static void every_byte(void) {
-    static const char *const fields[] = {"password", "address", "level, size code, baud factor and transfer", "sensor type and bytes got", "marks", "origins"};
-    for (size_t way = 0; way < 12; way++)
-        for (size_t at = 0; at < sizeof(struct bystrodol_settings); at++)
-            for (unsigned byte = 0; byte < 256; byte++) {
-                struct bystrodol_settings s = legal_settings(way);
-                ((uint8_t *)&s)[at] = (uint8_t)byte;
-                any_settings(fields[at / 4], at << 8 | byte, &s);
-            }
-}
-
-/* The bytes got of a transfer, at each size. */
-static void every_got(void) {
-    for (unsigned which = 0; which < 8 * 1025; which++) {
-        struct bystrodol_settings s = bystrodol_fresh();
-        s.transfer = 1 + which % 2, s.size = which / 2 % 4, s.got = (uint16_t)(which / 8);
-        any_settings("a transfer's bytes got", which, &s);
-    }
-}
-
-/* Every number as the origin of a buffer that is filled, the other one not. */
-static void every_origin(void) {
-    for (unsigned n = 0; n <= 0xFFFF; n += door == STEP ? 1 : 251)
-        for (size_t way = 1; way <= 2; way++) {
-            struct bystrodol_settings s = legal_settings(way);
-            *(way == 1 ? &s.origin1 : &s.origin2) = (uint16_t)n;
-            any_settings("an origin", n, &s);
-        }
-}
-
-/* Legal settings with up to four random bytes, and settings that are all random. */
-static void random_settings(void) {
-    size_t legal = 0;
-    for (size_t which = 0; which < 12 * 1024; which++) {
-        struct bystrodol_settings s = legal_settings(which % 12);
-        for (size_t i = 0; i < which / 12 % 5; i++) ((uint8_t *)&s)[random_below(sizeof s)] = (uint8_t)random_below(256);
-        for (size_t i = 0; which % 4 == 0 && i < sizeof s; i++) ((uint8_t *)&s)[i] = (uint8_t)random_below(256);
-        legal += (size_t)any_settings("settings of random bytes", which, &s);
-    }
-    check("settings of random bytes, of which some are legal", legal > 2048 && legal < 10 * 1024, 1);
 }
 
 /* Every bit of an index, below the capacity and not. */
@@ -313,7 +229,7 @@ static void fresh(void) {
 
 static void checks(void) {
     fresh();
-    bad_lengths();
+    for (int i = SCORES; i <= BUFFER2; i++) bad_lengths(i, refuses_length);
     bad_rooms();
     order();
     notepad();
@@ -324,10 +240,10 @@ static void checks(void) {
     bad_pages();
     every_code();
     every_bit();
-    every_got();
-    every_byte();
-    every_origin();
-    random_settings();
+    every_got(is_taken);
+    every_byte(is_taken);
+    every_origin(is_taken, door == STEP ? 1 : 251);
+    random_settings(is_taken);
 }
 
 int main(void) {

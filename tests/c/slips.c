@@ -34,7 +34,8 @@ static const struct {
     {"reader: verified mark left", LEFT, 16, 0, 1},              {"reader: filled mark 1 left", LEFT, 17, 0, 1},
     {"reader: filled mark 2 left", LEFT, 18, 0, 1},              {"reader: found mark left", LEFT, 19, 0, 1},
     {"reader: origin 1 left", LEFT, 20, 0, 2},                   {"reader: origin 2 left", LEFT, 22, 0, 2},
-    {"", LEFT, 0, 0, 0},
+    {"gaps: level, size code", EXCHANGED, 8, 9, 1},              {"gaps: filled marks", EXCHANGED, 17, 18, 1},
+    {"gaps: found mark 2 is clear", READ_AS, 19, 2, 0},          {"", LEFT, 0, 0, 0},
 }, *f = fields;
 
 static struct bystrodol_line was;
@@ -141,6 +142,69 @@ uint16_t slipped_count(const uint8_t *index, size_t length) { return bystrodol_c
 uint8_t slipped_bring_over(const uint8_t *old, size_t old_length, uint8_t *index, size_t length) {
     uint8_t refusal = bystrodol_bring_over(old, old_length, index, length);
     if (slip("services: refused, a byte brought over") && refusal && length) index[0] = old_length ? old[0] : 0;
+    return refusal;
+}
+
+/* ---- in closing the gaps */
+
+static uint8_t page_was[BYSTRODOL_PAGE_BYTES], index_was[BYSTRODOL_INDEX_BYTES];
+static uint16_t table_was[BYSTRODOL_PAGES_MOST];
+
+/* The first templates in turn, the last one first; table and origins go by that. */
+static void reverse(struct bystrodol_settings *s, uint8_t *templates, uint16_t *table, size_t pages, uint16_t count) {
+    for (size_t low = 0, high = count; low + 1 < high; low++) {
+        uint8_t *const one = templates + BYSTRODOL_PAGE_BYTES * low, *const other = templates + BYSTRODOL_PAGE_BYTES * --high;
+        memcpy(page_was, one, sizeof page_was), memcpy(one, other, sizeof page_was), memcpy(other, page_was, sizeof page_was);
+    }
+    for (size_t old = 0; old < pages; old++)
+        if (table[old] != BYSTRODOL_NO_PAGE) table[old] = count - 1 - table[old];
+    if (s->origin1 != BYSTRODOL_NO_PAGE) s->origin1 = count - 1 - s->origin1;
+    if (s->origin2 != BYSTRODOL_NO_PAGE) s->origin2 = count - 1 - s->origin2;
+}
+
+/* The last template, on this page, is lost. */
+static void skip(uint8_t *templates, uint8_t *index, uint16_t *table, size_t pages, size_t last) {
+    memset(templates + BYSTRODOL_PAGE_BYTES * last, 0, BYSTRODOL_PAGE_BYTES), index[last / 8] &= (uint8_t)~(1u << last % 8);
+    for (size_t old = 0; old < pages; old++) table[old] = table[old] == last ? BYSTRODOL_NO_PAGE : table[old];
+}
+
+static void turn_table(uint16_t *table, size_t pages) {
+    memcpy(table_was, table, 2 * pages), memset(table, 0xFF, 2 * pages);
+    for (size_t old = 0; old < pages; old++)
+        if (table_was[old] < pages) table[table_was[old]] = (uint16_t)old;
+}
+
+uint8_t slipped_close_gaps(struct bystrodol_settings *settings, uint8_t *templates, size_t templates_length, uint8_t *index, size_t index_length,
+                           uint16_t *table, size_t table_length) {
+    const size_t pages = templates_length / BYSTRODOL_PAGE_BYTES;
+    if (slip("gaps: the table's length in 16 bits")) table_length &= 0xFFFF;
+    enter(settings);
+    if (pages) memcpy(page_was, templates + templates_length - BYSTRODOL_PAGE_BYTES, BYSTRODOL_PAGE_BYTES);
+    if (index_length == sizeof index_was) memcpy(index_was, index, sizeof index_was);
+    uint8_t refusal = bystrodol_close_gaps(settings, templates, templates_length, index, index_length, table, table_length);
+    leave(settings, 0);
+    if (refusal) {
+        if (slip("gaps: refused, the table written") && table_length) table[0] ^= 1;
+        if (slip("gaps: settings tested first") && settings->found > 1) return BYSTRODOL_BAD_SETTING;
+        return slip("gaps: refusals exchanged") ? 4 - refusal : refusal;
+    }
+    const uint16_t count = bystrodol_count(index, index_length);
+    if (slip("gaps: the last template first")) reverse(settings, templates, table, pages, count);
+    if (slip("gaps: a template skipped") && count) skip(templates, index, table, pages, count - 1u);
+    if (slip("gaps: the last page not zeroed") && count < pages) memcpy(templates + templates_length - BYSTRODOL_PAGE_BYTES, page_was, BYSTRODOL_PAGE_BYTES);
+    if (slip("gaps: origins left")) settings->origin1 = was.settings.origin1, settings->origin2 = was.settings.origin2;
+    if (slip("gaps: the first origin follows alone")) settings->origin2 = was.settings.origin2;
+    if (slip("gaps: origins exchanged")) settings->origin1 ^= settings->origin2, settings->origin2 ^= settings->origin1, settings->origin1 ^= settings->origin2;
+    if (slip("gaps: the table by the new page")) turn_table(table, pages);
+    for (size_t i = 0; slip("gaps: 0 for a vacant page") && i < pages; i++) table[i] = table[i] == BYSTRODOL_NO_PAGE ? 0 : table[i];
+    for (size_t i = 0; slip("gaps: new pages in 8 bits") && i < pages; i++) table[i] = table[i] == BYSTRODOL_NO_PAGE ? table[i] : table[i] & 0xFF;
+    for (size_t i = 0; slip("gaps: bits left") && i < index_length; i++) index[i] |= index_was[i];
+    if (slip("gaps: found mark cleared")) settings->found = 0;
+    if (slip("gaps: filled mark 2 cleared") && settings->origin2 != BYSTRODOL_NO_PAGE) settings->filled2 = 0;
+    if (slip("gaps: transfer ended")) settings->transfer = 0, settings->got = 0;
+    if (slip("gaps: a byte before the index")) index[-1] ^= 1;
+    if (slip("gaps: a byte behind the templates")) templates[templates_length] ^= 1;
+    if (slip("gaps: a byte behind the table")) table[table_length] ^= 1;
     return refusal;
 }
 

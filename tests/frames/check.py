@@ -18,6 +18,7 @@ RIGHT = {"templates": 512, "index": 128, "notepad": 512, "buffer 1": 512, "buffe
 MOST = {"templates": 512512, "index": 256, "notepad": 1024, "buffer 1": 1024, "buffer 2": 1024, "scores": 1001, "thresholds": 10, "run": 4096,
         "reply room": 4096}
 FRESH = bytes.fromhex("00000000 ffffffff 03 02 06 00 0000 0000 00 00 00 00 ffff ffff")
+ACCEPTED = struct.pack(">BII", 0, 0, 0) + FRESH
 RECEIVER = bytes(269)
 HANDSHAKE = bytes.fromhex("ef01ffffffff010003400044")
 DONE = bytes.fromhex("ef01ffffffff07000300 000a")
@@ -60,6 +61,37 @@ def answer_to(pages, refusal, used, reply):
     return struct.pack(">BII", refusal, used, len(reply)) + FRESH + bytes(memory) + reply.ljust(700, b"\0")
 
 
+def gaps(stored, room):
+    """Closing the gaps of pages that are stored or not, with a table in a room of so many bytes, which are not zero."""
+    lengths = {**RIGHT, "templates": 512 * len(stored), "reply room": room}
+    templates = b"".join(page(old) for old in range(len(stored)))
+    return head(6, lengths) + templates + index_of(stored) + bytes_of(PARTS[2:8], lengths) + b"\xa5" * room
+
+
+def page(number):
+    """A template, of which no two are alike."""
+    return struct.pack(">H", number + 1) * 256
+
+
+def index_of(stored):
+    return sum(1 << old for old, is_stored in enumerate(stored) if is_stored).to_bytes(128, "little")
+
+
+def closed(stored, room):
+    """What comes back of it: the table high byte first, and the last byte of an odd room as it was."""
+    pages = [old for old, is_stored in enumerate(stored) if is_stored]
+    table = b"".join(struct.pack(">H", pages.index(old) if is_stored else 0xffff) for old, is_stored in enumerate(stored))
+    templates = b"".join(map(page, pages)).ljust(512 * len(stored), b"\0")
+    return ACCEPTED + templates + index_of([True] * len(pages)) + bytes_of(PARTS[2:5], RIGHT) + table.ljust(room, b"\xa5")
+
+
+def kept(stored, room):
+    """What comes back where it is refused for the table's length: everything as it was."""
+    given = gaps(stored, room)[len(head(6, RIGHT)):]
+    not_back = len(bytes_of(NOT_BACK, RIGHT))
+    return struct.pack(">BII", 1, 0, 0) + FRESH + given[:-room - not_back] + given[len(given) - room:]
+
+
 def past(name):
     """A head that asks for one more than the probe has room for, of this part and of all behind it, and not a byte behind the head."""
     return head(0, {**RIGHT, **{other: MOST[other] + 1 for other in PARTS[PARTS.index(name):]}})
@@ -71,7 +103,10 @@ def more_than(name):
 
 
 INSIDE = "probe: the input ends inside a frame\n"
-NO_SUCH = "probe: a frame starts with 0, 1, 2, 3, 4 or 5\n"
+NO_SUCH = "probe: a frame starts with 0, 1, 2, 3, 4, 5 or 6\n"
+
+# Libraries with gaps: of three pages, of nine, and of as many as there can be.
+LIBRARIES = [[False, True, True], [True, False] * 4 + [True], [old % 3 != 1 for old in range(1000)]]
 
 # What it is given, what it writes, or how many bytes of it, and what it says.
 ROWS = [
@@ -81,7 +116,7 @@ ROWS = [
     ("1000 pages twice", 2 * handshake(1000), 2 * answer_to(1000, 0, 12, DONE), ""),
     ("a frame, and one of 1002 pages", handshake(1) + head(0, {**RIGHT, "templates": 512 * 1002}), answer_to(1, 0, 12, DONE), more_than("templates")),
     ("a head cut short", head(0, RIGHT)[:-1], b"", INSIDE),
-    ("the front of a head of no such call", head(6, RIGHT)[:-1], b"", INSIDE),
+    ("the front of a head of no such call", head(7, RIGHT)[:-1], b"", INSIDE),
     ("a frame cut short", handshake(1000)[:-1], b"", INSIDE),
     ("a receiver's frame cut short", frame(2)[:-1], b"", INSIDE),
 ]
@@ -91,8 +126,12 @@ ROWS += [(f"{thresholds} thresholds, which the reader refuses", handshake(8, thr
          for thresholds in (0, 4, 6, 10)]
 ROWS += [(f"the most of {name}", frame(5, name), length_out(5, name), "") for name in PARTS]
 ROWS += [(f"more of {name}", past(name), b"", more_than(name)) for name in PARTS]
-ROWS += [(f"call {op}", frame(op), length_out(op), "") for op in range(6)]
-ROWS += [(f"call {op}, which there is none of", head(op, RIGHT), b"", NO_SUCH) for op in range(6, 256)]
+ROWS += [(f"gaps of {len(stored)} pages, in a room of {room} bytes", gaps(stored, room), closed(stored, room), "")
+         for stored in LIBRARIES for room in (2 * len(stored), 2 * len(stored) + 1)]
+ROWS += [(f"gaps of {len(stored)} pages, in a room of {room} bytes, which is refused", gaps(stored, room), kept(stored, room), "")
+         for stored in LIBRARIES for room in (0, 1, 2 * len(stored) - 1, 2 * len(stored) + 2, MOST["reply room"])]
+ROWS += [(f"call {op}", frame(op), length_out(op), "") for op in range(7)]
+ROWS += [(f"call {op}, which there is none of", head(op, RIGHT), b"", NO_SUCH) for op in range(7, 256)]
 
 
 def failures_of(command):

@@ -9,8 +9,8 @@
 #include <unistd.h>
 
 enum { TEMPLATES, INDEX, NOTEPAD, BUFFER1, BUFFER2, SCORES, THRESHOLDS, RUN, REPLY, PARTS };
-enum { CALL, LINE_SWITCH, RECEIVE, RECEIVER_SWITCH, FRESH, BRING_OVER, CALLS };
-enum { MOST_TEMPLATES = 1001 * 512, MOST_WORDS = 1001, SETTINGS = 24, HEAD = 1 + SETTINGS + 4 * PARTS };
+enum { CALL, LINE_SWITCH, RECEIVE, RECEIVER_SWITCH, FRESH, BRING_OVER, CLOSE_GAPS, CALLS };
+enum { MOST_TEMPLATES = 1001 * 512, MOST_WORDS = 1001, MOST_ROOM = 4096, SETTINGS = 24, HEAD = 1 + SETTINGS + 4 * PARTS };
 
 /* The most of each part, and its name; scores and thresholds are numbers of two bytes. */
 static const struct {
@@ -18,10 +18,10 @@ static const struct {
     const char *name;
 } limits[PARTS] = {
     {MOST_TEMPLATES, "bytes of templates, 1001 pages"}, {256, "bytes of index"}, {1024, "bytes of notepad"}, {1024, "bytes of buffer 1"},
-    {1024, "bytes of buffer 2"}, {MOST_WORDS, "scores"}, {10, "thresholds"}, {4096, "bytes of run"}, {4096, "bytes of reply room"},
+    {1024, "bytes of buffer 2"}, {MOST_WORDS, "scores"}, {10, "thresholds"}, {4096, "bytes of run"}, {MOST_ROOM, "bytes of reply room"},
 };
 static uint8_t rooms[PARTS][MOST_TEMPLATES];
-static uint16_t scores[MOST_WORDS], thresholds[MOST_WORDS];
+static uint16_t scores[MOST_WORDS], thresholds[MOST_WORDS], table[MOST_ROOM / 2];
 static size_t lengths[PARTS];
 
 /* ---- standard input and output */
@@ -96,9 +96,13 @@ static int read_lengths(const uint8_t *at) {
     return 1;
 }
 
+static void get_words(uint16_t *to, const uint8_t *at, size_t length) {
+    for (size_t i = 0; i < length; i++) to[i] = (uint16_t)number(at + 2 * i, 2);
+}
+
 static int read_words(uint16_t *to, int part) {
     if (!fill(rooms[part], 2 * lengths[part])) return 0;
-    for (size_t i = 0; i < lengths[part]; i++) to[i] = (uint16_t)number(rooms[part] + 2 * i, 2);
+    get_words(to, rooms[part], lengths[part]);
     return 1;
 }
 
@@ -111,6 +115,15 @@ static int read_parts(void) {
 #define PART(i) rooms[i], lengths[i]
 #define MEMORY PART(TEMPLATES), PART(INDEX), PART(NOTEPAD), PART(BUFFER1), PART(BUFFER2), scores, lengths[SCORES], thresholds, lengths[THRESHOLDS], PART(RUN), PART(REPLY)
 
+/* The table travels in the reply room, two bytes to a number. The last byte of an odd room stays. */
+static uint8_t close_gaps(struct bystrodol_settings *settings) {
+    const size_t length = lengths[REPLY] / 2;
+    get_words(table, rooms[REPLY], length);
+    uint8_t refusal = bystrodol_close_gaps(settings, PART(TEMPLATES), PART(INDEX), table, length);
+    for (size_t i = 0; i < length; i++) put(rooms[REPLY] + 2 * i, table[i], 2);
+    return refusal;
+}
+
 static struct bystrodol_answer call(int which, struct bystrodol_line *line) {
     struct bystrodol_answer a = {0, 0, 0};
     struct bystrodol_received r;
@@ -121,6 +134,7 @@ static struct bystrodol_answer call(int which, struct bystrodol_line *line) {
     case RECEIVER_SWITCH: a.refusal = bystrodol_receiver_switch(line, PART(BUFFER1), PART(BUFFER2)); break;
     case FRESH: line->settings = bystrodol_fresh(); break;
     case BRING_OVER: a.refusal = bystrodol_bring_over(PART(RUN), PART(INDEX)); break;
+    case CLOSE_GAPS: a.refusal = close_gaps(&line->settings); break;
     }
     return a;
 }
@@ -132,7 +146,7 @@ static int frame(void) {
     size_t got = take(head, HEAD);
     if (got == 0) return 0;
     if (got < HEAD) return dprintf(STDERR_FILENO, "probe: the input ends inside a frame\n"), 0;
-    if (head[0] >= CALLS) return dprintf(STDERR_FILENO, "probe: a frame starts with 0, 1, 2, 3, 4 or 5\n"), 0;
+    if (head[0] >= CALLS) return dprintf(STDERR_FILENO, "probe: a frame starts with 0, 1, 2, 3, 4, 5 or 6\n"), 0;
     int has_receiver = head[0] == RECEIVE || head[0] == RECEIVER_SWITCH;
     line.settings = read_settings(head + 1);
     if (!read_lengths(head + 1 + SETTINGS)) return 0;
