@@ -2,7 +2,7 @@
 #     . tools/archive.sh
 #     build_archives    proves and builds those that are not there or were built of other sources; their names are in $archives
 . tools/sources.sh
-archive_crates='step board'
+archive_crates='step board upkeep'
 archive_of() { echo "target/staticlib/lib$1.a"; }
 archives=$(for name in $archive_crates; do archive_of "$name"; done)
 

@@ -1,12 +1,10 @@
-// What the board's C firmware calls: four plain services, bringing over an index, closing the gaps of a library, fresh settings, and the whole reader with its
-// settings and its receiver lent.
+// What the board's C firmware calls: four plain services, bringing over an index, fresh settings, and the whole reader with its settings and its receiver
+// lent.
 // include/bystrodol.h is the C face; the reader on whole runs is in the crate `step`.
 ghost use mathlib.Core.Path.{_≡_};
 ghost use mathlib.Core.List.{List};
 ghost use Prim.Native.Nat.{ℕ};
 ghost use Rattle.protocol.specs.BringOver.{bringOver};
-ghost use Rattle.offline.specs.CloseGaps.{closeOf};
-ghost use Rattle.offline.specs.Records.{closedOf, movedAt};
 ghost use Rattle.protocol.specs.Services.{sumService, usedService, buildService, countService};
 ghost use Rattle.protocol.specs.Call.{core};
 ghost use Rattle.protocol.specs.Receiver.{receiveOf, lineSwitchOf};
@@ -17,7 +15,6 @@ use protocol::Settings;
 use protocol::Taken;
 use protocol::numbers;
 use rules::settings;
-use upkeep::gaps;
 use wire::builder;
 use wire::bytes;
 use wire::finder;
@@ -73,23 +70,6 @@ pub extern "C" fn bystrodol_bring_over(old: &[u8], index: &mut [u8]) -> u8
     ensures { λ r. ⌜ broughtOf r (now (index .exit)) ≡ bringOver (now (old .entry)) (now (index .entry)) ⌝ }
 {
     index::bring_over(old, index)
-}
-
-// Closes the gaps of a library, on lent settings: the refusal or 0.
-#[no_mangle]
-pub extern "C" fn bystrodol_close_gaps(
-    settings: &mut Settings,
-    templates: &mut [u8],
-    index: &mut [u8],
-    table: &mut [u16],
-) -> u8
-    ensures { λ r. ⌜ ((n b d : List ℕ)
-        → closedOf (movedAt (now (settings .exit)) r) (now (templates .exit)) (now (index .exit)) (now (table .exit)) n b d
-        ≡ closeOf core (readerOf (now (settings .entry)) (now (templates .entry)) (now (index .entry)) n b d) (now (table .entry))) ⌝ }
-{
-    let moved = gaps::close_gaps(*settings, templates, index, table);
-    *settings = moved.settings;
-    moved.refusal
 }
 
 // A call of the receiver on a lent line.

@@ -1,4 +1,4 @@
--- `board::bystrodol_close_gaps` meets its contract: a walk of its MIR, by hand. The borrow of the record is opened, and the record is copied out of its cell; `gaps::close_gaps` is called with the copy, and with the slices for good, at their own lifetimes, shares and names (`Told.antt`), and what it ensures is handed on as it is; what it returns is taken apart; and the borrow is closed at the new record.
+-- `upkeep::bystrodol_close_gaps` meets its contract: a walk of its MIR, by hand. The borrow of the record is opened, and the record is copied out of its cell; `gaps::close_gaps` is called with the copy, and with the slices for good, at their own lifetimes, shares and names (`Told.antt`), and what it ensures is handed on as it is; what it returns is taken apart; and the borrow is closed at the new record.
 -- All that the proof knows of `gaps::close_gaps` is that it meets its contract.
 -- Assumes nothing.
 use mathlib.Core.Path.{_≡_, refl, ap}
@@ -47,16 +47,16 @@ use Rattle.protocol.proofs.Settings.Laws as T′
 use Rattle.offline.specs.declared.Moved.{Moved}
 use Rattle.offline.proofs.Moved as D
 use Rattle.offline.proofs.Moved.Laws as D′
 use Rattle.board.proofs.Lent.{slice, Fits}
 use Rattle.board.proofs.Told.{rest, tolds, tolds-fit, tolds-go}
 use Rattle.upkeep.proofs.gaps.close_gaps as g
 use Rattle.upkeep.proofs.gaps.close_gaps.Symbol as g-def
 use Rattle.upkeep.proofs.gaps.close_gaps.Symbol.{name as #g}
 use Rattle.upkeep.proofs.gaps.close_gaps.Met as g-thm
-use Rattle.board.proofs.bystrodol_close_gaps.Key.{name as #f}
-use Rattle.board.proofs.bystrodol_close_gaps as f
-use Rattle.board.proofs.bystrodol_close_gaps.Statement as stated
-use Rattle.board.proofs.bystrodol_close_gaps.Code as code
+use Rattle.upkeep.proofs.bystrodol_close_gaps.Key.{name as #f}
+use Rattle.upkeep.proofs.bystrodol_close_gaps as f
+use Rattle.upkeep.proofs.bystrodol_close_gaps.Statement as stated
+use Rattle.upkeep.proofs.bystrodol_close_gaps.Code as code
 
 abbrev stayed : Stays (f.ended .signature .params) (f.ended .kept)
 stayed = (stay-ref (0 ∷ []) tt (plain (λ _. T.the-row)), tolds (rest (f.ended .signature .params)) (f.ended .kept .1))
