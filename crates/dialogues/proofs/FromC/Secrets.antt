@@ -59,7 +59,7 @@ same-record : (s z : Settings) → FitRecord s → words.Marked (marksOf z) → 
 same-record s z h k =
     same-beside (marksOf s) (words.kept .marks-mean (marksOf s) .1 (h .marks)) (marksOf z) (words.kept .marks-mean (marksOf z) .1 k) (s .transfer) (s .got) (h .which) (h .none)
 
-remarked : (s : Settings) (m : Memory) → FitRecord s → (k : ℕ) → k ≤ 1 → readerAt (withVerified k s) m ≡ mark (eqb k 1) (readerAt s m)
+pub remarked : (s : Settings) (m : Memory) → FitRecord s → (k : ℕ) → k ≤ 1 → readerAt (withVerified k s) m ≡ mark (eqb k 1) (readerAt s m)
 remarked s m h k l =
     rw (same-record s (withVerified k s) h record { verified = l; filled1 = h .marks .filled1; filled2 = h .marks .filled2; found = h .marks .found }) refl
 
@@ -172,7 +172,7 @@ pub record SameOpen (s z : Settings) : Type 0 where
   pub got : s .got ≡ z .got
   pub verified : s .verified ≡ z .verified
 
-open-plain : (s z : Settings) → FitRecord s → FitRecord z → SameOpen s z → plainOf s ≡ plainOf z
+pub open-plain : (s z : Settings) → FitRecord s → FitRecord z → SameOpen s z → plainOf s ≡ plainOf z
 open-plain s z h k o =
     rw (← same-record s z h (k .marks))
     (λ j.

@@ -1,6 +1,6 @@
 -- Demand 3's second half at the doors for C over turns: "two legal locked readers of equal capacity and, but for the filled marks, equal settings .. answer any sequence of
 -- runs alike, line switches among them, up to and including the first accepted password", and closings between them, whatever tables are lent.
-use mathlib.Core.Bool.{true, false}
+use mathlib.Core.Bool.{Bool, true, false}
 use mathlib.Core.Path.{_≡_, refl, sym, ap, ap₂, _∙_, subst}
 use mathlib.Core.Logic.{_≢_}
 use mathlib.Core.List.{List, [], _∷_}
@@ -10,7 +10,10 @@ use lib.Dec.{T}
 use lib.ListN.{length}
 use borrow.Author.Tests.{ne-eqb}
 use Rattle.protocol.specs.declared.Settings.{Settings}
+use Rattle.protocol.specs.declared.Receiver.{Receiver}
 use Rattle.protocol.specs.Reader.{Plain, Reader, locked}
+use Rattle.protocol.specs.Reader as readers
+use Rattle.protocol.specs.Records.{marksOf}
 use Rattle.protocol.specs.Call.{core, Told, Ended}
 use Rattle.protocol.specs.Dialogue.{Event, received, switch, on}
 use Rattle.protocol.specs.Receiver.{Handed, runOf}
@@ -21,9 +24,10 @@ use Rattle.protocol.proofs.Promises.Words.Words as words
 use Rattle.protocol.proofs.Promises.Refusals.LegalMeans.{core-holds}
 use Rattle.protocol.proofs.Promises.Refusals.StaysLegal.{Legal}
 use Rattle.protocol.proofs.Promises.Refusals.Marks.{FitRecord}
-use Rattle.dialogues.proofs.FromC.Steps.{LegalVault, vault-fit, vault-legal}
+use Rattle.protocol.proofs.Promises.Secrets.Lock.{mark}
+use Rattle.dialogues.proofs.FromC.Steps.{same-vault, LegalVault, vault-fit, vault-legal}
 use Rattle.dialogues.proofs.FromC.Lines.{LegalLine, line-fit, line-vault-legal}
-use Rattle.dialogues.proofs.FromC.Secrets.{SameOpen, mark-bytes, Stay, AlikeFromC, BlindFromC, vault-second-half, LinesBlindFromC, line-vault-second-half}
+use Rattle.dialogues.proofs.FromC.Secrets.{withVerified, remarked, SameOpen, open-plain, mark-bytes, plain-open, Stay, AlikeFromC, BlindFromC, vault-second-half, LinesBlindFromC, line-vault-second-half}
 use Rattle.dialogues.proofs.Lines.ReceiverCalls.{as-call, switch-reader}
 use Rattle.dialogues.proofs.Secrets.ReceiverLock.{SameHeld}
 use Rattle.offline.specs.CloseGaps.{Closed, closeOf}
@@ -31,9 +35,34 @@ use Rattle.offline.specs.Life.{PairedDeeds}
 use Rattle.offline.specs.Turns.{Closing, Turn, called, closed, deedsOf, toldTurns, Never, UntilTurn, ByContract, Turns, LineTurns}
 use Rattle.offline.proofs.Gaps.StaysLegal.{closed-legal}
 use Rattle.offline.proofs.Life.Library.{close-length}
-use Rattle.offline.proofs.Life.Secrets.{still-locked, close-plain}
+use Rattle.offline.proofs.Life.Secrets.{closed-copy, still-locked, close-plain}
 
--- ---- what the two have in common, over settings and memory
+fits : (s : Settings) (m : Memory) → Legal core core-holds (readerAt s m) → FitRecord s
+fits s m l = vault-fit record { settings = s; memory = m } l
+
+marked : Bool → Closed → Closed
+marked b e = record { refusal = e .refusal; table = e .table; after = mark b (e .after) }
+
+-- ---- the first half: a vault and "its copy with only the verified mark changed" are told the same by a closing, and are such ones after it
+
+pub closing-copies : {S : Type 0} (s : Settings) (m : Memory) → Legal core core-holds (readerAt (withVerified 0 s) m) → s .transfer ≡ 0 → (y w : Closing S) (z z′ : Settings) (n n′ : Memory)
+    → y .lent ≡ w .lent → ByContract (withVerified 0 s) m y z n → ByContract (withVerified 1 s) m w z′ n′
+    → ((w .refusal ≡ y .refusal) × (w .table ≡ y .table)) × ((z′ ≡ withVerified 1 z) × (n′ ≡ n))
+unfolding marked
+closing-copies s m l none y w z z′ n n′ lent p q =
+    let at : Reader = readerAt (withVerified 0 s) m in
+    let fit : FitRecord (withVerified 0 s) = fits (withVerified 0 s) m l in
+    let still : at .plain .transfer ≡ readers.closed = rw (none, fit .none none) (words.kept .transfer-none (marksOf (withVerified 0 s)) (fit .marks)) in
+    let copy : closeOf core (readerAt (withVerified 1 s) m) (w .lent) ≡ marked true (closeOf core at (y .lent)) =
+    (λ j. closeOf core (remarked (withVerified 0 s) m fit 1 (omega arith) j) (sym lent j)) ∙ closed-copy core at still true (y .lent)
+    in
+    let both : record { refusal = w .refusal; table = w .table; after = readerAt z′ n′ } ≡ marked true record { refusal = y .refusal; table = y .table; after = readerAt z n } = q ∙ copy ∙ sym (ap (marked true) p) in
+    let fit′ : FitRecord z = fits z n (subst (λ (e : Closed). Legal core core-holds (e .after)) (sym p) (closed-legal core core-holds at (y .lent) l)) in (
+      (ap (λ (e : Closed). e .refusal) both, ap (λ (e : Closed). e .table) both),
+      same-vault z′ (withVerified 1 z) n′ n (ap (λ (e : Closed). e .after) both ∙ sym (remarked z n fit′ 1 (omega arith))),
+    )
+
+-- ---- the second half: what the two have in common, over settings and memory
 
 -- legal, with a password that was not given, equal settings but for what is guarded, and as many pages
 pub record Together (s : Settings) (m : Memory) (z : Settings) (n : Memory) : Type 0 where
@@ -44,12 +73,154 @@ pub record Together (s : Settings) (m : Memory) (z : Settings) (n : Memory) : Ty
   pub same : SameOpen s z
   pub pages : length (m .templates) ≡ length (n .templates)
 
-fits : (s : Settings) (m : Memory) → Legal core core-holds (readerAt s m) → FitRecord s
-fits s m l = vault-fit record { settings = s; memory = m } l
-
 locks : (s : Settings) (m : Memory) → s .password ≢ 0 ∷ 0 ∷ 0 ∷ 0 ∷ [] → s .verified ≡ 0 → T (locked (readerAt s m .plain))
 locks s m key shut = words.kept .locked-means (readerAt s m .plain) .1 (key, rw shut refl)
 
 -- settings of the same reader but for what is guarded
 shut-still : (s z : Settings) (m n : Memory) → FitRecord s → FitRecord z → readerAt z n .plain ≡ readerAt s m .plain → s .verified ≡ 0 → z .verified ≡ 0
 shut-still s z m n h k e v = mark-bytes (z .verified) (s .verified) (k .marks .verified) (h .marks .verified) (ap (λ (p : Plain). p .verified) e) ∙ v
+
+never-until : {S : Type 0} (marked : S → ℕ) (xs : List (Entry S)) → Never marked xs → Until marked xs
+never-until marked [] n = tt
+never-until marked (x ∷ []) n = tt
+never-until marked (x ∷ y ∷ xs) (n, ns) = (n, never-until marked (y ∷ xs) ns)
+
+-- a closing leaves them so, refused or not
+together-closed : {S : Type 0} (s s′ : Settings) (m m′ : Memory) (z z′ : Settings) (n n′ : Memory) (y w : Closing S) → ByContract s m y s′ m′ → ByContract z n w z′ n′
+    → Together s m z n → Together s′ m′ z′ n′
+together-closed s s′ m m′ z z′ n n′ y w p q t =
+    record {
+      one = one;
+      other = other;
+      key = λ e. t .key (sym (ap (λ (x : Plain). x .password) plain) ∙ e);
+      shut = shut-still s s′ m m′ (fits s m (t .one)) (fits s′ m′ one) plain (t .shut);
+      same = plain-open s′ z′ (fits s′ m′ one) (fits z′ n′ other) (plain ∙ open-plain s z (fits s m (t .one)) (fits z n (t .other)) (t .same) ∙ sym plain′);
+      pages =
+          ap (λ (e : Closed). length (e .after .guarded .templates)) p ∙ close-length core core-holds (readerAt s m) (y .lent) ∙ t .pages
+          ∙ sym (ap (λ (e : Closed). length (e .after .guarded .templates)) q ∙ close-length core core-holds (readerAt z n) (w .lent));
+    }
+  where
+    one : Legal core core-holds (readerAt s′ m′)
+    one = subst (λ (e : Closed). Legal core core-holds (e .after)) (sym p) (closed-legal core core-holds (readerAt s m) (y .lent) (t .one))
+
+    other : Legal core core-holds (readerAt z′ n′)
+    other = subst (λ (e : Closed). Legal core core-holds (e .after)) (sym q) (closed-legal core core-holds (readerAt z n) (w .lent) (t .other))
+
+    plain : readerAt s′ m′ .plain ≡ readerAt s m .plain
+    plain = ap (λ (e : Closed). e .after .plain) p ∙ close-plain core core-holds (readerAt s m) (y .lent)
+
+    plain′ : readerAt z′ n′ .plain ≡ readerAt z n .plain
+    plain′ = ap (λ (e : Closed). e .after .plain) q ∙ close-plain core core-holds (readerAt z n) (w .lent)
+
+-- calls that told the same leave them so, where the settings of the first stayed
+together-called : (es fs : List Event) (s s′ : Settings) (m m′ : Memory) (z z′ : Settings) (n n′ : Memory) → AlikeFromC es fs s m z n s′ m′ z′ n′ → readerAt s′ m′ .plain ≡ readerAt s m .plain
+    → Legal core core-holds (readerAt s′ m′) → Legal core core-holds (readerAt z′ n′) → Together s m z n → Together s′ m′ z′ n′
+together-called es fs s s′ m m′ z z′ n n′ a plain one other t =
+    record {
+      one = one;
+      other = other;
+      key = λ e. t .key (sym (ap (λ (x : Plain). x .password) plain) ∙ e);
+      shut = shut-still s s′ m m′ (fits s m (t .one)) (fits s′ m′ one) plain (t .shut);
+      same = a .settings;
+      pages = ap length (a .kept-one .templates) ∙ t .pages ∙ sym (ap length (a .kept-other .templates));
+    }
+
+-- ---- without a receiver
+
+-- where no call accepts a password, the settings stay
+never-plain : (xs : List (Entry Vault)) (v : Vault) → Steps v xs → LegalVault v → T (locked (readerIn v .plain)) → Never (λ (u : Vault). u .settings .verified) xs
+    → readerIn (lastOf v xs) .plain ≡ readerIn v .plain
+never-plain [] v q l k u = refl
+never-plain (x ∷ xs) v (p, q) l k (n, u) =
+    let still : readerIn (x .after) .plain ≡ readerIn v .plain =
+    ap (λ (e : Ended). e .after .plain) p ∙ still-locked core core-holds (readerIn v) (l .legal) k (x .event) (sym (ap (λ (e : Ended). e .after .plain .verified) p) ∙ ne-eqb (x .after .settings .verified) 1 n)
+    in
+    never-plain xs (x .after) q (vault-legal v (x ∷ []) (p, tt) l) (subst (λ (e : Plain). T (locked e)) (sym still) k) u ∙ still
+
+pub turns-answer-alike : (ts us : List (Turn Vault)) (v w : Vault) → Turns v ts → Turns w us → UntilTurn (λ (u : Vault). u .settings .verified) ts
+    → PairedDeeds (length (v .memory .templates) / 512) (deedsOf ts) (deedsOf us) → Together (v .settings) (v .memory) (w .settings) (w .memory) → toldTurns ts ≡ toldTurns us
+turns-answer-alike [] [] v w p q u pair t = refl
+turns-answer-alike [] (called ys ∷ us) v w p q u pair t = absurd pair
+turns-answer-alike [] (closed y ∷ us) v w p q u pair t = absurd pair
+turns-answer-alike (called xs ∷ ts) [] v w p q u pair t = absurd pair
+turns-answer-alike (closed y ∷ ts) [] v w p q u pair t = absurd pair
+turns-answer-alike (called xs ∷ ts) (closed y ∷ us) v w p q u pair t = absurd pair
+turns-answer-alike (closed y ∷ ts) (called xs ∷ us) v w p q u pair t = absurd pair
+turns-answer-alike (closed x ∷ ts) (closed y ∷ us) v w (a, p) (b, q) u pair t =
+    let same : length (x .after .memory .templates) ≡ length (v .memory .templates) =
+    ap (λ (e : Closed). length (e .after .guarded .templates)) a ∙ close-length core core-holds (readerIn v) (x .lent)
+    in
+    turns-answer-alike ts us (x .after) (y .after) p q u (subst (λ (k : ℕ). PairedDeeds (k / 512) (deedsOf ts) (deedsOf us)) (sym same) pair)
+    (together-closed (v .settings) (x .after .settings) (v .memory) (x .after .memory) (w .settings) (y .after .settings) (w .memory) (y .after .memory) x y a b t)
+turns-answer-alike (called xs ∷ []) (called ys ∷ []) v w (a, p) (b, q) u (pair, more) t =
+    ap (λ (z : List Told). z ∷ []) (vault-second-half v w (t .one) (t .other) (t .key) (t .shut) (t .same) (t .pages) xs ys a b u pair .told)
+turns-answer-alike (called xs ∷ []) (called ys ∷ called zs ∷ us) v w (a, p) (b, q) u (pair, more) t = absurd more
+turns-answer-alike (called xs ∷ []) (called ys ∷ closed z ∷ us) v w (a, p) (b, q) u (pair, more) t = absurd more
+turns-answer-alike (called xs ∷ c ∷ ts) (called ys ∷ us) v w (a, p) (b, q) (never, u) (pair, more) t =
+    let blind = vault-second-half v w (t .one) (t .other) (t .key) (t .shut) (t .same) (t .pages) xs ys a b (never-until (λ (u : Vault). u .settings .verified) xs never) pair in
+    let plain = never-plain xs v a (t .one) (locks (v .settings) (v .memory) (t .key) (t .shut)) never in
+    ap₂ (λ (z : List Told) (rest : List (List Told)). z ∷ rest) (blind .told)
+    (turns-answer-alike (c ∷ ts) us (lastOf v xs) (lastOf w ys) p q u
+    (subst (λ (k : List ℕ). PairedDeeds (length k / 512) (deedsOf (c ∷ ts)) (deedsOf us)) (sym (blind .after .kept-one .templates)) more)
+    (together-called (eventsOf xs) (eventsOf ys) (v .settings) (lastOf v xs .settings) (v .memory) (lastOf v xs .memory) (w .settings) (lastOf w ys .settings) (w .memory) (lastOf w ys .memory) (blind .after) plain
+    (vault-legal v xs a (t .one)) (vault-legal w ys b (t .other)) t))
+
+-- ---- with a receiver: the two hold the same bytes
+
+-- an event's run, and what it leaves of the reader
+runEvent : Receiver → Event → Event
+runEvent h (received piece lent) = received (runOf h piece) lent
+runEvent h switch = switch
+
+on-run : (x : receivers.Line) → x .receiver .count ≤ 267 → (e : Event) → onLine core x e .after .reader ≡ on core (x .reader) (runEvent (x .receiver) e) .after
+unfolding onLine on runEvent
+on-run x few (received piece lent) = as-call core x few piece lent .reader
+on-run x few switch = switch-reader x
+
+line-never-plain : (xs : List (Entry LineVault)) (v : LineVault) → Receives v xs → LegalLine v → T (locked (lineIn v .reader .plain)) → Never (λ (u : LineVault). u .line .settings .verified) xs
+    → lineIn (lastOf v xs) .reader .plain ≡ lineIn v .reader .plain
+line-never-plain [] v q l k u = refl
+line-never-plain (x ∷ xs) v (p, q) l k (n, u) =
+    let run : Event = runEvent (v .line .receiver) (x .event) in
+    let same : lineIn (x .after) .reader ≡ on core (lineIn v .reader) run .after = ap (λ (o : Handed). o .after .reader) p ∙ on-run (lineIn v) (l .few) (x .event) in
+    let still : lineIn (x .after) .reader .plain ≡ lineIn v .reader .plain =
+    ap (λ (r : Reader). r .plain) same
+    ∙ still-locked core core-holds (lineIn v .reader) (l .reader .legal) k run (sym (ap (λ (r : Reader). r .plain .verified) same) ∙ ne-eqb (x .after .line .settings .verified) 1 n)
+    in
+    line-never-plain xs (x .after) q (line-vault-legal v (x ∷ []) (p, tt) l) (subst (λ (e : Plain). T (locked e)) (sym still) k) u ∙ still
+
+pub line-turns-answer-alike : (ts us : List (Turn LineVault)) (v w : LineVault) → LineTurns v ts → LineTurns w us → UntilTurn (λ (u : LineVault). u .line .settings .verified) ts
+    → PairedDeeds (length (v .memory .templates) / 512) (deedsOf ts) (deedsOf us) → Together (v .line .settings) (v .memory) (w .line .settings) (w .memory)
+    → v .line .receiver .count ≤ 267 → w .line .receiver .count ≤ 267 → SameHeld (v .line .receiver) (w .line .receiver) → toldTurns ts ≡ toldTurns us
+line-turns-answer-alike [] [] v w p q u pair t f g h = refl
+line-turns-answer-alike [] (called ys ∷ us) v w p q u pair t f g h = absurd pair
+line-turns-answer-alike [] (closed y ∷ us) v w p q u pair t f g h = absurd pair
+line-turns-answer-alike (called xs ∷ ts) [] v w p q u pair t f g h = absurd pair
+line-turns-answer-alike (closed y ∷ ts) [] v w p q u pair t f g h = absurd pair
+line-turns-answer-alike (called xs ∷ ts) (closed y ∷ us) v w p q u pair t f g h = absurd pair
+line-turns-answer-alike (closed y ∷ ts) (called xs ∷ us) v w p q u pair t f g h = absurd pair
+line-turns-answer-alike (closed x ∷ ts) (closed y ∷ us) v w ((a, c), p) ((b, d), q) u pair t f g h =
+    let same : length (x .after .memory .templates) ≡ length (v .memory .templates) =
+    ap (λ (e : Closed). length (e .after .guarded .templates)) a ∙ close-length core core-holds (lineIn v .reader) (x .lent)
+    in
+    line-turns-answer-alike ts us (x .after) (y .after) p q u (subst (λ (k : ℕ). PairedDeeds (k / 512) (deedsOf ts) (deedsOf us)) (sym same) pair)
+    (together-closed (v .line .settings) (x .after .line .settings) (v .memory) (x .after .memory) (w .line .settings) (y .after .line .settings) (w .memory) (y .after .memory) x y a b t)
+    (rw c f) (rw d g) (rw (c, d) h)
+line-turns-answer-alike (called xs ∷ []) (called ys ∷ []) v w (a, p) (b, q) u (pair, more) t f g h =
+    ap (λ (z : List Told). z ∷ [])
+    (line-vault-second-half v w record { reader = t .one; few = f } record { reader = t .other; few = g } (t .key) (t .shut) (t .same) (t .pages) h xs ys a b u pair .told)
+line-turns-answer-alike (called xs ∷ []) (called ys ∷ called zs ∷ us) v w (a, p) (b, q) u (pair, more) t f g h = absurd more
+line-turns-answer-alike (called xs ∷ []) (called ys ∷ closed z ∷ us) v w (a, p) (b, q) u (pair, more) t f g h = absurd more
+line-turns-answer-alike (called xs ∷ c ∷ ts) (called ys ∷ us) v w (a, p) (b, q) (never, u) (pair, more) t f g h =
+    let one : LegalLine v = record { reader = t .one; few = f } in
+    let other : LegalLine w = record { reader = t .other; few = g } in
+    let blind = line-vault-second-half v w one other (t .key) (t .shut) (t .same) (t .pages) h xs ys a b (never-until (λ (u : LineVault). u .line .settings .verified) xs never) pair in
+    let plain = line-never-plain xs v a one (locks (v .line .settings) (v .memory) (t .key) (t .shut)) never in
+    let one′ = line-vault-legal v xs a one in
+    let other′ = line-vault-legal w ys b other in
+    ap₂ (λ (z : List Told) (rest : List (List Told)). z ∷ rest) (blind .told)
+    (line-turns-answer-alike (c ∷ ts) us (lastOf v xs) (lastOf w ys) p q u
+    (subst (λ (k : List ℕ). PairedDeeds (length k / 512) (deedsOf (c ∷ ts)) (deedsOf us)) (sym (blind .after .kept-one .templates)) more)
+    (together-called (eventsOf xs) (eventsOf ys) (v .line .settings) (lastOf v xs .line .settings) (v .memory) (lastOf v xs .memory) (w .line .settings) (lastOf w ys .line .settings) (w .memory) (lastOf w ys .memory)
+    (blind .after) plain (one′ .reader) (other′ .reader) t)
+    (one′ .few) (other′ .few) (blind .held))
