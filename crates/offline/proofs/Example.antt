@@ -1,0 +1,34 @@
+-- A library of four pages, of which pages 1 and 3 are stored and page 0 has old bytes: computed by the checker. So the promises' premises can be met.
+use mathlib.Core.Bool.{true, false}
+use mathlib.Core.Path.{_≡_, refl}
+use mathlib.Core.List.{List, [], _∷_, _++_}
+use Prim.Native.Nat.{ℕ, zero, suc, _+_, _*_, _/_, _%_, _^_}
+use lib.ListN.{length, replicate}
+use Rattle.protocol.specs.Numbers.{freshPassword, freshAddress, freshLevel, freshSize, freshBaud, freshSensor, highestSize}
+use Rattle.protocol.specs.Bytes.{four, part, zeros}
+use Rattle.protocol.specs.Tests.{verdict, within, every, countBelow, listed}
+use Rattle.protocol.specs.Index.{bit, stored, setBit, clearFrom}
+use Rattle.protocol.specs.Reader.{noOrigin, fromPage, Reader, capacity, fresh, contents, reader, settings, locked, keyed, sizeOf, bufferOf}
+use Rattle.protocol.specs.Call.{core, fitPlain, fitTransfer, fitOrigin, fitOrigins, sound}
+use Rattle.offline.specs.CloseGaps.{rank, newPage, gathered, closedTemplates, firstBits, followed, closedUp, tableOf, Closed, fitClosing, closeRefusal, closeAs, closeOf}
+
+-- a page of one byte
+abbrev page : ℕ → List ℕ
+page b = replicate 512 b
+
+-- buffer 1 was loaded from page 3, and buffer 2 is empty
+abbrev pub before : Reader
+before =
+    reader fresh
+    (contents (page 17 ++ page 34 ++ page 51 ++ page 68) (10 ∷ replicate 127 0) (page 0) record { bytes = page 68; filled = true; origin = fromPage 3 }
+    record { bytes = page 0; filled = false; origin = noOrigin } true)
+
+abbrev pub after : Reader
+after =
+    reader fresh
+    (contents (page 34 ++ page 68 ++ page 0 ++ page 0) (3 ∷ replicate 127 0) (page 0) record { bytes = page 68; filled = true; origin = fromPage 1 }
+    record { bytes = page 0; filled = false; origin = noOrigin } true)
+
+pub example : (table : List ℕ) → length table ≡ 4 → closeOf core before table ≡ record { refusal = 0; table = 0xffff ∷ 0 ∷ 0xffff ∷ 1 ∷ []; after = after }
+unfolding closeOf closeRefusal closeAs fitClosing closedUp tableOf newPage rank gathered closedTemplates firstBits followed core sound fitPlain fitTransfer fitOrigin fitOrigins within verdict every countBelow listed bit stored setBit clearFrom capacity fresh highestSize bufferOf
+example table e = rw e refl

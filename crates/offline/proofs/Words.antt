@@ -1,0 +1,167 @@
+-- What the words of a life and of a caller's turns mean, line by line.
+use mathlib.Core.Bool.{true, false}
+use mathlib.Core.Path.{_≡_, refl, ap}
+use mathlib.Core.Logic.{_↔_, _≢_}
+use mathlib.Core.List.{List, [], _∷_}
+use Prim.Native.Nat.{ℕ, suc}
+use lib.ListN.{getD}
+use Rattle.protocol.specs.declared.Settings.{Settings}
+use Rattle.protocol.specs.Reader.{Reader}
+use Rattle.protocol.specs.Call.{Shape, core}
+use Rattle.protocol.specs.Dialogue.{Event, finally, dialogue, Paired}
+use Rattle.protocol.specs.Receiver.{Line}
+use Rattle.dialogues.specs.History.{Exchange, exchanges, Act, moved, history}
+use Rattle.dialogues.specs.Caller.{finallyOn, seen}
+use Rattle.dialogues.specs.Doors.{Memory, Vault, LineVault, readerAt, Entry, lastOf, eventsOf, toldOf, Until, Steps, saw, Receives, sawOn}
+use Rattle.offline.specs.CloseGaps.{Closed, closeOf}
+use Rattle.offline.specs.Life.{Deed, calls, closing, deed, lastly, deedOn, lastlyOn, Sight, exchanged, told, sights, sightsOn, lifeOf, whereIs, answers, PairedDeeds}
+use Rattle.offline.specs.Turns.{Closing, Turn, called, closed, lastTurn, deedsOf, toldTurns, Never, UntilTurn, ByContract, Turns, sawTurns, LineTurns, sawLineTurns}
+
+-- ---- a life
+
+-- each deed finds the reader that the one before it left
+pub record Lives (σ : Shape) (r : Reader) (x : Line) (es : List Event) (table : List ℕ) (ds : List Deed) : Type 0 where
+  pub lastly-none : lastly σ r [] ≡ r
+  pub lastly-calls : lastly σ r (calls es ∷ ds) ≡ lastly σ (finally σ r es) ds
+  pub lastly-closing : lastly σ r (closing table ∷ ds) ≡ lastly σ (closeOf σ r table .after) ds
+  -- with a receiver, which a closing leaves
+  pub on-none : lastlyOn σ x [] ≡ x
+  pub on-calls : lastlyOn σ x (calls es ∷ ds) ≡ lastlyOn σ (finallyOn σ x es) ds
+  pub on-closing : lastlyOn σ x (closing table ∷ ds) ≡ lastlyOn σ record { reader = closeOf σ (x .reader) table .after; receiver = x .receiver } ds
+  -- what was seen
+  pub sights-none : sights σ r [] ≡ []
+  pub sights-calls : sights σ r (calls es ∷ ds) ≡ exchanged (exchanges σ r es) ∷ sights σ (finally σ r es) ds
+  pub sights-closing : sights σ r (closing table ∷ ds) ≡ (let c = closeOf σ r table in told (c .refusal) (c .table) ∷ sights σ (c .after) ds)
+  pub sights-on-none : sightsOn σ x [] ≡ []
+  pub sights-on-calls : sightsOn σ x (calls es ∷ ds) ≡ exchanged (seen σ x es) ∷ sightsOn σ (finallyOn σ x es) ds
+  pub sights-on-closing : sightsOn σ x (closing table ∷ ds)
+      ≡ (let c = closeOf σ (x .reader) table in told (c .refusal) (c .table) ∷ sightsOn σ record { reader = c .after; receiver = x .receiver } ds)
+  -- what hosts were answered: a closing tells them nothing, and behind the first accepted password nothing more counts
+  pub answers-none : answers σ r [] ≡ []
+  pub answers-closing : answers σ r (closing table ∷ ds) ≡ answers σ (closeOf σ r table .after) ds
+  pub answers-stop : dialogue σ r es .last .plain .verified ≡ true → answers σ r (calls es ∷ ds) ≡ dialogue σ r es .told ∷ []
+  pub answers-go-on : dialogue σ r es .last .plain .verified ≡ false → answers σ r (calls es ∷ ds) ≡ dialogue σ r es .told ∷ answers σ (dialogue σ r es .last) ds
+
+pub lives : (σ : Shape) (r : Reader) (x : Line) (es : List Event) (table : List ℕ) (ds : List Deed) → Lives σ r x es table ds
+unfolding lastly deed lastlyOn deedOn sights sightsOn answers
+lives σ r x es table ds =
+    record {
+      lastly-none = refl;
+      lastly-calls = refl;
+      lastly-closing = refl;
+      on-none = refl;
+      on-calls = refl;
+      on-closing = refl;
+      sights-none = refl;
+      sights-calls = refl;
+      sights-closing = refl;
+      sights-on-none = refl;
+      sights-on-calls = refl;
+      sights-on-closing = refl;
+      answers-none = refl;
+      answers-closing = refl;
+      answers-stop = λ v. rw v refl;
+      answers-go-on = λ v. rw v refl;
+    }
+
+-- what it comes to: the acts, and the number that a page has in the end
+pub record Comes (xs : List Exchange) (table : List ℕ) (k : ℕ) (ss : List Sight) (old : List Act) (q : ℕ) : Type 0 where
+  pub life-none : lifeOf [] old ≡ old
+  pub life-calls : lifeOf (exchanged xs ∷ ss) old ≡ lifeOf ss (history xs old)
+  pub life-closed : lifeOf (told 0 table ∷ ss) old ≡ lifeOf ss (moved table ∷ old)
+  pub life-refused : lifeOf (told (suc k) table ∷ ss) old ≡ lifeOf ss old
+  pub where-none : whereIs [] q ≡ q
+  pub where-calls : whereIs (exchanged xs ∷ ss) q ≡ whereIs ss q
+  pub where-closed : whereIs (told 0 table ∷ ss) q ≡ whereIs ss (getD table q 0)
+  pub where-refused : whereIs (told (suc k) table ∷ ss) q ≡ whereIs ss q
+
+pub comes : (xs : List Exchange) (table : List ℕ) (k : ℕ) (ss : List Sight) (old : List Act) (q : ℕ) → Comes xs table k ss old q
+unfolding lifeOf whereIs
+comes xs table k ss old q =
+    record { life-none = refl; life-calls = refl; life-closed = refl; life-refused = refl; where-none = refl; where-calls = refl; where-closed = refl; where-refused = refl }
+
+-- how far two lives may differ, both ways: closings stand at the same places, with any tables
+pub record PairsOfDeeds (c : ℕ) (es fs : List Event) (t u : List ℕ) (ds gs : List Deed) : Type 0 where
+  pub none : PairedDeeds c [] []
+  pub both-call : PairedDeeds c (calls es ∷ ds) (calls fs ∷ gs) ↔ (Paired c es fs × PairedDeeds c ds gs)
+  pub both-close : PairedDeeds c (closing t ∷ ds) (closing u ∷ gs) ↔ PairedDeeds c ds gs
+  pub call-or-close : PairedDeeds c (calls es ∷ ds) (closing u ∷ gs) → ⊥
+  pub close-or-call : PairedDeeds c (closing t ∷ ds) (calls fs ∷ gs) → ⊥
+  pub longer : (d : Deed) → PairedDeeds c (d ∷ ds) [] → ⊥
+  pub shorter : (g : Deed) → PairedDeeds c [] (g ∷ gs) → ⊥
+
+pub pairs-of-deeds : (c : ℕ) (es fs : List Event) (t u : List ℕ) (ds gs : List Deed) → PairsOfDeeds c es fs t u ds gs
+pairs-of-deeds c es fs t u ds gs =
+    record { none = tt; both-call = (λ h. h, λ h. h); both-close = (λ h. h, λ h. h); call-or-close = λ h. h; close-or-call = λ h. h; longer = λ d h. h; shorter = λ g h. h }
+
+-- ---- a caller's turns
+
+pub record TurnsMean {S : Type 0} (v : S) (xs : List (Entry S)) (y : Closing S) (t : Turn S) (ts : List (Turn S)) (mark : S → ℕ) : Type 0 where
+  pub last-none : lastTurn v [] ≡ v
+  pub last-called : lastTurn v (called xs ∷ ts) ≡ lastTurn (lastOf v xs) ts
+  pub last-closed : lastTurn v (closed y ∷ ts) ≡ lastTurn (y .after) ts
+  pub deeds-called : deedsOf (called xs ∷ ts) ≡ calls (eventsOf xs) ∷ deedsOf ts
+  pub deeds-closed : deedsOf (closed y ∷ ts) ≡ closing (y .lent) ∷ deedsOf ts
+  pub told-none : toldTurns {S = S} [] ≡ []
+  pub told-called : toldTurns (called xs ∷ ts) ≡ toldOf xs ∷ toldTurns ts
+  pub told-closed : toldTurns (closed y ∷ ts) ≡ toldTurns ts
+  -- no call but the last leaves a mark of 1
+  pub never-none : Never mark []
+  pub never-more : (x : Entry S) → Never mark (x ∷ xs) ↔ ((mark (x .after) ≢ 1) × Never mark xs)
+  pub until-none : UntilTurn mark []
+  pub until-last : UntilTurn mark (called xs ∷ []) ↔ Until mark xs
+  pub until-called : UntilTurn mark (called xs ∷ t ∷ ts) ↔ (Never mark xs × UntilTurn mark (t ∷ ts))
+  pub until-closed : UntilTurn mark (closed y ∷ ts) ↔ UntilTurn mark ts
+
+pub turns-mean : {S : Type 0} (v : S) (xs : List (Entry S)) (y : Closing S) (t : Turn S) (ts : List (Turn S)) (mark : S → ℕ) → TurnsMean v xs y t ts mark
+turns-mean v xs y t ts mark =
+    record {
+      last-none = refl;
+      last-called = refl;
+      last-closed = refl;
+      deeds-called = refl;
+      deeds-closed = refl;
+      told-none = refl;
+      told-called = refl;
+      told-closed = refl;
+      never-none = tt;
+      never-more = λ x. (λ h. h, λ h. h);
+      until-none = tt;
+      until-last = (λ h. h, λ h. h);
+      until-called = (λ h. h, λ h. h);
+      until-closed = (λ h. h, λ h. h);
+    }
+
+-- a closing between these settings and this memory and those
+pub by-contract : {S : Type 0} (s z : Settings) (m n : Memory) (y : Closing S)
+    → ByContract s m y z n
+    ↔ (let c = closeOf core (readerAt s m) (y .lent) in (y .refusal ≡ c .refusal) × ((y .table ≡ c .table) × (readerAt z n ≡ c .after)))
+by-contract s z m n y = (
+  λ q. (ap (λ (c : Closed). c .refusal) q, (ap (λ (c : Closed). c .table) q, ap (λ (c : Closed). c .after) q)),
+  λ q j. record { refusal = q .0 j; table = q .1 .0 j; after = q .1 .1 j },
+)
+
+-- each turn went as the contract of its door says, and what was seen of it
+pub record Went (v : Vault) (xs : List (Entry Vault)) (y : Closing Vault) (ts : List (Turn Vault)) : Type 0 where
+  pub none : Turns v []
+  pub calls-went : Turns v (called xs ∷ ts) ↔ (Steps v xs × Turns (lastOf v xs) ts)
+  pub closing-went : Turns v (closed y ∷ ts) ↔ (ByContract (v .settings) (v .memory) y (y .after .settings) (y .after .memory) × Turns (y .after) ts)
+  pub saw-none : sawTurns [] ≡ []
+  pub saw-called : sawTurns (called xs ∷ ts) ≡ exchanged (saw xs) ∷ sawTurns ts
+  pub saw-closed : sawTurns (closed y ∷ ts) ≡ told (y .refusal) (y .table) ∷ sawTurns ts
+
+pub went : (v : Vault) (xs : List (Entry Vault)) (y : Closing Vault) (ts : List (Turn Vault)) → Went v xs y ts
+went v xs y ts = record { none = tt; calls-went = (λ h. h, λ h. h); closing-went = (λ h. h, λ h. h); saw-none = refl; saw-called = refl; saw-closed = refl }
+
+-- the same with a receiver, which a closing leaves byte for byte
+pub record WentOn (v : LineVault) (xs : List (Entry LineVault)) (y : Closing LineVault) (ts : List (Turn LineVault)) : Type 0 where
+  pub none : LineTurns v []
+  pub calls-went : LineTurns v (called xs ∷ ts) ↔ (Receives v xs × LineTurns (lastOf v xs) ts)
+  pub closing-went : LineTurns v (closed y ∷ ts)
+      ↔ ((ByContract (v .line .settings) (v .memory) y (y .after .line .settings) (y .after .memory) × (y .after .line .receiver ≡ v .line .receiver)) × LineTurns (y .after) ts)
+  pub saw-none : sawLineTurns v [] ≡ []
+  pub saw-called : sawLineTurns v (called xs ∷ ts) ≡ exchanged (sawOn v xs) ∷ sawLineTurns (lastOf v xs) ts
+  pub saw-closed : sawLineTurns v (closed y ∷ ts) ≡ told (y .refusal) (y .table) ∷ sawLineTurns (y .after) ts
+
+pub went-on : (v : LineVault) (xs : List (Entry LineVault)) (y : Closing LineVault) (ts : List (Turn LineVault)) → WentOn v xs y ts
+went-on v xs y ts = record { none = tt; calls-went = (λ h. h, λ h. h); closing-went = (λ h. h, λ h. h); saw-none = refl; saw-called = refl; saw-closed = refl }
