@@ -3,12 +3,12 @@ ghost use mathlib.Core.Path.{_≡_};
 ghost use mathlib.Core.List.{List};
 ghost use Prim.Native.Nat.{ℕ, _*_, _/_, _≤_, _<_};
 ghost use lib.ListN.{length};
+ghost use Rattle.protocol.specs.Index.{stored};
 ghost use Rattle.protocol.specs.Call.{core};
 ghost use Rattle.offline.specs.CloseGaps.{firstBits, closeOf};
 ghost use Rattle.protocol.specs.Records.{readerOf};
 ghost use Rattle.offline.specs.Records.{closedOf};
 ghost use Rattle.upkeep.specs.Gaps.{Shelved, Gathered, movePage, Tidied, followedIn, fitsOf, movedOf};
-use library::index;
 use library::pages;
 use offline::Moved;
 use protocol::Settings;
@@ -28,6 +28,16 @@ fn move_page(templates: &mut [u8], from: usize, to: usize)
     pages::write_page(templates, to, &page);
 }
 
+// Whether a page that the index has a bit for is stored.
+fn is_stored(index: &[u8], p: usize) -> bool
+    requires { ⌜ p / 8 < length (now index) ⌝ }
+    ensures { λ r. ⌜ r ≡ stored (now (index .entry)) p ⌝ }
+{
+    let b = index[p / 8];
+    let v = b >> (p % 8);
+    v & 1 == 1
+}
+
 // One pass over the pages: each stored one goes to the next free place, and the table says where. It returns how many there are.
 fn gather(templates: &mut [u8], index: &[u8], table: &mut [u16]) -> usize
     requires { ⌜ Shelved (now templates) (now index) (now table) ⌝ }
@@ -37,7 +47,7 @@ fn gather(templates: &mut [u8], index: &[u8], table: &mut [u16]) -> usize
     let mut next = 0;
     let mut p = 0;
     while p < end {
-        let there = index::has_bit(index, p);
+        let there = is_stored(index, p);
         if there {
             table[p] = next as u16;
             if next < p {

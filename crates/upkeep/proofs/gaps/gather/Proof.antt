@@ -15,8 +15,8 @@ abbrev μ-loop : tie.MeasureT-loop
 loop-holds : tie.Need-loop-holds Inv-loop μ-loop
 loop-holds c = search begun
 
-has-bit-requires : tie.Need-has-bit-requires Inv-loop μ-loop
-has-bit-requires c κs = search needs
+is-stored-requires : tie.Need-is-stored-requires Inv-loop μ-loop
+is-stored-requires c κs = search needs
 
 cast-table : tie.Need-cast-table Inv-loop μ-loop
 cast-table c = search needs
@@ -64,7 +64,7 @@ gather-spec =
     Inv-loop
     μ-loop
     loop-holds
-    has-bit-requires
+    is-stored-requires
     cast-table
     mul-table
     slice-write-table
