@@ -2,17 +2,18 @@
  * bystrodol.h: the EF01 reader core for C99 and C++: the whole reader, four plain services, closing the gaps of a library, and bringing
  * over an older index.
  *
- * There are two archives, for x86-64 Linux. bystrodol_step and bystrodol_line_switch are in target/staticlib/libstep.a, which
- * `rt staticlib step` writes; all else is in target/staticlib/libboard.a, which `rt staticlib board` writes. Link those whose
- * functions you call, in any order, behind your own files. Neither needs the other; each needs memcpy, memmove and memset, and nothing
- * else of the C library. Each function is a section of its own: with --gc-sections the linker drops those that are not called, and a
- * firmware that links both should use it, since each archive has a reader.
+ * There are three archives, for x86-64 Linux. bystrodol_step and bystrodol_line_switch are in target/staticlib/libstep.a, which
+ * `rt staticlib step` writes; bystrodol_close_gaps is in target/staticlib/libupkeep.a, which `rt staticlib upkeep` writes; all else is in
+ * target/staticlib/libboard.a, which `rt staticlib board` writes. Link those whose functions you call, in any order, behind your own
+ * files. None needs another. Of the C library each needs memcpy and memset, libupkeep.a also memmove, and nothing else. Each function is
+ * a section of its own: with --gc-sections the linker drops those that are not called, and a firmware that links libstep.a and libboard.a
+ * should use it, since each of these has a reader.
  *
  * Nothing is kept between calls: each answer depends on the arguments and the memory that they lead to, and calls on
  * different memory may run at the same time.
  *
  * Each function has an answer for every number, every length and every byte, bad ones included, and that answer is proved
- * (crates/board/src, crates/step/src). What no proof can see is the caller's part:
+ * (crates/board/src, crates/step/src, crates/upkeep/src). What no proof can see is the caller's part:
  *   - A piece, a run, a content, a room or a lent memory is two arguments, a pointer and a length in bytes. The pointer leads
  *     to that many bytes, all of which the caller may read; where it is not const, also write. They need no alignment.
  *   - Scores, thresholds and a table are the same, save that their length counts 16-bit numbers, in the machine's byte order, and that
@@ -86,10 +87,10 @@
  *     level and address, as they were stored, are read without the password, so they are no place for a secret. A host that took this
  *     21h for the sign of a lock must send another command, such as TempleteNum, which a locked reader of every version answers 21h. A
  *     board looks at password and verified mark in the settings.
- *     Versions 0.1 to 0.10 could not close gaps. All that is stored is as it was, and nothing is brought over; the archives need memmove.
  *     In versions 0.1 to 0.9 the byte at offset 267 of a receiver was padding; today it is the field spare. Sizes, offsets and functions
  *     are those of 0.9, and any byte may lie there, so nothing is brought over. An initialiser that lists a receiver's fields in order
  *     has one more.
+ *     Versions 0.1 to 0.10 could not close gaps. Today's other functions, structs and all that is stored are those of 0.10.
  */
 #ifndef BYSTRODOL_H
 #define BYSTRODOL_H
@@ -430,37 +431,44 @@ uint16_t bystrodol_count(const uint8_t *index, size_t index_length);
 
 #define BYSTRODOL_NO_COUNT 0xFFFFu
 
-/* ---- offline, between two calls */
+/* ---- offline, between two calls; it is in libupkeep.a */
 
 /*
  * Closes the gaps of a library: the stored templates go to pages 0, 1, 2 and up, in their old order. Every other page is zeroed, whatever
  * lay in it. The index has the bits of the first pages, as many as there are templates, and no other. The table gets each old page's new
- * page, or BYSTRODOL_NO_PAGE where the page was vacant. The origins follow their templates; nothing else of the settings changes, and
- * neither does a buffer: a transfer that is open goes on. The lock is not asked, and no packet leads here. Called again, it moves
+ * page, or BYSTRODOL_NO_PAGE where the page was vacant. The origins follow their templates. Nothing else of the settings changes: a
+ * transfer that is open goes on. Buffers and notepad are not lent. The lock is not asked, and no packet leads here. Called again, it moves
  * nothing, and the table has each stored page's own number.
  *
- * Returns 0, BYSTRODOL_BAD_LENGTH or BYSTRODOL_BAD_SETTING, as a call is refused, and tested in this order. Refused, it changes no byte,
+ * Returns 0, BYSTRODOL_BAD_LENGTH or BYSTRODOL_BAD_SETTING, as bystrodol_step does, and tested in this order. Refused, it changes no byte,
  * of the table neither.
  *
- * From then on the pages have other numbers. Tell every host that keeps page numbers before its next command, and make the chip's scores
- * anew. Each keeps its own by the table. NO_PAGE says that the page was vacant; what is not below the pages was no page:
+ * Before it. A command that has come in part names a page by its old number. So call this when nothing is held and the port has nothing,
+ * or drop both, as for Silence.
+ *
+ * After it the pages have other numbers. Make the chip's scores anew. Tell every host that keeps page numbers, once the library is saved
+ * and before its next command. A host changes its numbers by the table, each of them once:
  *         for (i = 0; i < people; i++) {
  *             uint16_t old = person[i].page;
  *             person[i].page = old < pages ? table[old] : BYSTRODOL_NO_PAGE;
  *         }
+ * Call this again only when every host has done so: the next table is another. The table tells which pages were stored, which a locked
+ * reader keeps to itself: give it to nobody who may not know that.
  *
- * What to save: templates and index. Of the settings only the origins have changed, which the line switch of power-on makes none. Lend
- * memory, and not where the templates are kept: power that fails inside of the call leaves a library half moved there. Then go in this
- * order, each step ended before the next; `kept` stands for the templates where they are kept.
- *   1. Save the table and a number `next` of 0, with a sum of your own: the sign that the library is being moved.
- *   2. For old = 0, 1, 2 and up: if table[old] is a page and not below next, copy that page from memory to kept, unless it is old itself,
- *      and save next = table[old] + 1.
- *   3. Save the index, and zero the pages of kept that it has no bit for.
- *   4. Save what the hosts need of the table; then take the sign away.
- * Where the sign is found at power-on, go on before all else: step 2 from the `next` that was saved, with kept's own page `old` in place of
- * the page from memory; then the index has the first bits, one for each entry of the table that is not NO_PAGE; then 3 and 4. No template
- * is lost, since a page goes down or stays, and those that are still to go lie above all that were written: until a page stands at its new
- * place, it stands whole at its old one. Without a table all would be lost at the first page that was written over.
+ * What to save: templates and index. Of the settings only the origins have changed, and the line switch at power-on makes them none. Lend
+ * a copy, and not the memory that keeps the templates over power-off: power that fails inside of the call leaves a library half moved.
+ * Then go in this order, each step ended before the next, and no other call made before the last. `kept` stands for the templates where
+ * they are kept; a write there that fails may spoil its own page, and no other.
+ *   1. Save the table, and a number `next` of 0; then a sign that the library is being moved.
+ *   2. For old = 0, 1, 2 and up, where table[old] is a page and not below next: copy kept's page `old` to kept's page table[old], unless the
+ *      two are one; then save next = table[old] + 1.
+ *   3. Save the index, whose first bits are set, one for each entry of the table that is not NO_PAGE; and zero the pages of kept behind
+ *      these.
+ *   4. Save the table once more, for the hosts; then take the sign away.
+ * Sign and `next` are saved so that each is there wholly, or is what it was. Where the sign is found at power-on, before all else go on
+ * with step 2, by the table and the `next` that were saved. No template is lost: a page goes down or stays, and those that are still to go
+ * lie above all that were written; so until a page stands whole at its new place, it stands whole at its old one. `next` tells which of
+ * the two is so: without it a page that was moved would be moved again.
  *
  *   settings                       the reader's; their origins are changed where they lie. With a receiver, those of the line
  *   templates, templates_length    512 bytes for each page, 1 to 1000 pages

@@ -242,8 +242,8 @@ static void keep(void *to, const void *from, size_t length) {
 
 static void keep_byte(uint8_t *to, uint8_t byte) { keep(to, &byte, 1); }
 
-/* Steps 2 to 4: from memory, or, where that is NULL, going on at power-on. */
-static void move(size_t pages, const uint8_t *memory) {
+/* Steps 2 to 4, from the start or going on at power-on. */
+static void move(size_t pages) {
     static const uint8_t zeros[BYSTRODOL_PAGE_BYTES];
     uint8_t index[BYSTRODOL_INDEX_BYTES];
     size_t count = 0;
@@ -252,7 +252,7 @@ static void move(size_t pages, const uint8_t *memory) {
         if (page == BYSTRODOL_NO_PAGE) continue;
         count++;
         if (page < kept.next) continue;
-        if (page != old) keep(pages_kept[page], memory ? memory + BYSTRODOL_PAGE_BYTES * page : pages_kept[old], BYSTRODOL_PAGE_BYTES);
+        if (page != old) keep(pages_kept[page], pages_kept[old], BYSTRODOL_PAGE_BYTES);
         keep_byte(&kept.next, (uint8_t)(page + 1));
     }
     set_first(index, count);
@@ -264,7 +264,7 @@ static void move(size_t pages, const uint8_t *memory) {
 
 static void save_closed(size_t pages) {
     keep(kept.table, area.table, pages * sizeof *area.table), keep_byte(&kept.next, 0), keep_byte(&kept.is_moving, 1);
-    move(pages, parts[TEMPLATES]);
+    move(pages);
 }
 
 /* Power fails, and once more while the board goes on. Where it fails before the sign is there, the library is the old one, and all is done again. */
@@ -277,9 +277,9 @@ static void is_saved(size_t which, size_t first, size_t second) {
         power = PLENTY, save_closed(pages);
     }
     power = second;
-    if (kept.is_moving) move(pages, NULL);
+    if (kept.is_moving) move(pages);
     power = PLENTY;
-    if (kept.is_moving) move(pages, NULL);
+    if (kept.is_moving) move(pages);
     check_of("power failed", which, "templates", differ(pages_kept, parts[TEMPLATES], lengths[TEMPLATES]), lengths[TEMPLATES]);
     check_of("power failed", which, "index", differ(kept.library.index, parts[INDEX], BYSTRODOL_INDEX_BYTES), BYSTRODOL_INDEX_BYTES);
     check_of("power failed", which, "table", differ(kept.told, area.table, pages * sizeof *area.table), pages * sizeof *area.table);
