@@ -6,6 +6,7 @@ use mathlib.Core.List.{List, [], _∷_}
 use Prim.Native.Nat.{ℕ, suc}
 use lib.ListN.{getD}
 use Rattle.protocol.specs.declared.Settings.{Settings}
+use Rattle.protocol.specs.Records.{readerOf}
 use Rattle.protocol.specs.Reader.{Reader}
 use Rattle.protocol.specs.Call.{Shape, core}
 use Rattle.protocol.specs.Dialogue.{Event, finally, dialogue, Paired}
@@ -13,9 +14,34 @@ use Rattle.protocol.specs.Receiver.{Line}
 use Rattle.dialogues.specs.History.{Exchange, exchanges, Act, moved, history}
 use Rattle.dialogues.specs.Caller.{finallyOn, seen}
 use Rattle.dialogues.specs.Doors.{Memory, Vault, LineVault, readerAt, Entry, lastOf, eventsOf, toldOf, Until, Steps, saw, Receives, sawOn}
+use Rattle.protocol.proofs.Promises.Words.OneResult.{one-reader}
+use Rattle.offline.specs.declared.Moved.{Moved}
 use Rattle.offline.specs.CloseGaps.{Closed, closeOf}
+use Rattle.offline.specs.Records.{closedOf, movedAt}
 use Rattle.offline.specs.Life.{Deed, calls, closing, deed, lastly, deedOn, lastlyOn, Sight, exchanged, told, sights, sightsOn, lifeOf, whereIs, answers, PairedDeeds}
 use Rattle.offline.specs.Turns.{Closing, Turn, called, closed, lastTurn, deedsOf, toldTurns, Never, UntilTurn, ByContract, Turns, sawTurns, LineTurns, sawLineTurns}
+
+-- ---- what the call returns
+
+-- which field, and which lent list, is which part of the outcome
+pub record ClosedIs (m : Moved) (t i table n b d : List ℕ) : Type 0 where
+  pub refusal : closedOf m t i table n b d .refusal ≡ m .refusal
+  pub told : closedOf m t i table n b d .table ≡ table
+  pub after : closedOf m t i table n b d .after ≡ readerOf (m .settings) t i n b d
+
+pub closed-is : (m : Moved) (t i table n b d : List ℕ) → ClosedIs m t i table n b d
+closed-is m t i table n b d = record { refusal = refl; told = refl; after = refl }
+
+-- settings lent, and the refusal returned: together what the call by value returns
+pub moved-is : (s : Settings) (refusal : ℕ) → (movedAt s refusal .settings ≡ s) × (movedAt s refusal .refusal ≡ refusal)
+moved-is s refusal = (refl, refl)
+
+-- two results of one equation are the same record, templates, index and table
+pub one-closed : (m z : Moved) (t i table t′ i′ table′ n b d : List ℕ) → closedOf m t i table n b d ≡ closedOf z t′ i′ table′ n b d
+    → ((m ≡ z) × (table ≡ table′)) × ((t ≡ t′) × (i ≡ i′))
+one-closed m z t i table t′ i′ table′ n b d e =
+    let o = one-reader (m .settings) (z .settings) t i n b d t′ i′ n b d (ap (λ (c : Closed). c .after) e) in
+    ((λ j. record { settings = o .settings j; refusal = e j .refusal }, ap (λ (c : Closed). c .table) e), (o .templates, o .index))
 
 -- ---- a life
 
