@@ -2,15 +2,14 @@
 use mathlib.Core.Bool.{true, false}
 use mathlib.Core.Path.{_≡_, refl}
 use mathlib.Core.List.{List, [], _∷_, _++_}
-use Prim.Native.Nat.{ℕ, zero, suc, _+_, _*_, _/_, _%_, _^_}
+use Prim.Native.Nat.{ℕ}
 use lib.ListN.{length, replicate}
-use Rattle.protocol.specs.Numbers.{freshPassword, freshAddress, freshLevel, freshSize, freshBaud, freshSensor, highestSize}
-use Rattle.protocol.specs.Bytes.{four, part, zeros}
+use Rattle.protocol.specs.Numbers.{highestSize}
 use Rattle.protocol.specs.Tests.{verdict, within, every, countBelow, listed}
 use Rattle.protocol.specs.Index.{bit, stored, setBit, clearFrom}
-use Rattle.protocol.specs.Reader.{noOrigin, fromPage, Reader, capacity, fresh, contents, reader, settings, locked, keyed, sizeOf, bufferOf}
+use Rattle.protocol.specs.Reader.{noOrigin, fromPage, Reader, capacity, fresh, contents, reader, bufferOf}
 use Rattle.protocol.specs.Call.{core, fitPlain, fitTransfer, fitOrigin, fitOrigins, sound}
-use Rattle.offline.specs.CloseGaps.{rank, newPage, gathered, closedTemplates, firstBits, followed, closedUp, tableOf, Closed, fitClosing, closeRefusal, closeAs, closeOf}
+use Rattle.offline.specs.CloseGaps.{rank, newPage, gathered, closedTemplates, firstBits, followed, closedUp, tableOf, fitClosing, closeRefusal, closeAs, closeOf}
 
 -- a page of one byte
 abbrev page : ℕ → List ℕ

@@ -1,6 +1,5 @@
 -- A reader's life: calls and line switches, and between them, offline, its gaps closed (request [9]); and what was seen of it. A closing is no event: its table
 -- tells the index, and demand 3 speaks of runs and line switches.
-use mathlib.Core.Path.{_≡_}
 use mathlib.Core.Bool.{cond}
 use mathlib.Core.List.{List, [], _∷_}
 use Prim.Native.Nat.{ℕ, zero, suc}

@@ -7,7 +7,7 @@ use Prim.Native.Nat.{ℕ}
 use Rattle.protocol.specs.declared.Settings.{Settings}
 use Rattle.protocol.specs.Call.{core, Told}
 use Rattle.dialogues.specs.Doors.{Memory, Vault, LineVault, readerAt, Entry, lastOf, eventsOf, toldOf, Until, Steps, saw, Receives, sawOn}
-use Rattle.offline.specs.CloseGaps.{Closed, closeOf}
+use Rattle.offline.specs.CloseGaps.{closeOf}
 use Rattle.offline.specs.Life.{Deed, calls, closing, Sight, exchanged, told}
 
 -- one closing: the table as it was lent, the refusal or 0 that came back, the table after it, and what lies with the caller then

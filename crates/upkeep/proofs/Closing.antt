@@ -17,13 +17,13 @@ use Rattle.protocol.specs.Reader.{fromPage, capacity}
 use Rattle.protocol.specs.Call.{core, fitOrigin, sound}
 use Rattle.offline.specs.CloseGaps.{rank, newPage, followed, closedUp, tableOf, fitClosing, closeRefusal, closeAs, closeOf}
 use Rattle.protocol.specs.Records.{isSet, originOf, readerOf}
-use Rattle.offline.specs.Records.{closedOf}
+use Rattle.offline.specs.Records.{closedOf, movedAt}
 use Rattle.protocol.proofs.Laws.Below.{at-listed, length-listed}
 use Rattle.protocol.proofs.Laws.Logic.{T→true, and-l, and-r, not-true, not-false}
 use Rattle.offline.proofs.Laws.Gaps.{rank-le}
 use Rattle.rules.specs.Settings.{originsFit, soundOf, withOrigins}
 use Rattle.rules.proofs.Transfers.{sound-legal}
-use Rattle.upkeep.specs.Gaps.{Shelved, Tidied, followedIn, fitsOf, movedOf}
+use Rattle.upkeep.specs.Gaps.{Shelved, Tidied, followedIn, fitsOf}
 
 -- ---- what fit lengths say
 
@@ -70,7 +70,7 @@ module _ (s : Settings) (t x w : List ℕ) (fit : Bool) (l : fit ≡ fitsOf (len
   unfolding fitClosing fitsOf capacity
   fits z e n b d = sym l ∙ e
 
-  pub bad-length : (a : Moved) → a ≡ movedOf 1 s → not fit ≡ true → Says a t x w
+  pub bad-length : (a : Moved) → a ≡ movedAt s 1 → not fit ≡ true → Says a t x w
   unfolding closeOf closeRefusal closeAs verdict
   bad-length a e f n b d = rw (e, fits false (not-true fit f) n b d) refl
 
@@ -81,7 +81,7 @@ module _ (s : Settings) (t x w : List ℕ) (fit : Bool) (l : fit ≡ fitsOf (len
     legal-is : (n b d : List ℕ) → legal ≡ sound (readerOf s t x n b d)
     legal-is n b d = let few = lies .few in k ∙ rw (le-leb _ _ few) (sym (sound-legal s t x n b d))
 
-    pub bad-setting : (a : Moved) → a ≡ movedOf 3 s → not legal ≡ true → Says a t x w
+    pub bad-setting : (a : Moved) → a ≡ movedAt s 3 → not legal ≡ true → Says a t x w
     unfolding closeOf closeRefusal closeAs verdict
     bad-setting a e g n b d = rw (e, fits true (not-false fit f) n b d, sym (legal-is n b d) ∙ not-true legal g) refl
 
@@ -94,7 +94,7 @@ module _ (s : Settings) (t x w : List ℕ) (fit : Bool) (l : fit ≡ fitsOf (len
           let q : T (soundOf (length t / pageBytes) x s) = rw z tt in
           search (and-l, and-r)
 
-      pub done : (a : Moved) (q : Settings) (one two : ℕ) → a ≡ movedOf 0 q → q ≡ withOrigins one two s → one ≡ followedIn v (s .origin1) → two ≡ followedIn v (s .origin2) → Says a u y v
+      pub done : (a : Moved) (q : Settings) (one two : ℕ) → a ≡ movedAt q 0 → q ≡ withOrigins one two s → one ≡ followedIn v (s .origin1) → two ≡ followedIn v (s .origin2) → Says a u y v
       unfolding closeOf closeRefusal closeAs verdict closedUp tableOf capacity originsFit
       done a q one two e m i j n b d =
           let few = lies .few in

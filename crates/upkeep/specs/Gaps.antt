@@ -5,8 +5,6 @@ use mathlib.Core.Path.{_≡_}
 use Prim.Native.Nat.{ℕ, _*_, _/_, _≤_, _<_}
 use lib.Dec.{ltb}
 use lib.ListN.{length, take, getD}
-use Rattle.protocol.specs.declared.Settings.{Settings}
-use Rattle.offline.specs.declared.Moved.{Moved}
 use Rattle.protocol.specs.Numbers.{pageBytes, mostPages}
 use Rattle.protocol.specs.Bytes.{part, lay}
 use Rattle.protocol.specs.Tests.{listed}
@@ -45,6 +43,3 @@ followedIn w o = cond (ltb o (length w)) (getD w o 0) o
 -- lengths of templates, index and table
 unfoldable pub fitsOf : ℕ → ℕ → ℕ → Bool
 fitsOf t i n = closingFits core (t / pageBytes) t i n
-
-abbrev pub movedOf : ℕ → Settings → Moved
-movedOf k s = record { settings = s; refusal = k }

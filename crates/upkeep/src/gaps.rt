@@ -3,12 +3,13 @@ ghost use mathlib.Core.Path.{_≡_};
 ghost use mathlib.Core.List.{List};
 ghost use Prim.Native.Nat.{ℕ, _*_, _/_, _≤_, _<_};
 ghost use lib.ListN.{length};
+ghost use Rattle.protocol.specs.Numbers.{pageBytes};
 ghost use Rattle.protocol.specs.Index.{stored};
 ghost use Rattle.protocol.specs.Call.{core};
-ghost use Rattle.offline.specs.CloseGaps.{firstBits, closeOf};
 ghost use Rattle.protocol.specs.Records.{readerOf};
-ghost use Rattle.offline.specs.Records.{closedOf};
-ghost use Rattle.upkeep.specs.Gaps.{Shelved, Gathered, movePage, Tidied, followedIn, fitsOf, movedOf};
+ghost use Rattle.offline.specs.CloseGaps.{firstBits, closeOf};
+ghost use Rattle.offline.specs.Records.{closedOf, movedAt};
+ghost use Rattle.upkeep.specs.Gaps.{Shelved, Gathered, movePage, Tidied, followedIn, fitsOf};
 use library::pages;
 use offline::Moved;
 use protocol::Settings;
@@ -18,9 +19,9 @@ use reader::call;
 use rules::settings;
 use wire::bytes;
 
-// Copies a page to another place, by way of an array of its own: the compiler then moves it in two pieces, and does not go byte by byte.
+// Copies a page to another place, by way of an array of its own: the compiler makes one memmove of it, and does not go byte by byte.
 fn move_page(templates: &mut [u8], from: usize, to: usize)
-    requires { ⌜ (from < length (now templates) / 512) × (to < length (now templates) / 512) ⌝ }
+    requires { ⌜ (from < length (now templates) / pageBytes) × (to < length (now templates) / pageBytes) ⌝ }
     ensures { λ _. ⌜ now (templates .exit) ≡ movePage from to (now (templates .entry)) ⌝ }
 {
     let mut page = [0u8; numbers::PAGE];
@@ -128,7 +129,7 @@ fn is_fit(t: usize, i: usize, n: usize) -> bool
 }
 
 fn moved_of(refusal: u8, settings: Settings) -> Moved
-    ensures { λ r. ⌜ r ≡ movedOf refusal settings ⌝ }
+    ensures { λ r. ⌜ r ≡ movedAt settings refusal ⌝ }
 {
     Moved { settings, refusal }
 }

@@ -1,6 +1,6 @@
 -- Document 02, request [9]: "In demand 2's valid count a moved page goes on as stored under its new number, and its old number no longer stands for it."
-use mathlib.Core.Bool.{Bool, true, false, true≢false, _&&_, not}
-use mathlib.Core.Path.{_≡_, refl, sym, _∙_}
+use mathlib.Core.Bool.{Bool, true, false, _&&_, not}
+use mathlib.Core.Path.{_≡_, refl}
 use mathlib.Core.Logic.{_≢_}
 use mathlib.Core.List.{List, _∷_}
 use Prim.Native.Nat.{ℕ, _<_}
@@ -9,7 +9,7 @@ use native.Mathlib.Decide.{ℕ-discrete}
 use lib.Dec.{eqb}
 use borrow.Author.Tests.{ne-eqb}
 use lib.ListN.{length, getD}
-use Rattle.protocol.specs.Tests.{among, some}
+use Rattle.protocol.specs.Tests.{among}
 use Rattle.dialogues.specs.History.{Act, cut, moved, live}
 use Rattle.protocol.proofs.Laws.Logic.{eqb-same, and-false}
 use Rattle.protocol.proofs.Laws.Below.{some-at, some-none}

@@ -1,28 +1,26 @@
 -- bystrodol_close_gaps at the door for C: over the bytes that lie in a caller's settings, memory and table before it and after it.
-use mathlib.Core.Bool.{Bool, true, false}
+use mathlib.Core.Bool.{true}
 use mathlib.Core.Path.{_≡_, refl, sym, ap, _∙_, subst}
 use mathlib.Core.Logic.{_≢_}
 use mathlib.Core.List.{List, [], _∷_}
-use Prim.Native.Nat.{ℕ, zero, suc, _*_, _/_, _%_, _^_, _≤_, _<_}
+use Prim.Native.Nat.{ℕ, zero, suc, _≤_, _<_}
 use native.Mathlib.Omega.{arith}
 use lib.Dec.{T}
 use borrow.Author.Tests.{ne-eqb}
 use lib.ListN.{length, getD}
 use Rattle.protocol.specs.declared.Settings.{Settings}
 use Rattle.protocol.specs.Tests.{countBelow}
-use Rattle.protocol.specs.Reader.{noOrigin, fromPage, Buffer, Reader}
+use Rattle.protocol.specs.Reader.{fromPage, Buffer, Reader}
 use Rattle.protocol.specs.Call.{core, sound}
-use Rattle.protocol.specs.Records.{originOf, readerOf, plainOf}
+use Rattle.protocol.specs.Records.{originOf, readerOf}
 use Rattle.dialogues.specs.Doors.{Memory, Vault, readerAt}
 use Rattle.protocol.proofs.Laws.Lines.{Line, unless, Follows}
-use Rattle.protocol.proofs.Laws.Logic.{T→true}
 use Rattle.protocol.proofs.Promises.Words.Told.{pages, has}
 use Rattle.protocol.proofs.Promises.Words.OneResult.{same-origin}
 use Rattle.protocol.proofs.Promises.Refusals.LegalMeans.{core-holds, LegalOrigin, Settled, settled-means}
 use Rattle.protocol.proofs.Promises.Refusals.Marks.{FitRecord, settled-fit}
 use Rattle.dialogues.proofs.FromC.Steps.{same-vault}
 use Rattle.dialogues.proofs.FromC.Secrets.{SameOpen, plain-open, mark-bytes}
-use Rattle.offline.specs.declared.Moved.{Moved}
 use Rattle.offline.specs.CloseGaps.{Closed, closeOf}
 use Rattle.offline.specs.Records.{closedOf, movedAt}
 use Rattle.offline.specs.Turns.{Closing, closed, ByContract, Turns}
@@ -36,12 +34,12 @@ pub close-door : (v : Vault) (z : Settings) (refusal : ℕ) (table t i table′ 
     → ((n b d : List ℕ) → closedOf (movedAt z refusal) t i table′ n b d ≡ closeOf core (readerOf (v .settings) (v .memory .templates) (v .memory .index) n b d) table)
     → Turns v
     (closed
-      record {
-        lent = table;
-        refusal = refusal;
-        table = table′;
-        after = record { settings = z; memory = record { templates = t; index = i; notepad = v .memory .notepad; buffer1 = v .memory .buffer1; buffer2 = v .memory .buffer2 } };
-      }
+    record {
+      lent = table;
+      refusal = refusal;
+      table = table′;
+      after = record { settings = z; memory = record { templates = t; index = i; notepad = v .memory .notepad; buffer1 = v .memory .buffer1; buffer2 = v .memory .buffer2 } };
+    }
     ∷ [])
 close-door v z refusal table t i table′ q = (q (v .memory .notepad) (v .memory .buffer1) (v .memory .buffer2), tt)
 

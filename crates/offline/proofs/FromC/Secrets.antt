@@ -1,6 +1,6 @@
 -- Demand 3's second half at the doors for C over turns: "two legal locked readers of equal capacity and, but for the filled marks, equal settings .. answer any sequence of
 -- runs alike, line switches among them, up to and including the first accepted password", and closings between them, whatever tables are lent.
-use mathlib.Core.Bool.{Bool, true, false}
+use mathlib.Core.Bool.{Bool, true}
 use mathlib.Core.Path.{_≡_, refl, sym, ap, ap₂, _∙_, subst}
 use mathlib.Core.Logic.{_≢_}
 use mathlib.Core.List.{List, [], _∷_}
@@ -19,15 +19,15 @@ use Rattle.protocol.specs.Dialogue.{Event, received, switch, on}
 use Rattle.protocol.specs.Receiver.{Handed, runOf}
 use Rattle.protocol.specs.Receiver as receivers
 use Rattle.dialogues.specs.Caller.{onLine}
-use Rattle.dialogues.specs.Doors.{Memory, Vault, LineVault, readerAt, readerIn, lineIn, Entry, lastOf, eventsOf, toldOf, Steps, Until, handedIn, Receives}
+use Rattle.dialogues.specs.Doors.{Memory, Vault, LineVault, readerAt, readerIn, lineIn, Entry, lastOf, eventsOf, Steps, Until, Receives}
 use Rattle.protocol.proofs.Promises.Words.Words as words
 use Rattle.protocol.proofs.Promises.Refusals.LegalMeans.{core-holds}
 use Rattle.protocol.proofs.Promises.Refusals.StaysLegal.{Legal}
 use Rattle.protocol.proofs.Promises.Refusals.Marks.{FitRecord}
 use Rattle.protocol.proofs.Promises.Secrets.Lock.{mark}
 use Rattle.dialogues.proofs.FromC.Steps.{same-vault, LegalVault, vault-fit, vault-legal}
-use Rattle.dialogues.proofs.FromC.Lines.{LegalLine, line-fit, line-vault-legal}
-use Rattle.dialogues.proofs.FromC.Secrets.{withVerified, remarked, SameOpen, open-plain, mark-bytes, plain-open, Stay, AlikeFromC, BlindFromC, vault-second-half, LinesBlindFromC, line-vault-second-half}
+use Rattle.dialogues.proofs.FromC.Lines.{LegalLine, line-vault-legal}
+use Rattle.dialogues.proofs.FromC.Secrets.{withVerified, remarked, SameOpen, open-plain, mark-bytes, plain-open, AlikeFromC, vault-second-half, line-vault-second-half}
 use Rattle.dialogues.proofs.Lines.ReceiverCalls.{as-call, switch-reader}
 use Rattle.dialogues.proofs.Secrets.ReceiverLock.{SameHeld}
 use Rattle.offline.specs.CloseGaps.{Closed, closeOf}

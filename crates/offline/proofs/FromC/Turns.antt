@@ -1,9 +1,9 @@
 -- The promises at the doors for C over sequences of calls, line switches and closings, without a receiver and with one: over what a caller hands in, what it gets back,
 -- and what lies in its settings and its memory after each.
-use mathlib.Core.Bool.{true, false}
+use mathlib.Core.Bool.{true}
 use mathlib.Core.Path.{_≡_, refl, sym, ap, _∙_, subst}
 use mathlib.Core.List.{List, [], _∷_}
-use Prim.Native.Nat.{ℕ, _*_, _≤_}
+use Prim.Native.Nat.{ℕ, _≤_}
 use lib.ListN.{replicate}
 use Rattle.protocol.specs.Bytes.{Bytes}
 use Rattle.protocol.specs.Tests.{countBelow}
@@ -11,10 +11,8 @@ use Rattle.protocol.specs.Reader.{fromPage, Reader}
 use Rattle.protocol.specs.Call.{core}
 use Rattle.protocol.specs.Services.{countService}
 use Rattle.protocol.specs.Receiver as receivers
-use Rattle.protocol.specs.Dialogue.{finally}
-use Rattle.dialogues.specs.History.{Exchange, exchanges, live}
-use Rattle.dialogues.specs.Caller.{finallyOn, seen}
-use Rattle.dialogues.specs.Doors.{Memory, Vault, LineVault, readerAt, readerIn, lineIn, Entry, lastOf, eventsOf, saw, sawOn}
+use Rattle.dialogues.specs.History.{live}
+use Rattle.dialogues.specs.Doors.{Vault, LineVault, readerAt, readerIn, lineIn, lastOf, saw, sawOn}
 use Rattle.protocol.proofs.Promises.Words.Told.{has, buffer}
 use Rattle.protocol.proofs.Promises.Refusals.LegalMeans.{core-holds}
 use Rattle.protocol.proofs.Promises.Refusals.StaysLegal.{Legal}
@@ -22,7 +20,7 @@ use Rattle.dialogues.proofs.Library.ValidCount.{Tells, tells-none}
 use Rattle.dialogues.proofs.Library.Faithful.{Faithful, Holds}
 use Rattle.dialogues.proofs.FromC.Steps.{steps-end, steps-saw, LegalVault, count-of, HeldPages, pages-held}
 use Rattle.dialogues.proofs.FromC.Lines.{receives-end, receives-saw, LegalLine}
-use Rattle.offline.specs.CloseGaps.{Closed, closeOf}
+use Rattle.offline.specs.CloseGaps.{Closed}
 use Rattle.offline.specs.Life.{deed, lastly, deedOn, lastlyOn, Sight, exchanged, toldBy, sights, sightsOn, lifeOf}
 use Rattle.offline.specs.Turns.{Turn, called, closed, lastTurn, deedsOf, Turns, sawTurns, LineTurns, sawLineTurns}
 use Rattle.offline.proofs.Life.Library.{ever-legal, deeds-tell, life-faithful}

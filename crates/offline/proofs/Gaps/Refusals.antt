@@ -113,4 +113,3 @@ module _ (σ : Shape) (r : Reader) (table : List ℕ) where
 
   pub passes : closeOf σ r table .refusal ≡ 0 → Passes
   passes = close-kinds (λ (e : Closed). e .refusal ≡ 0 → Passes) (λ n e. absurd (omega arith)) (λ t u e. record { lengths = t; settings = u })
-

@@ -112,4 +112,3 @@ module _ (σ : Shape) (ok : σ .most ≤ 8 * σ .indexed) (r : Reader) (table : 
       (λ t u.
       let o = good σ ok r l .origins in
       record { buffer1 = copy-follows (able σ r table t u) (r .guarded .buffer1) (o false) (f .buffer1); buffer2 = copy-follows (able σ r table t u) (r .guarded .buffer2) (o true) (f .buffer2) })
-

@@ -1,6 +1,6 @@
 -- Request [5] over any life: a stored page is lost by deletion alone. Whatever the reader, legal or not, it is stored with the same 512 bytes under the number that the
 -- tables tell for it, or it was seen deleted under the number that it had then.
-use mathlib.Core.Bool.{true, false, true≢false}
+use mathlib.Core.Bool.{true, true≢false}
 use mathlib.Core.Path.{_≡_, refl, sym, ap, _∙_, subst}
 use mathlib.Core.Logic.{_⊎_, inl, inr, _≢_}
 use mathlib.Core.List.{List, [], _∷_}
@@ -21,10 +21,10 @@ use Rattle.dialogues.proofs.Laws.History.{Keeps, events-keep}
 use Rattle.dialogues.proofs.Library.Untouched.{SawDeleted, Untouched, only-by-deletion}
 use Rattle.protocol.proofs.Promises.Words.Told.{pages, page, has}
 use Rattle.offline.specs.CloseGaps.{closedUp, Closed, closeAs, closeOf}
-use Rattle.offline.specs.Life.{Deed, calls, closing, deed, lastly, Sight, exchanged, told, toldBy, sights, whereIs}
+use Rattle.offline.specs.Life.{Deed, calls, closing, deed, lastly, Sight, exchanged, told, sights, whereIs}
 use Rattle.offline.proofs.Laws.Gaps.{fine-closed}
 use Rattle.offline.proofs.Gaps.Refusals.{Able, able, close-kinds, passes}
-use Rattle.offline.proofs.Gaps.Closes.{Closes, closes, keeps-order}
+use Rattle.offline.proofs.Gaps.Closes.{closes, keeps-order}
 
 -- page q was seen deleted, under the number that it had then
 abbrev pub Lost : ℕ → List Sight → Type 0

@@ -12,7 +12,6 @@ use Rattle.protocol.specs.Data.{acknowledge}
 use Rattle.protocol.specs.Step.{order, hear, rested}
 use Rattle.protocol.specs.Call.{Shape, Lent, fitLent, callOf}
 use Rattle.protocol.specs.Receiver.{Line, line, runOf, receiveOf}
-use Rattle.dialogues.specs.History.{Exchange}
 use Rattle.dialogues.specs.Caller.{finallyOn, runs, seen}
 use Rattle.protocol.proofs.Promises.Words.Told.{Gives, word, has, buffer}
 use Rattle.protocol.proofs.Promises.Refusals.StaysLegal.{Legal}

@@ -13,7 +13,7 @@ use Rattle.protocol.specs.Reader.{Transfer, closed, Plain, Guarded, Reader, cap
 use Rattle.protocol.specs.Call.{Shape, fitPlain, fitTransfer, fitOrigins, sound, legal, Told}
 use Rattle.protocol.specs.Dialogue.{Event, received, switch, on, finally, Dialogue, over, first, dialogue}
 use Rattle.protocol.proofs.Laws.Locked.{veiled, shut-of, locked-call, plain-or, locked-switch}
-use Rattle.protocol.proofs.Promises.Refusals.StaysLegal.{Legal, stays-legal, ever-legal}
+use Rattle.protocol.proofs.Promises.Refusals.StaysLegal.{Legal, stays-legal}
 use Rattle.protocol.proofs.Promises.Secrets.Lock.{mark, Blind, second-half}
 use Rattle.dialogues.proofs.Laws.History.{ever-capacity}
 use Rattle.offline.specs.CloseGaps.{Closed, fitClosing, closeRefusal, closeAs, closeOf}
