@@ -64,7 +64,7 @@
  *   Your own writes, between two calls. A buffer that you fill gets filled mark 1 and origin BYSTRODOL_NO_PAGE, or, if you copied a
  *     stored page, that page, so that the copy goes with it. A buffer whose filled mark you clear gets no origin. If a transfer is open,
  *     close it first: transfer and got 0, its buffer zeroed. After you have written templates or index, call bystrodol_receiver_switch,
- *     as for another host. What is not done here shows later: every call is refused with 3, or a buffer is wiped with a page that it has
+ *     as for another host; bystrodol_close_gaps needs none of this. What is not done here shows later: every call is refused with 3, or a buffer is wiped with a page that it has
  *     nothing to do with, or not wiped with its own.
  *   Saving. The table of commands below says what each one changes.
  *   Upgrade. Templates and notepad stay as they are.
@@ -75,9 +75,9 @@
  *         memcpy(&line.settings, stored, BYSTRODOL_OLD_SETTINGS_BYTES);
  *         line.settings.origin1 = line.settings.origin2 = BYSTRODOL_NO_PAGE;
  *     This may be done at every power-on, whether 20 or 24 bytes are stored, since the line switch makes both none in any case. So a
- *     board may go on storing 20 bytes, and needs no mark for it; and an older version can read them. A struct of yours that was stored with settings inside has another
- *     layout today: what stood behind them, such as a sum, stands 4 bytes further. Of a stored struct bystrodol_line load the first 20
- *     bytes alone.
+ *     board may go on storing 20 bytes, and needs no mark for it; and an older version can read them. A struct of yours that was stored
+ *     with settings inside has another layout today: what stood behind them, such as a sum, stands 4 bytes further. Of a stored struct
+ *     bystrodol_line load the first 20 bytes alone.
  *     Versions 0.1 to 0.7 had no Search: today's bystrodol_receive and bystrodol_step take four arguments more, scores and thresholds
  *     behind buffer 2. The found mark stands where those versions had spare, a byte that the board could use. It is 0 unless the board
  *     wrote to it, and the line switch at power-on makes it 0 in any case. So settings that were stored are loaded as they are; but a
@@ -237,7 +237,7 @@
 #define BYSTRODOL_CODE_PASSWORD_FIRST 0x21u  /* the reader is locked, and the command is not 0Fh, 13h or 40h */
 #define BYSTRODOL_CODE_PAGE_TAKEN 0x22u      /* Store: the page is stored already, and kept; before you delete it, see above */
 
-/* The origin of a buffer that has none. */
+/* No page: the origin of a buffer that has none, and what a table has for a page that was vacant. */
 #define BYSTRODOL_NO_PAGE 0xFFFFu
 
 /*
@@ -436,41 +436,54 @@ uint16_t bystrodol_count(const uint8_t *index, size_t index_length);
 /*
  * Closes the gaps of a library: the stored templates go to pages 0, 1, 2 and up, in their old order. Every other page is zeroed, whatever
  * lay in it. The index has the bits of the first pages, as many as there are templates, and no other. The table gets each old page's new
- * page, or BYSTRODOL_NO_PAGE where the page was vacant. The origins follow their templates. Nothing else of the settings changes: a
- * transfer that is open goes on. Buffers and notepad are not lent. The lock is not asked, and no packet leads here. Called again, it moves
- * nothing, and the table has each stored page's own number.
+ * page, or BYSTRODOL_NO_PAGE where the page was vacant. The origins follow their templates. Nothing else of the settings changes, and an
+ * open transfer goes on. Buffers and notepad are not lent. It works on a locked reader, too, and no host can start it by a packet. Called
+ * again, it moves nothing, and the table has each stored page's own number.
  *
- * Returns 0, BYSTRODOL_BAD_LENGTH or BYSTRODOL_BAD_SETTING, as bystrodol_step does, and tested in this order. Refused, it changes no byte,
- * of the table neither.
+ * Returns 0; or BYSTRODOL_BAD_LENGTH, or else BYSTRODOL_BAD_SETTING, where bystrodol_step would. If it is refused, nothing changes, and
+ * the table is not written.
  *
- * Before it. A command that has come in part names a page by its old number. So call this when nothing is held and the port has nothing,
- * or drop both, as for Silence.
+ * Before it. Commands and replies name pages by their old numbers. So wait until the last reply has left, and no byte is held, left of a
+ * piece, or in the port. If an unfinished packet is held, wait for the pause of Silence and drop it. From then on drop every byte that
+ * comes, until the hosts are told. And save all that has changed: the templates and the index that are kept over power-off must be those
+ * that are lent.
  *
- * After it the pages have other numbers. Make the chip's scores anew. Tell every host that keeps page numbers, once the library is saved
- * and before its next command. A host changes its numbers by the table, each of them once:
+ * Hosts. After it the pages have other numbers. Make the chip's scores anew. No packet tells a host: once the library is saved, give it
+ * the table by a way of your own. It changes every page number that it has by it, those of an earlier Search too; `pages` is the capacity,
+ * and whoever has a page that was vacant gets BYSTRODOL_NO_PAGE:
  *         for (i = 0; i < people; i++) {
  *             uint16_t old = person[i].page;
  *             person[i].page = old < pages ? table[old] : BYSTRODOL_NO_PAGE;
  *         }
- * Call this again only when every host has done so: the next table is another. The table tells which pages were stored, which a locked
- * reader keeps to itself: give it to nobody who may not know that.
+ *   A table is used once. So number the closings, and let each host save the number of the last table that it used with its pages, in one
+ *   write. Take no command from a host that is behind, and do not call this again before every host has used the table: the next table
+ *   takes its place. The table tells which pages were stored, which a locked reader keeps to itself: give it to nobody who may not know.
  *
- * What to save: templates and index. Of the settings only the origins have changed, and the line switch at power-on makes them none. Lend
- * a copy, and not the memory that keeps the templates over power-off: power that fails inside of the call leaves a library half moved.
- * Then go in this order, each step ended before the next, and no other call made before the last. `kept` stands for the templates where
- * they are kept; a write there that fails may spoil its own page, and no other.
- *   1. Save the table, and a number `next` of 0; then a sign that the library is being moved.
- *   2. For old = 0, 1, 2 and up, where table[old] is a page and not below next: copy kept's page `old` to kept's page table[old], unless the
- *      two are one; then save next = table[old] + 1.
- *   3. Save the index, whose first bits are set, one for each entry of the table that is not NO_PAGE; and zero the pages of kept behind
- *      these.
- *   4. Save the table once more, for the hosts; then take the sign away.
- * Sign and `next` are saved so that each is there wholly, or is what it was. Where the sign is found at power-on, before all else go on
- * with step 2, by the table and the `next` that were saved. No template is lost: a page goes down or stays, and those that are still to go
- * lie above all that were written; so until a page stands whole at its new place, it stands whole at its old one. `next` tells which of
- * the two is so: without it a page that was moved would be moved again.
+ * Saving: templates and index. Of the settings only the origins have changed, and the line switch at power-on makes them none. Lend RAM,
+ * such as the memory that you lend to bystrodol_receive, and never a memory that keeps its bytes over power-off: power that fails inside
+ * of the call leaves a library half moved there. Then go in this order, each step ended before the next, and call no function of this
+ * header until step 4 is done. `kept` stands for the templates where they are kept. The order needs a memory in which a write that fails
+ * spoils only the 512 bytes that it writes; if yours erases larger blocks, write the library to a second area, and switch over by one
+ * sign.
+ *   1. Save the table, with a sum over it, and a number `next` of 0; then a sign that the library is being moved.
+ *   2. Move the pages of kept:
+ *         for (old = 0; old < pages; old++) {
+ *             uint16_t to = table[old];
+ *             if (to == BYSTRODOL_NO_PAGE || to < next) continue;
+ *             if (to != old) copy page old of kept to page to of kept;
+ *             save next = to + 1;
+ *         }
+ *   3. Let n be the number of entries of the table that are not BYSTRODOL_NO_PAGE. Save an index with bits 0 to n - 1 set and all others 0,
+ *      and zero the pages of kept from n on. Make your sum over both anew.
+ *   4. Save the table for the hosts, with the closing's number, at a place of its own; then take the sign away. The table of step 1 stays
+ *      as it is until the sign is gone.
+ *   A write of `next` or of the sign that fails must leave the old value: write to two places in turn, say, each with a sum. At power-on,
+ *   if the sign is there, first do steps 2 to 4 with the saved table and the saved `next`; then go on as ever. If it is not, nothing was
+ *   moved or all is done. While it is there, your sum over templates and index does not hold, and no older version may be started.
+ *   No template is lost: a page goes down or stays, and those that are still to go lie above all that were written. So until a page stands
+ *   whole at its new place, it stands whole at its old one; `next` tells which, since a page that was moved must not be moved again.
  *
- *   settings                       the reader's; their origins are changed where they lie. With a receiver, those of the line
+ *   settings                       the reader's, with a receiver &line.settings; only origin1 and origin2 change
  *   templates, templates_length    512 bytes for each page, 1 to 1000 pages
  *   index, index_length            128 bytes
  *   table, table_length            16-bit numbers, one for each page: as many as the capacity. What lay there does not matter
