@@ -64,8 +64,8 @@
  *   Your own writes, between two calls. A buffer that you fill gets filled mark 1 and origin BYSTRODOL_NO_PAGE, or, if you copied a
  *     stored page, that page, so that the copy goes with it. A buffer whose filled mark you clear gets no origin. If a transfer is open,
  *     close it first: transfer and got 0, its buffer zeroed. After you have written templates or index, call bystrodol_receiver_switch,
- *     as for another host; bystrodol_close_gaps needs none of this. What is not done here shows later: every call is refused with 3, or a buffer is wiped with a page that it has
- *     nothing to do with, or not wiped with its own.
+ *     as for another host; bystrodol_close_gaps needs none of this. What is not done here shows later: every call is refused with 3, or a
+ *     buffer is wiped with a page that it has nothing to do with, or not wiped with its own.
  *   Saving. The table of commands below says what each one changes.
  *   Upgrade. Templates and notepad stay as they are.
  *     Versions 0.1 to 0.5 had an index of 32 bytes. Where such a one is stored, and not yet brought over, do that before all else of

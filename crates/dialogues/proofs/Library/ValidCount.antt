@@ -76,11 +76,17 @@ module _ (σ : Shape) (ok : σ .most ≤ 8 * σ .indexed) where
   pub valid-count : (r : Reader) → r .guarded .index ≡ zeros (σ .indexed) → (es : List Event) → setBits (finally σ r es .guarded .index) ≡ livePages (σ .indexed) (exchanges σ r es)
   valid-count r z es = tells-count (σ .indexed) (finally σ r es .guarded .index) (history (exchanges σ r es) []) (tells-ever r [] (rw z (tells-none (σ .indexed))) es)
 
-  -- and TempleteNum answers them, at any time that the reader is not locked
+  -- TempleteNum answers the pages of the acts that an index tells of
+  pub tells-told : (t : Reader) (acts : List Act) → Tells (σ .indexed) (t .guarded .index) acts → T (legal σ t) → (s : List ℕ) (lent : Lent) → T (fitLent (capacity (t .guarded)) lent)
+      → locked (t .plain) ≡ false → hear (t .plain .address) s ≡ order (command (barred templeteNum))
+      → Gives (acknowledge (t .plain .address) 0x00 (word (countBelow (live acts) (8 * σ .indexed)))) (rested t) s lent (callOf σ t s lent)
+  tells-told t acts k f s lent u l h =
+      let same = ap₂ (λ (a : List ℕ) (n : ℕ). acknowledge a 0x00 (word n)) (spared t .address) (ap setBits (spared t .index) ∙ tells-count (σ .indexed) (t .guarded .index) acts k) in
+      subst (λ (x : List ℕ). Gives x (rested t) s lent (callOf σ t s lent)) same (tells-number σ t s lent f u l h)
+
+  -- so the host gets those pages, at any time that the reader is not locked
   pub count-told : (r : Reader) → Legal σ ok r → r .guarded .index ≡ zeros (σ .indexed) → (es : List Event) (s : List ℕ) (lent : Lent) → T (fitLent (capacity (r .guarded)) lent)
       → locked (finally σ r es .plain) ≡ false → hear (finally σ r es .plain .address) s ≡ order (command (barred templeteNum))
       → Gives (acknowledge (finally σ r es .plain .address) 0x00 (word (livePages (σ .indexed) (exchanges σ r es)))) (rested (finally σ r es)) s lent (callOf σ (finally σ r es) s lent)
-  count-told r f z es s lent u l h =
-      let t : Reader = finally σ r es in
-      let same = ap₂ (λ (a : List ℕ) (n : ℕ). acknowledge a 0x00 (word n)) (spared t .address) (ap setBits (spared t .index) ∙ valid-count r z es) in
-      subst (λ (x : List ℕ). Gives x (rested t) s lent (callOf σ t s lent)) same (tells-number σ t s lent (ever-legal σ ok r f es .legal) (rw (ever-capacity σ ok r es) u) l h)
+  count-told r f z es s lent u =
+      tells-told (finally σ r es) _ (tells-ever r [] (rw z (tells-none (σ .indexed))) es) (ever-legal σ ok r f es .legal) s lent (rw (ever-capacity σ ok r es) u)

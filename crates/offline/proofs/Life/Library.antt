@@ -1,7 +1,7 @@
 -- The library over any life: calls, line switches and, between them, closings of its gaps (request [9]). Demand 2: "From an empty library, the valid count always equals
 -- the pages stored and not deleted since." "In demand 2's valid count a moved page goes on as stored under its new number, and its old number no longer stands for it."
 use mathlib.Core.Bool.{Bool, true, false, _&&_}
-use mathlib.Core.Path.{_≡_, refl, sym, ap, ap₂, _∙_, subst}
+use mathlib.Core.Path.{_≡_, refl, sym, ap, _∙_}
 use mathlib.Core.List.{List, [], _∷_}
 use Prim.Native.Nat.{ℕ, _*_, _/_, _≤_, _<_}
 use native.Mathlib.Omega.{arith}
@@ -21,13 +21,11 @@ use Rattle.protocol.specs.Dialogue.{finally}
 use Rattle.dialogues.specs.History.{Act, moved, live}
 use Rattle.protocol.proofs.Laws.Logic.{eqb-same, and-false}
 use Rattle.protocol.proofs.Laws.Below.{some-at, some-none, length-listed, at-listed}
-use Rattle.protocol.proofs.Laws.Answers.{spared}
 use Rattle.protocol.proofs.Promises.Words.Told.{Gives, word, buffer}
-use Rattle.protocol.proofs.Promises.Commands.Settings.{tells-number}
 use Rattle.protocol.proofs.Promises.Refusals.StaysLegal.{Legal}
 use Rattle.protocol.proofs.Promises.Refusals.StaysLegal as calling
 use Rattle.dialogues.proofs.Laws.History.{ever-capacity}
-use Rattle.dialogues.proofs.Library.ValidCount.{Tells, tells-none, tells-count, tells-ever}
+use Rattle.dialogues.proofs.Library.ValidCount.{Tells, tells-none, tells-count, tells-ever, tells-told}
 use Rattle.dialogues.proofs.Library.Faithful.{Faithful, Holds, ever-faithful, stays-faithful}
 use Rattle.offline.specs.CloseGaps.{rank, newPage, closedUp, tableOf, Closed, fitClosing, closeAs, closeOf}
 use Rattle.offline.specs.Life.{Deed, calls, closing, deed, lastly, Sight, toldBy, sights, lifeOf}
@@ -127,10 +125,8 @@ module _ (σ : Shape) (ok : σ .most ≤ 8 * σ .indexed) where
   pub count-told : (r : Reader) → Legal σ ok r → r .guarded .index ≡ zeros (σ .indexed) → (ds : List Deed) (s : List ℕ) (lent : Lent) → T (fitLent (capacity (r .guarded)) lent)
       → locked (lastly σ r ds .plain) ≡ false → hear (lastly σ r ds .plain .address) s ≡ order (command (barred templeteNum))
       → Gives (acknowledge (lastly σ r ds .plain .address) 0x00 (word (livePages (σ .indexed) (sights σ r ds)))) (rested (lastly σ r ds)) s lent (callOf σ (lastly σ r ds) s lent)
-  count-told r f z ds s lent u l h =
-      let t : Reader = lastly σ r ds in
-      let same = ap₂ (λ (a : List ℕ) (n : ℕ). acknowledge a 0x00 (word n)) (spared t .address) (ap setBits (spared t .index) ∙ valid-count r z ds) in
-      subst (λ (x : List ℕ). Gives x (rested t) s lent (callOf σ t s lent)) same (tells-number σ t s lent (ever-legal ds r f .legal) (rw (life-capacity ds r) u) l h)
+  count-told r f z ds s lent u =
+      tells-told σ ok (lastly σ r ds) _ (deeds-tell ds r [] (rw z (tells-none (σ .indexed)))) (ever-legal ds r f .legal) s lent (rw (life-capacity ds r) u)
 
   -- ---- request [7]: a buffer with an origin holds the bytes of the page that its origin names, which is stored
 
