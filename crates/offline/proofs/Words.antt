@@ -19,7 +19,7 @@ use Rattle.offline.specs.declared.Moved.{Moved}
 use Rattle.offline.specs.CloseGaps.{Closed, closeOf}
 use Rattle.offline.specs.Records.{closedOf, movedAt}
 use Rattle.offline.specs.Life.{Deed, calls, closing, deed, lastly, deedOn, lastlyOn, Sight, exchanged, told, sights, sightsOn, lifeOf, whereIs, answers, PairedDeeds}
-use Rattle.offline.specs.Turns.{Closing, Turn, called, closed, lastTurn, deedsOf, toldTurns, Never, UntilTurn, ByContract, Turns, sawTurns, LineTurns, sawLineTurns}
+use Rattle.offline.specs.Turns.{Closing, Turn, callTurn, closeTurn, lastTurn, deedsOf, toldTurns, Never, UntilTurn, ByContract, Turns, sawTurns, LineTurns, sawLineTurns}
 
 -- ---- what the call returns
 
@@ -91,7 +91,7 @@ lives σ r x es table ds =
     }
 
 -- what it comes to: the acts, and the number that a page has in the end
-pub record Comes (xs : List Exchange) (table : List ℕ) (k : ℕ) (ss : List Sight) (old : List Act) (q : ℕ) : Type 0 where
+pub record LifeMeans (xs : List Exchange) (table : List ℕ) (k : ℕ) (ss : List Sight) (old : List Act) (q : ℕ) : Type 0 where
   pub life-none : lifeOf [] old ≡ old
   pub life-calls : lifeOf (exchanged xs ∷ ss) old ≡ lifeOf ss (history xs old)
   pub life-closed : lifeOf (told 0 table ∷ ss) old ≡ lifeOf ss (moved table ∷ old)
@@ -101,9 +101,9 @@ pub record Comes (xs : List Exchange) (table : List ℕ) (k : ℕ) (ss : List Si
   pub where-closed : whereIs (told 0 table ∷ ss) q ≡ whereIs ss (getD table q 0)
   pub where-refused : whereIs (told (suc k) table ∷ ss) q ≡ whereIs ss q
 
-pub comes : (xs : List Exchange) (table : List ℕ) (k : ℕ) (ss : List Sight) (old : List Act) (q : ℕ) → Comes xs table k ss old q
+pub life-means : (xs : List Exchange) (table : List ℕ) (k : ℕ) (ss : List Sight) (old : List Act) (q : ℕ) → LifeMeans xs table k ss old q
 unfolding lifeOf whereIs
-comes xs table k ss old q =
+life-means xs table k ss old q =
     record { life-none = refl; life-calls = refl; life-closed = refl; life-refused = refl; where-none = refl; where-calls = refl; where-closed = refl; where-refused = refl }
 
 -- how far two lives may differ, both ways: closings stand at the same places, with any tables
@@ -124,20 +124,20 @@ pairs-of-deeds c es fs t u ds gs =
 
 pub record TurnsMean {S : Type 0} (v : S) (xs : List (Entry S)) (y : Closing S) (t : Turn S) (ts : List (Turn S)) (mark : S → ℕ) : Type 0 where
   pub last-none : lastTurn v [] ≡ v
-  pub last-called : lastTurn v (called xs ∷ ts) ≡ lastTurn (lastOf v xs) ts
-  pub last-closed : lastTurn v (closed y ∷ ts) ≡ lastTurn (y .after) ts
-  pub deeds-called : deedsOf (called xs ∷ ts) ≡ calls (eventsOf xs) ∷ deedsOf ts
-  pub deeds-closed : deedsOf (closed y ∷ ts) ≡ closing (y .lent) ∷ deedsOf ts
+  pub last-called : lastTurn v (callTurn xs ∷ ts) ≡ lastTurn (lastOf v xs) ts
+  pub last-closed : lastTurn v (closeTurn y ∷ ts) ≡ lastTurn (y .after) ts
+  pub deeds-called : deedsOf (callTurn xs ∷ ts) ≡ calls (eventsOf xs) ∷ deedsOf ts
+  pub deeds-closed : deedsOf (closeTurn y ∷ ts) ≡ closing (y .lent) ∷ deedsOf ts
   pub told-none : toldTurns {S = S} [] ≡ []
-  pub told-called : toldTurns (called xs ∷ ts) ≡ toldOf xs ∷ toldTurns ts
-  pub told-closed : toldTurns (closed y ∷ ts) ≡ toldTurns ts
+  pub told-called : toldTurns (callTurn xs ∷ ts) ≡ toldOf xs ∷ toldTurns ts
+  pub told-closed : toldTurns (closeTurn y ∷ ts) ≡ toldTurns ts
   -- no call but the last leaves a mark of 1
   pub never-none : Never mark []
   pub never-more : (x : Entry S) → Never mark (x ∷ xs) ↔ ((mark (x .after) ≢ 1) × Never mark xs)
   pub until-none : UntilTurn mark []
-  pub until-last : UntilTurn mark (called xs ∷ []) ↔ Until mark xs
-  pub until-called : UntilTurn mark (called xs ∷ t ∷ ts) ↔ (Never mark xs × UntilTurn mark (t ∷ ts))
-  pub until-closed : UntilTurn mark (closed y ∷ ts) ↔ UntilTurn mark ts
+  pub until-last : UntilTurn mark (callTurn xs ∷ []) ↔ Until mark xs
+  pub until-called : UntilTurn mark (callTurn xs ∷ t ∷ ts) ↔ (Never mark xs × UntilTurn mark (t ∷ ts))
+  pub until-closed : UntilTurn mark (closeTurn y ∷ ts) ↔ UntilTurn mark ts
 
 pub turns-mean : {S : Type 0} (v : S) (xs : List (Entry S)) (y : Closing S) (t : Turn S) (ts : List (Turn S)) (mark : S → ℕ) → TurnsMean v xs y t ts mark
 turns-mean v xs y t ts mark =
@@ -170,11 +170,11 @@ by-contract s z m n y = (
 -- each turn went as the contract of its door says, and what was seen of it
 pub record Went (v : Vault) (xs : List (Entry Vault)) (y : Closing Vault) (ts : List (Turn Vault)) : Type 0 where
   pub none : Turns v []
-  pub calls-went : Turns v (called xs ∷ ts) ↔ (Steps v xs × Turns (lastOf v xs) ts)
-  pub closing-went : Turns v (closed y ∷ ts) ↔ (ByContract (v .settings) (v .memory) y (y .after .settings) (y .after .memory) × Turns (y .after) ts)
+  pub calls-went : Turns v (callTurn xs ∷ ts) ↔ (Steps v xs × Turns (lastOf v xs) ts)
+  pub closing-went : Turns v (closeTurn y ∷ ts) ↔ (ByContract (v .settings) (v .memory) y (y .after .settings) (y .after .memory) × Turns (y .after) ts)
   pub saw-none : sawTurns [] ≡ []
-  pub saw-called : sawTurns (called xs ∷ ts) ≡ exchanged (saw xs) ∷ sawTurns ts
-  pub saw-closed : sawTurns (closed y ∷ ts) ≡ told (y .refusal) (y .table) ∷ sawTurns ts
+  pub saw-called : sawTurns (callTurn xs ∷ ts) ≡ exchanged (saw xs) ∷ sawTurns ts
+  pub saw-closed : sawTurns (closeTurn y ∷ ts) ≡ told (y .refusal) (y .table) ∷ sawTurns ts
 
 pub went : (v : Vault) (xs : List (Entry Vault)) (y : Closing Vault) (ts : List (Turn Vault)) → Went v xs y ts
 went v xs y ts = record { none = tt; calls-went = (λ h. h, λ h. h); closing-went = (λ h. h, λ h. h); saw-none = refl; saw-called = refl; saw-closed = refl }
@@ -182,12 +182,12 @@ went v xs y ts = record { none = tt; calls-went = (λ h. h, λ h. h); closing-we
 -- the same with a receiver, which a closing leaves byte for byte
 pub record WentOn (v : LineVault) (xs : List (Entry LineVault)) (y : Closing LineVault) (ts : List (Turn LineVault)) : Type 0 where
   pub none : LineTurns v []
-  pub calls-went : LineTurns v (called xs ∷ ts) ↔ (Receives v xs × LineTurns (lastOf v xs) ts)
-  pub closing-went : LineTurns v (closed y ∷ ts)
+  pub calls-went : LineTurns v (callTurn xs ∷ ts) ↔ (Receives v xs × LineTurns (lastOf v xs) ts)
+  pub closing-went : LineTurns v (closeTurn y ∷ ts)
       ↔ ((ByContract (v .line .settings) (v .memory) y (y .after .line .settings) (y .after .memory) × (y .after .line .receiver ≡ v .line .receiver)) × LineTurns (y .after) ts)
   pub saw-none : sawLineTurns v [] ≡ []
-  pub saw-called : sawLineTurns v (called xs ∷ ts) ≡ exchanged (sawOn v xs) ∷ sawLineTurns (lastOf v xs) ts
-  pub saw-closed : sawLineTurns v (closed y ∷ ts) ≡ told (y .refusal) (y .table) ∷ sawLineTurns (y .after) ts
+  pub saw-called : sawLineTurns v (callTurn xs ∷ ts) ≡ exchanged (sawOn v xs) ∷ sawLineTurns (lastOf v xs) ts
+  pub saw-closed : sawLineTurns v (closeTurn y ∷ ts) ≡ told (y .refusal) (y .table) ∷ sawLineTurns (y .after) ts
 
 pub went-on : (v : LineVault) (xs : List (Entry LineVault)) (y : Closing LineVault) (ts : List (Turn LineVault)) → WentOn v xs y ts
 went-on v xs y ts = record { none = tt; calls-went = (λ h. h, λ h. h); closing-went = (λ h. h, λ h. h); saw-none = refl; saw-called = refl; saw-closed = refl }

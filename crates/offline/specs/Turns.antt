@@ -18,25 +18,25 @@ pub record Closing (S : Type 0) : Type 0 where
   pub after : S
 
 pub data Turn (S : Type 0) : Type 0 where
-  called : List (Entry S) → Turn S
-  closed : Closing S → Turn S
+  callTurn : List (Entry S) → Turn S
+  closeTurn : Closing S → Turn S
 
 -- what lies with the caller after the last
 abbrev pub lastTurn : {S : Type 0} → S → List (Turn S) → S
 lastTurn v [] = v
-lastTurn v (called xs ∷ ts) = lastTurn (lastOf v xs) ts
-lastTurn v (closed y ∷ ts) = lastTurn (y .after) ts
+lastTurn v (callTurn xs ∷ ts) = lastTurn (lastOf v xs) ts
+lastTurn v (closeTurn y ∷ ts) = lastTurn (y .after) ts
 
 abbrev pub deedsOf : {S : Type 0} → List (Turn S) → List Deed
 deedsOf [] = []
-deedsOf (called xs ∷ ts) = calls (eventsOf xs) ∷ deedsOf ts
-deedsOf (closed y ∷ ts) = closing (y .lent) ∷ deedsOf ts
+deedsOf (callTurn xs ∷ ts) = calls (eventsOf xs) ∷ deedsOf ts
+deedsOf (closeTurn y ∷ ts) = closing (y .lent) ∷ deedsOf ts
 
 -- what each call got back; a closing tells a host nothing
 abbrev pub toldTurns : {S : Type 0} → List (Turn S) → List (List Told)
 toldTurns [] = []
-toldTurns (called xs ∷ ts) = toldOf xs ∷ toldTurns ts
-toldTurns (closed y ∷ ts) = toldTurns ts
+toldTurns (callTurn xs ∷ ts) = toldOf xs ∷ toldTurns ts
+toldTurns (closeTurn y ∷ ts) = toldTurns ts
 
 -- "up to and including the first accepted password": only the last call may leave a verified mark of 1, where `marked` tells the mark
 abbrev pub Never : {S : Type 0} → (S → ℕ) → List (Entry S) → Type 0
@@ -45,9 +45,9 @@ Never marked (x ∷ xs) = (marked (x .after) ≢ 1) × Never marked xs
 
 abbrev pub UntilTurn : {S : Type 0} → (S → ℕ) → List (Turn S) → Type 0
 UntilTurn marked [] = Unit {0}
-UntilTurn marked (called xs ∷ []) = Until marked xs
-UntilTurn marked (called xs ∷ t ∷ ts) = Never marked xs × UntilTurn marked (t ∷ ts)
-UntilTurn marked (closed y ∷ ts) = UntilTurn marked ts
+UntilTurn marked (callTurn xs ∷ []) = Until marked xs
+UntilTurn marked (callTurn xs ∷ t ∷ ts) = Never marked xs × UntilTurn marked (t ∷ ts)
+UntilTurn marked (closeTurn y ∷ ts) = UntilTurn marked ts
 
 -- bystrodol_close_gaps went as its contract says, on these settings and this memory before it and after it
 abbrev pub ByContract : {S : Type 0} → Settings → Memory → Closing S → Settings → Memory → Type 0
@@ -57,23 +57,23 @@ ByContract s m y z n = record { refusal = y .refusal; table = y .table; after = 
 
 abbrev pub Turns : Vault → List (Turn Vault) → Type 0
 Turns v [] = Unit {0}
-Turns v (called xs ∷ ts) = Steps v xs × Turns (lastOf v xs) ts
-Turns v (closed y ∷ ts) = ByContract (v .settings) (v .memory) y (y .after .settings) (y .after .memory) × Turns (y .after) ts
+Turns v (callTurn xs ∷ ts) = Steps v xs × Turns (lastOf v xs) ts
+Turns v (closeTurn y ∷ ts) = ByContract (v .settings) (v .memory) y (y .after .settings) (y .after .memory) × Turns (y .after) ts
 
 abbrev pub sawTurns : List (Turn Vault) → List Sight
 sawTurns [] = []
-sawTurns (called xs ∷ ts) = exchanged (saw xs) ∷ sawTurns ts
-sawTurns (closed y ∷ ts) = told (y .refusal) (y .table) ∷ sawTurns ts
+sawTurns (callTurn xs ∷ ts) = exchanged (saw xs) ∷ sawTurns ts
+sawTurns (closeTurn y ∷ ts) = told (y .refusal) (y .table) ∷ sawTurns ts
 
 -- ---- with a receiver, which is not lent to a closing
 
 abbrev pub LineTurns : LineVault → List (Turn LineVault) → Type 0
 LineTurns v [] = Unit {0}
-LineTurns v (called xs ∷ ts) = Receives v xs × LineTurns (lastOf v xs) ts
-LineTurns v (closed y ∷ ts) =
+LineTurns v (callTurn xs ∷ ts) = Receives v xs × LineTurns (lastOf v xs) ts
+LineTurns v (closeTurn y ∷ ts) =
     (ByContract (v .line .settings) (v .memory) y (y .after .line .settings) (y .after .memory) × (y .after .line .receiver ≡ v .line .receiver)) × LineTurns (y .after) ts
 
 abbrev pub sawLineTurns : LineVault → List (Turn LineVault) → List Sight
 sawLineTurns v [] = []
-sawLineTurns v (called xs ∷ ts) = exchanged (sawOn v xs) ∷ sawLineTurns (lastOf v xs) ts
-sawLineTurns v (closed y ∷ ts) = told (y .refusal) (y .table) ∷ sawLineTurns (y .after) ts
+sawLineTurns v (callTurn xs ∷ ts) = exchanged (sawOn v xs) ∷ sawLineTurns (lastOf v xs) ts
+sawLineTurns v (closeTurn y ∷ ts) = told (y .refusal) (y .table) ∷ sawLineTurns (y .after) ts

@@ -23,7 +23,7 @@ use Rattle.dialogues.proofs.FromC.Steps.{same-vault}
 use Rattle.dialogues.proofs.FromC.Secrets.{SameOpen, plain-open, mark-bytes}
 use Rattle.offline.specs.CloseGaps.{Closed, closeOf}
 use Rattle.offline.specs.Records.{closedOf, movedAt}
-use Rattle.offline.specs.Turns.{Closing, closed, ByContract, Turns}
+use Rattle.offline.specs.Turns.{Closing, closeTurn, ByContract, Turns}
 use Rattle.offline.proofs.Gaps.Refusals.{ClosingLengths, closing-mean, CloseEnds, close-refusals, close-is, Passes, passes}
 use Rattle.offline.proofs.Gaps.Closes.{Closes, closes, Followed, goes-down}
 use Rattle.offline.proofs.Gaps.Again.{sound-closed}
@@ -33,7 +33,7 @@ use Rattle.offline.proofs.Gaps.Again.{sound-closed}
 pub close-door : (v : Vault) (z : Settings) (refusal : ℕ) (table t i table′ : List ℕ)
     → ((n b d : List ℕ) → closedOf (movedAt z refusal) t i table′ n b d ≡ closeOf core (readerOf (v .settings) (v .memory .templates) (v .memory .index) n b d) table)
     → Turns v
-    (closed
+    (closeTurn
     record {
       lent = table;
       refusal = refusal;

@@ -11,8 +11,7 @@ use lib.ListN.{length}
 use borrow.Author.Tests.{ne-eqb}
 use Rattle.protocol.specs.declared.Settings.{Settings}
 use Rattle.protocol.specs.declared.Receiver.{Receiver}
-use Rattle.protocol.specs.Reader.{Plain, Reader, locked}
-use Rattle.protocol.specs.Reader as readers
+use Rattle.protocol.specs.Reader.{closed, Plain, Reader, locked}
 use Rattle.protocol.specs.Records.{marksOf}
 use Rattle.protocol.specs.Call.{core, Told, Ended}
 use Rattle.protocol.specs.Dialogue.{Event, received, switch, on}
@@ -32,7 +31,7 @@ use Rattle.dialogues.proofs.Lines.ReceiverCalls.{as-call, switch-reader}
 use Rattle.dialogues.proofs.Secrets.ReceiverLock.{SameHeld}
 use Rattle.offline.specs.CloseGaps.{Closed, closeOf}
 use Rattle.offline.specs.Life.{PairedDeeds}
-use Rattle.offline.specs.Turns.{Closing, Turn, called, closed, deedsOf, toldTurns, Never, UntilTurn, ByContract, Turns, LineTurns}
+use Rattle.offline.specs.Turns.{Closing, Turn, callTurn, closeTurn, deedsOf, toldTurns, Never, UntilTurn, ByContract, Turns, LineTurns}
 use Rattle.offline.proofs.Gaps.StaysLegal.{closed-legal}
 use Rattle.offline.proofs.Life.Library.{close-length}
 use Rattle.offline.proofs.Life.Secrets.{closed-copy, still-locked, close-plain}
@@ -52,7 +51,7 @@ unfolding marked
 closing-copies s m l none y w z z′ n n′ lent p q =
     let at : Reader = readerAt (withVerified 0 s) m in
     let fit : FitRecord (withVerified 0 s) = fits (withVerified 0 s) m l in
-    let still : at .plain .transfer ≡ readers.closed = rw (none, fit .none none) (words.kept .transfer-none (marksOf (withVerified 0 s)) (fit .marks)) in
+    let still : at .plain .transfer ≡ closed = rw (none, fit .none none) (words.kept .transfer-none (marksOf (withVerified 0 s)) (fit .marks)) in
     let copy : closeOf core (readerAt (withVerified 1 s) m) (w .lent) ≡ marked true (closeOf core at (y .lent)) =
     (λ j. closeOf core (remarked (withVerified 0 s) m fit 1 (omega arith) j) (sym lent j)) ∙ closed-copy core at still true (y .lent)
     in
@@ -140,23 +139,23 @@ never-plain (x ∷ xs) v (p, q) l k (n, u) =
 pub turns-answer-alike : (ts us : List (Turn Vault)) (v w : Vault) → Turns v ts → Turns w us → UntilTurn (λ (u : Vault). u .settings .verified) ts
     → PairedDeeds (length (v .memory .templates) / 512) (deedsOf ts) (deedsOf us) → Together (v .settings) (v .memory) (w .settings) (w .memory) → toldTurns ts ≡ toldTurns us
 turns-answer-alike [] [] v w p q u pair t = refl
-turns-answer-alike [] (called ys ∷ us) v w p q u pair t = absurd pair
-turns-answer-alike [] (closed y ∷ us) v w p q u pair t = absurd pair
-turns-answer-alike (called xs ∷ ts) [] v w p q u pair t = absurd pair
-turns-answer-alike (closed y ∷ ts) [] v w p q u pair t = absurd pair
-turns-answer-alike (called xs ∷ ts) (closed y ∷ us) v w p q u pair t = absurd pair
-turns-answer-alike (closed y ∷ ts) (called xs ∷ us) v w p q u pair t = absurd pair
-turns-answer-alike (closed x ∷ ts) (closed y ∷ us) v w (a, p) (b, q) u pair t =
+turns-answer-alike [] (callTurn ys ∷ us) v w p q u pair t = absurd pair
+turns-answer-alike [] (closeTurn y ∷ us) v w p q u pair t = absurd pair
+turns-answer-alike (callTurn xs ∷ ts) [] v w p q u pair t = absurd pair
+turns-answer-alike (closeTurn y ∷ ts) [] v w p q u pair t = absurd pair
+turns-answer-alike (callTurn xs ∷ ts) (closeTurn y ∷ us) v w p q u pair t = absurd pair
+turns-answer-alike (closeTurn y ∷ ts) (callTurn xs ∷ us) v w p q u pair t = absurd pair
+turns-answer-alike (closeTurn x ∷ ts) (closeTurn y ∷ us) v w (a, p) (b, q) u pair t =
     let same : length (x .after .memory .templates) ≡ length (v .memory .templates) =
     ap (λ (e : Closed). length (e .after .guarded .templates)) a ∙ close-length core core-holds (readerIn v) (x .lent)
     in
     turns-answer-alike ts us (x .after) (y .after) p q u (subst (λ (k : ℕ). PairedDeeds (k / 512) (deedsOf ts) (deedsOf us)) (sym same) pair)
     (together-closed (v .settings) (x .after .settings) (v .memory) (x .after .memory) (w .settings) (y .after .settings) (w .memory) (y .after .memory) x y a b t)
-turns-answer-alike (called xs ∷ []) (called ys ∷ []) v w (a, p) (b, q) u (pair, more) t =
+turns-answer-alike (callTurn xs ∷ []) (callTurn ys ∷ []) v w (a, p) (b, q) u (pair, more) t =
     ap (λ (z : List Told). z ∷ []) (vault-second-half v w (t .one) (t .other) (t .key) (t .shut) (t .same) (t .pages) xs ys a b u pair .told)
-turns-answer-alike (called xs ∷ []) (called ys ∷ called zs ∷ us) v w (a, p) (b, q) u (pair, more) t = absurd more
-turns-answer-alike (called xs ∷ []) (called ys ∷ closed z ∷ us) v w (a, p) (b, q) u (pair, more) t = absurd more
-turns-answer-alike (called xs ∷ c ∷ ts) (called ys ∷ us) v w (a, p) (b, q) (never, u) (pair, more) t =
+turns-answer-alike (callTurn xs ∷ []) (callTurn ys ∷ callTurn zs ∷ us) v w (a, p) (b, q) u (pair, more) t = absurd more
+turns-answer-alike (callTurn xs ∷ []) (callTurn ys ∷ closeTurn z ∷ us) v w (a, p) (b, q) u (pair, more) t = absurd more
+turns-answer-alike (callTurn xs ∷ c ∷ ts) (callTurn ys ∷ us) v w (a, p) (b, q) (never, u) (pair, more) t =
     let blind = vault-second-half v w (t .one) (t .other) (t .key) (t .shut) (t .same) (t .pages) xs ys a b (never-until (λ (u : Vault). u .settings .verified) xs never) pair in
     let plain = never-plain xs v a (t .one) (locks (v .settings) (v .memory) (t .key) (t .shut)) never in
     ap₂ (λ (z : List Told) (rest : List (List Told)). z ∷ rest) (blind .told)
@@ -193,25 +192,25 @@ pub line-turns-answer-alike : (ts us : List (Turn LineVault)) (v w : LineVault) 
     → PairedDeeds (length (v .memory .templates) / 512) (deedsOf ts) (deedsOf us) → Together (v .line .settings) (v .memory) (w .line .settings) (w .memory)
     → v .line .receiver .count ≤ 267 → w .line .receiver .count ≤ 267 → SameHeld (v .line .receiver) (w .line .receiver) → toldTurns ts ≡ toldTurns us
 line-turns-answer-alike [] [] v w p q u pair t f g h = refl
-line-turns-answer-alike [] (called ys ∷ us) v w p q u pair t f g h = absurd pair
-line-turns-answer-alike [] (closed y ∷ us) v w p q u pair t f g h = absurd pair
-line-turns-answer-alike (called xs ∷ ts) [] v w p q u pair t f g h = absurd pair
-line-turns-answer-alike (closed y ∷ ts) [] v w p q u pair t f g h = absurd pair
-line-turns-answer-alike (called xs ∷ ts) (closed y ∷ us) v w p q u pair t f g h = absurd pair
-line-turns-answer-alike (closed y ∷ ts) (called xs ∷ us) v w p q u pair t f g h = absurd pair
-line-turns-answer-alike (closed x ∷ ts) (closed y ∷ us) v w ((a, c), p) ((b, d), q) u pair t f g h =
+line-turns-answer-alike [] (callTurn ys ∷ us) v w p q u pair t f g h = absurd pair
+line-turns-answer-alike [] (closeTurn y ∷ us) v w p q u pair t f g h = absurd pair
+line-turns-answer-alike (callTurn xs ∷ ts) [] v w p q u pair t f g h = absurd pair
+line-turns-answer-alike (closeTurn y ∷ ts) [] v w p q u pair t f g h = absurd pair
+line-turns-answer-alike (callTurn xs ∷ ts) (closeTurn y ∷ us) v w p q u pair t f g h = absurd pair
+line-turns-answer-alike (closeTurn y ∷ ts) (callTurn xs ∷ us) v w p q u pair t f g h = absurd pair
+line-turns-answer-alike (closeTurn x ∷ ts) (closeTurn y ∷ us) v w ((a, c), p) ((b, d), q) u pair t f g h =
     let same : length (x .after .memory .templates) ≡ length (v .memory .templates) =
     ap (λ (e : Closed). length (e .after .guarded .templates)) a ∙ close-length core core-holds (lineIn v .reader) (x .lent)
     in
     line-turns-answer-alike ts us (x .after) (y .after) p q u (subst (λ (k : ℕ). PairedDeeds (k / 512) (deedsOf ts) (deedsOf us)) (sym same) pair)
     (together-closed (v .line .settings) (x .after .line .settings) (v .memory) (x .after .memory) (w .line .settings) (y .after .line .settings) (w .memory) (y .after .memory) x y a b t)
     (rw c f) (rw d g) (rw (c, d) h)
-line-turns-answer-alike (called xs ∷ []) (called ys ∷ []) v w (a, p) (b, q) u (pair, more) t f g h =
+line-turns-answer-alike (callTurn xs ∷ []) (callTurn ys ∷ []) v w (a, p) (b, q) u (pair, more) t f g h =
     ap (λ (z : List Told). z ∷ [])
     (line-vault-second-half v w record { reader = t .one; few = f } record { reader = t .other; few = g } (t .key) (t .shut) (t .same) (t .pages) h xs ys a b u pair .told)
-line-turns-answer-alike (called xs ∷ []) (called ys ∷ called zs ∷ us) v w (a, p) (b, q) u (pair, more) t f g h = absurd more
-line-turns-answer-alike (called xs ∷ []) (called ys ∷ closed z ∷ us) v w (a, p) (b, q) u (pair, more) t f g h = absurd more
-line-turns-answer-alike (called xs ∷ c ∷ ts) (called ys ∷ us) v w (a, p) (b, q) (never, u) (pair, more) t f g h =
+line-turns-answer-alike (callTurn xs ∷ []) (callTurn ys ∷ callTurn zs ∷ us) v w (a, p) (b, q) u (pair, more) t f g h = absurd more
+line-turns-answer-alike (callTurn xs ∷ []) (callTurn ys ∷ closeTurn z ∷ us) v w (a, p) (b, q) u (pair, more) t f g h = absurd more
+line-turns-answer-alike (callTurn xs ∷ c ∷ ts) (callTurn ys ∷ us) v w (a, p) (b, q) (never, u) (pair, more) t f g h =
     let one : LegalLine v = record { reader = t .one; few = f } in
     let other : LegalLine w = record { reader = t .other; few = g } in
     let blind = line-vault-second-half v w one other (t .key) (t .shut) (t .same) (t .pages) h xs ys a b (never-until (λ (u : LineVault). u .line .settings .verified) xs never) pair in

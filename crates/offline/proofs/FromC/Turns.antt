@@ -22,7 +22,7 @@ use Rattle.dialogues.proofs.FromC.Steps.{steps-end, steps-saw, LegalVault, coun
 use Rattle.dialogues.proofs.FromC.Lines.{receives-end, receives-saw, LegalLine}
 use Rattle.offline.specs.CloseGaps.{Closed}
 use Rattle.offline.specs.Life.{deed, lastly, deedOn, lastlyOn, Sight, exchanged, toldBy, sights, sightsOn, lifeOf}
-use Rattle.offline.specs.Turns.{Turn, called, closed, lastTurn, deedsOf, Turns, sawTurns, LineTurns, sawLineTurns}
+use Rattle.offline.specs.Turns.{Turn, callTurn, closeTurn, lastTurn, deedsOf, Turns, sawTurns, LineTurns, sawLineTurns}
 use Rattle.offline.proofs.Life.Library.{ever-legal, deeds-tell, life-faithful}
 use Rattle.offline.proofs.Life.Deleted.{StandsOrLost, lost-by-deletion}
 use Rattle.offline.proofs.Life.Lines.{runDeeds, life-few, as-deeds, sights-is, line-legal, line-lost-by-deletion, line-faithful}
@@ -32,33 +32,33 @@ use Rattle.offline.proofs.Life.Lines.{runDeeds, life-few, as-deeds, sig
 turns-end : (ts : List (Turn Vault)) (v : Vault) → Turns v ts → readerIn (lastTurn v ts) ≡ lastly core (readerIn v) (deedsOf ts)
 unfolding lastly deed
 turns-end [] v q = refl
-turns-end (called xs ∷ ts) v (p, q) = turns-end ts (lastOf v xs) q ∙ ap (λ (r : Reader). lastly core r (deedsOf ts)) (steps-end xs v p)
-turns-end (closed y ∷ ts) v (p, q) = turns-end ts (y .after) q ∙ ap (λ (e : Closed). lastly core (e .after) (deedsOf ts)) p
+turns-end (callTurn xs ∷ ts) v (p, q) = turns-end ts (lastOf v xs) q ∙ ap (λ (r : Reader). lastly core r (deedsOf ts)) (steps-end xs v p)
+turns-end (closeTurn y ∷ ts) v (p, q) = turns-end ts (y .after) q ∙ ap (λ (e : Closed). lastly core (e .after) (deedsOf ts)) p
 
 turns-saw : (ts : List (Turn Vault)) (v : Vault) → Turns v ts → sawTurns ts ≡ sights core (readerIn v) (deedsOf ts)
 unfolding sights
 turns-saw [] v q = refl
-turns-saw (called xs ∷ ts) v (p, q) =
+turns-saw (callTurn xs ∷ ts) v (p, q) =
     ap (λ (ss : List Sight). exchanged (saw xs) ∷ ss) (turns-saw ts (lastOf v xs) q)
     ∙ (λ j. exchanged (steps-saw xs v p j) ∷ sights core (steps-end xs v p j) (deedsOf ts))
-turns-saw (closed y ∷ ts) v (p, q) =
+turns-saw (closeTurn y ∷ ts) v (p, q) =
     ap (λ (ss : List Sight). toldBy record { refusal = y .refusal; table = y .table; after = readerIn (y .after) } ∷ ss) (turns-saw ts (y .after) q)
     ∙ ap (λ (e : Closed). toldBy e ∷ sights core (e .after) (deedsOf ts)) p
 
 line-turns-end : (ts : List (Turn LineVault)) (v : LineVault) → LineTurns v ts → lineIn (lastTurn v ts) ≡ lastlyOn core (lineIn v) (deedsOf ts)
 unfolding lastlyOn deedOn
 line-turns-end [] v q = refl
-line-turns-end (called xs ∷ ts) v (p, q) = line-turns-end ts (lastOf v xs) q ∙ ap (λ (x : receivers.Line). lastlyOn core x (deedsOf ts)) (receives-end xs v p)
-line-turns-end (closed y ∷ ts) v ((p, h), q) =
+line-turns-end (callTurn xs ∷ ts) v (p, q) = line-turns-end ts (lastOf v xs) q ∙ ap (λ (x : receivers.Line). lastlyOn core x (deedsOf ts)) (receives-end xs v p)
+line-turns-end (closeTurn y ∷ ts) v ((p, h), q) =
     line-turns-end ts (y .after) q ∙ (λ j. lastlyOn core (receivers.line (p j .after) (h j)) (deedsOf ts))
 
 line-turns-saw : (ts : List (Turn LineVault)) (v : LineVault) → LineTurns v ts → sawLineTurns v ts ≡ sightsOn core (lineIn v) (deedsOf ts)
 unfolding sightsOn deedOn
 line-turns-saw [] v q = refl
-line-turns-saw (called xs ∷ ts) v (p, q) =
+line-turns-saw (callTurn xs ∷ ts) v (p, q) =
     ap (λ (ss : List Sight). exchanged (sawOn v xs) ∷ ss) (line-turns-saw ts (lastOf v xs) q)
     ∙ (λ j. exchanged (receives-saw xs v p j) ∷ sightsOn core (receives-end xs v p j) (deedsOf ts))
-line-turns-saw (closed y ∷ ts) v ((p, h), q) =
+line-turns-saw (closeTurn y ∷ ts) v ((p, h), q) =
     ap (λ (ss : List Sight). toldBy record { refusal = y .refusal; table = y .table; after = lineIn (y .after) .reader } ∷ ss) (line-turns-saw ts (y .after) q)
     ∙ (λ j. toldBy (p j) ∷ sightsOn core (receivers.line (p j .after) (h j)) (deedsOf ts))
 

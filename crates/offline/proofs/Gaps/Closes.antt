@@ -17,7 +17,7 @@ use Rattle.protocol.specs.Call.{Shape}
 use Rattle.offline.specs.CloseGaps.{rank, newPage, closedTemplates, followed, following, closedUp, tableOf, Closed, closeAs, closeOf}
 use Rattle.protocol.proofs.Laws.Below.{length-listed, at-listed}
 use Rattle.protocol.proofs.Laws.Count.{count-le}
-use Rattle.offline.proofs.Laws.Gaps.{comes, rank-lt, length-closed, page-moved, page-rest, fine-closed, stored-closed, same-count}
+use Rattle.offline.proofs.Laws.Gaps.{source, rank-lt, length-closed, page-moved, page-rest, fine-closed, stored-closed, same-count}
 use Rattle.protocol.proofs.Promises.Words.Told.{pages, page, has}
 use Rattle.offline.proofs.Gaps.Refusals.{Able, able, close-is, passes}
 
@@ -84,7 +84,7 @@ module _ (σ : Shape) (ok : σ .most ≤ 8 * σ .indexed) (r : Reader) (table : 
         vacant = λ p l e. at-listed (newPage x) c p l ∙ ap (λ (b : Bool). cond b (rank x p) 0xffff) e;
         kth =
             λ k l.
-            let d = comes x c k l in
+            let d = source x c k l in
             record {
               old = d .page;
               below = d .below;

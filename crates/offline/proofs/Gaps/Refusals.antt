@@ -78,7 +78,6 @@ module _ (σ : Shape) (r : Reader) (table : List ℕ) where
     pub long : length (r .guarded .templates) ≡ 512 * capacity (r .guarded)
     pub high : capacity (r .guarded) ≤ σ .most
     pub wide : length (r .guarded .index) ≡ σ .indexed
-    pub table-long : length table ≡ capacity (r .guarded)
     pub clear : T (clearFrom (r .guarded .index) (capacity (r .guarded)))
 
   pub able : T (fitClosing σ (r .guarded) table) → T (sound r) → Able
@@ -89,7 +88,6 @@ module _ (σ : Shape) (r : Reader) (table : List ℕ) where
         long = eqb→eq (length (g .templates)) (512 * capacity g) (search (and-l, and-r) depth 8);
         high = leb→le (capacity g) (σ .most) (search (and-l, and-r) depth 8);
         wide = eqb→eq (length (g .index)) (σ .indexed) (search (and-l, and-r) depth 8);
-        table-long = eqb→eq (length table) (capacity g) (search (and-l, and-r) depth 8);
         clear = search (and-l, and-r) depth 8;
       }
 

@@ -14,7 +14,7 @@ use lib.Seq.{take-at, drop-at, take-all, length-take-le, take-add, drop-append-a
 use Rattle.protocol.specs.Bytes.{part, zeros}
 use Rattle.protocol.specs.Tests.{countBelow}
 use Rattle.protocol.specs.Index.{stored, setBits, clearFrom}
-use Rattle.offline.specs.CloseGaps.{rank, newPage, gathered, closedTemplates, firstBits, closedIndex}
+use Rattle.offline.specs.CloseGaps.{rank, gathered, closedTemplates, firstBits, closedIndex}
 use Rattle.protocol.proofs.Laws.Logic.{eqb-same}
 use Rattle.protocol.proofs.Laws.Lists.{part-left, part-zeros}
 use Rattle.protocol.proofs.Laws.Index.{Fine, stored-with, stored-zeros, fine-with, fine-zeros, clear-to}
@@ -40,31 +40,22 @@ rank-lt x p (suc n) h e = go (eq-or-lt-of-le (le-of-suc-le-suc h)) (λ l. rank-l
     go (inl q) ih = rw (← q, e) (omega arith)
     go (inr l) ih = omega (arith, ih l)
 
--- so two stored pages with one new number are one
-pub rank-one : (x : List ℕ) (p q : ℕ) → stored x p ≡ true → stored x q ≡ true → rank x p ≡ rank x q → p ≡ q
-rank-one x p q a b e = go (decLt p q) (decLt q p)
-  where
-    go : Dec (p < q) → Dec (q < p) → p ≡ q
-    go (yes l) m = absurd (omega (arith, rank-lt x p q l a))
-    go (no l) (yes m) = absurd (omega (arith, rank-lt x q p m b))
-    go (no l) (no m) = omega arith
-
 -- every number below the count is some stored page's
-pub record Comes (x : List ℕ) (c q : ℕ) : Type 0 where
+pub record Source (x : List ℕ) (c q : ℕ) : Type 0 where
   pub page : ℕ
   pub below : page < c
   pub there : stored x page ≡ true
   pub new : rank x page ≡ q
 
-pub comes : (x : List ℕ) (c q : ℕ) → q < rank x c → Comes x c q
+pub source : (x : List ℕ) (c q : ℕ) → q < rank x c → Source x c q
 unfolding rank countBelow
-comes x zero q h = absurd (not-suc-le-zero h)
-comes x (suc c) q h = go (stored x c) refl (decLt q (rank x c)) (comes x c q)
+source x zero q h = absurd (not-suc-le-zero h)
+source x (suc c) q h = go (stored x c) refl (decLt q (rank x c)) (source x c q)
   where
-    more : Comes x c q → Comes x (suc c) q
+    more : Source x c q → Source x (suc c) q
     more k = record { page = k .page; below = omega (arith, k .below); there = k .there; new = k .new }
 
-    go : (b : Bool) → stored x c ≡ b → Dec (q < rank x c) → (q < rank x c → Comes x c q) → Comes x (suc c) q
+    go : (b : Bool) → stored x c ≡ b → Dec (q < rank x c) → (q < rank x c → Source x c q) → Source x (suc c) q
     go b e (yes l) ih = more (ih l)
     go true e (no l) ih =
         let k : rank x (suc c) ≡ 1 + rank x c = rank-more x c ∙ ap (λ (b : Bool). cond b 1 0 + rank x c) e in
@@ -233,11 +224,3 @@ module _ (m c : ℕ) (t x : List ℕ) (h : length t ≡ 512 * c) (wide : length 
 
   pub rank-still : (p : ℕ) → p ≤ rank x c → rank (closedIndex c x) p ≡ p
   rank-still p l = rw wide (rank-first m k p few l)
-
-  pub table-again : (p : ℕ) → newPage (closedIndex c x) p ≡ cond (ltb p (rank x c)) p 0xffff
-  unfolding newPage
-  table-again p = go (decLt p k)
-    where
-      go : Dec (p < k) → cond (stored (closedIndex c x) p) (rank (closedIndex c x) p) 0xffff ≡ cond (ltb p (rank x c)) p 0xffff
-      go (yes u) = rw (stored-closed p, lt-ltb p k u) (rank-still p (omega arith))
-      go (no u) = rw (stored-closed p, le-ltb p k (omega arith)) refl

@@ -85,11 +85,11 @@ module _ (σ : Shape) (ok : σ .most ≤ 8 * σ .indexed) where
   closing-stays r table = close-kinds σ r table (λ (e : Closed). e .refusal ≢ 0 → e .after ≡ r) (λ n d. refl) (λ t u d. absurd (d refl))
 
   -- where it goes, and that it is stored there
-  pub record Goes (r : Reader) (q : ℕ) (e : Closed) : Type 0 where
+  pub record MovedTo (r : Reader) (q : ℕ) (e : Closed) : Type 0 where
     pub bit-set : has (e .after) (getD (e .table) q 0) ≡ true
     pub bytes : page (e .after) (getD (e .table) q 0) ≡ page r q
 
-  pub closing-goes : (r : Reader) (table : List ℕ) (q : ℕ) → has r q ≡ true → closeOf σ r table .refusal ≡ 0 → Goes r q (closeOf σ r table)
+  pub closing-goes : (r : Reader) (table : List ℕ) (q : ℕ) → has r q ≡ true → closeOf σ r table .refusal ≡ 0 → MovedTo r q (closeOf σ r table)
   closing-goes r table q h z =
       let p = passes σ r table z in
       let c = closes σ ok r table z in

@@ -29,7 +29,7 @@ use Rattle.dialogues.proofs.Library.ValidCount.{Tells, tells-none, tells-count,
 use Rattle.dialogues.proofs.Library.Faithful.{Faithful, Holds, ever-faithful, stays-faithful}
 use Rattle.offline.specs.CloseGaps.{rank, newPage, closedUp, tableOf, Closed, fitClosing, closeAs, closeOf}
 use Rattle.offline.specs.Life.{Deed, calls, closing, deed, lastly, Sight, toldBy, sights, lifeOf}
-use Rattle.offline.proofs.Laws.Gaps.{rank-lt, Comes, comes, length-closed, fine-closed, stored-closed}
+use Rattle.offline.proofs.Laws.Gaps.{rank-lt, Source, source, length-closed, fine-closed, stored-closed}
 use Rattle.offline.proofs.Gaps.Refusals.{Able, able, close-kinds}
 use Rattle.offline.proofs.Gaps.StaysLegal.{closed-legal, closed-faithful}
 
@@ -104,7 +104,7 @@ module _ (σ : Shape) (ok : σ .most ≤ 8 * σ .indexed) where
 
       go : (q : ℕ) → Dec (q < rank x c) → some (f q) (length (tableOf (r .guarded))) ≡ ltb q (rank x c)
       go q (yes l) =
-          let d : Comes x c q = comes x c q l in
+          let d : Source x c q = source x c q l in
           rw (long, lt-ltb q (rank x c) l) (some-at (f q) c (d .page) (d .below) (here q (d .page) (d .below) (d .there) (d .new)))
       go q (no l) = rw (long, le-ltb q (rank x c) (omega arith)) (some-none (f q) c (λ p m. there q p m (omega arith) (stored x p) refl))
 
