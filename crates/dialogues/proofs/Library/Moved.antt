@@ -3,7 +3,7 @@ use mathlib.Core.Bool.{Bool, true, false, _&&_, not}
 use mathlib.Core.Path.{_≡_, refl}
 use mathlib.Core.Logic.{_≢_}
 use mathlib.Core.List.{List, _∷_}
-use Prim.Native.Nat.{ℕ, _<_}
+use Prim.Native.Nat.{ℕ, _+_, _≤_, _<_}
 use native.Mathlib.Omega.{arith}
 use native.Mathlib.Decide.{ℕ-discrete}
 use lib.Dec.{eqb}
@@ -25,10 +25,10 @@ module _ (table : List ℕ) (old : List Act) where
   pub record MovedPages : Type 0 where
     pub goes-on : (p q : ℕ) → Goes p q → live (moved table ∷ old) q ≡ true
     pub no-longer : (q : ℕ) → ((p : ℕ) → Goes p q → ⊥) → live (moved table ∷ old) q ≡ false
-    -- a later DeletChar of the new number takes it away, and one of another number, the old one among them, does not
-    pub taken-away : (p q : ℕ) → Goes p q → live (cut q 1 ∷ moved table ∷ old) q ≡ false
-    pub stays : (p q n : ℕ) → Goes p q → n ≢ q → live (cut n 1 ∷ moved table ∷ old) q ≡ true
-    -- and where no page moved to that number, it takes nothing away
+    -- a later DeletChar with the new number among its pages takes it away, and one without it, whether the old number is among them or not, does not
+    pub taken-away : (q m n : ℕ) → m ≤ q → q < m + n → live (cut m n ∷ moved table ∷ old) q ≡ false
+    pub stays : (p q m n : ℕ) → Goes p q → (m ≤ q → q < m + n → ⊥) → live (cut m n ∷ moved table ∷ old) q ≡ true
+    -- and where no page moved to a number, one of that number takes nothing away
     pub nothing-taken : (n : ℕ) → ((p : ℕ) → Goes p n → ⊥) → (q : ℕ) → live (cut n 1 ∷ moved table ∷ old) q ≡ live (moved table ∷ old) q
 
   comes-to : (p q : ℕ) → Goes p q → live (moved table ∷ old) q ≡ true
@@ -50,8 +50,8 @@ module _ (table : List ℕ) (old : List Act) where
       record {
         goes-on = comes-to;
         no-longer = comes-not;
-        taken-away = λ p q g. rw (in-among q 1 q (omega arith) (omega arith)) refl;
-        stays = λ p q n g d. rw (not-among n 1 q (λ a b. d (omega arith)), comes-to p q g) refl;
+        taken-away = λ q m n a b. rw (in-among m n q a b) refl;
+        stays = λ p q m n g d. rw (not-among m n q d, comes-to p q g) refl;
         nothing-taken = λ n none q. go n none q (ℕ-discrete n q);
       }
     where

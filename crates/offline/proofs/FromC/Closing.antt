@@ -1,5 +1,5 @@
 -- bystrodol_close_gaps at the door for C: over the bytes that lie in a caller's settings, memory and table before it and after it.
-use mathlib.Core.Bool.{true}
+use mathlib.Core.Bool.{true, false}
 use mathlib.Core.Path.{_≡_, refl, sym, ap, _∙_, subst}
 use mathlib.Core.Logic.{_≢_}
 use mathlib.Core.List.{List, [], _∷_}
@@ -13,7 +13,7 @@ use Rattle.protocol.specs.Tests.{countBelow}
 use Rattle.protocol.specs.Reader.{fromPage, Buffer, Reader}
 use Rattle.protocol.specs.Call.{core, sound}
 use Rattle.protocol.specs.Records.{originOf, readerOf}
-use Rattle.dialogues.specs.Doors.{Memory, Vault, readerAt}
+use Rattle.dialogues.specs.Doors.{Memory, Vault, LineVault, readerAt}
 use Rattle.protocol.proofs.Laws.Lines.{Line, unless, Follows}
 use Rattle.protocol.proofs.Promises.Words.Told.{pages, has}
 use Rattle.protocol.proofs.Promises.Words.OneResult.{same-origin}
@@ -23,10 +23,10 @@ use Rattle.dialogues.proofs.FromC.Steps.{same-vault}
 use Rattle.dialogues.proofs.FromC.Secrets.{SameOpen, plain-open, mark-bytes}
 use Rattle.offline.specs.CloseGaps.{Closed, closeOf}
 use Rattle.offline.specs.Records.{closedOf, movedAt}
-use Rattle.offline.specs.Turns.{Closing, closeTurn, ByContract, Turns}
+use Rattle.offline.specs.Turns.{Closing, closeTurn, ByContract, Turns, LineTurns}
 use Rattle.offline.proofs.Gaps.Refusals.{ClosingLengths, closing-mean, CloseEnds, close-refusals, close-is, Passes, passes}
 use Rattle.offline.proofs.Gaps.Closes.{Closes, closes, Followed, goes-down}
-use Rattle.offline.proofs.Gaps.Again.{sound-closed}
+use Rattle.offline.proofs.Gaps.Again.{MovesNothing, sound-closed, moves-nothing}
 
 -- ---- the contract is a turn: what the header's names stand for. Neither notepad nor buffers are lent, so they lie as they lay
 
@@ -42,6 +42,23 @@ pub close-door : (v : Vault) (z : Settings) (refusal : ℕ) (table t i table′ 
     }
     ∷ [])
 close-door v z refusal table t i table′ q = (q (v .memory .notepad) (v .memory .buffer1) (v .memory .buffer2), tt)
+
+-- the same with a receiver, which is not lent either
+pub line-close-door : (v : LineVault) (z : Settings) (refusal : ℕ) (table t i table′ : List ℕ)
+    → ((n b d : List ℕ) → closedOf (movedAt z refusal) t i table′ n b d ≡ closeOf core (readerOf (v .line .settings) (v .memory .templates) (v .memory .index) n b d) table)
+    → LineTurns v
+    (closeTurn
+    record {
+      lent = table;
+      refusal = refusal;
+      table = table′;
+      after = record {
+        line = record { settings = z; receiver = v .line .receiver };
+        memory = record { templates = t; index = i; notepad = v .memory .notepad; buffer1 = v .memory .buffer1; buffer2 = v .memory .buffer2 };
+      };
+    }
+    ∷ [])
+line-close-door v z refusal table t i table′ q = ((q (v .memory .notepad) (v .memory .buffer1) (v .memory .buffer2), refl), tt)
 
 -- ---- the refusals, with an unfit record as a line of its own
 
@@ -85,6 +102,14 @@ module _ {S : Type 0} (s : Settings) (m : Memory) (y : Closing S) (z : Settings)
         ap (λ (x : Closed). x .refusal) q ∙ e .0,
         (ap (λ (x : Closed). x .table) q ∙ e .1 .0, same-vault z s n m (ap (λ (x : Closed). x .after) q ∙ e .1 .1)),
       )
+
+  -- not refused: what lies in templates, index and table, as `Closes` has it
+  pub closing-closes : y .refusal ≡ 0
+      → (let r = readerAt s m in
+      Closes r (countBelow (has r) (pages r)) record { refusal = y .refusal; table = y .table; after = readerAt z n })
+  closing-closes e =
+      let r : Reader = readerAt s m in
+      subst (Closes r (countBelow (has r) (pages r))) (sym q) (closes core core-holds r (y .lent) (sym (ap (λ (x : Closed). x .refusal) q) ∙ e))
 
   pub closing-leaves : y .refusal ≡ 0 → LeftAlone (y .table) s m z n
   unfolding originOf
@@ -153,3 +178,20 @@ module _ {S : Type 0} (s : Settings) (m : Memory) (y : Closing S) (z : Settings)
               let low : new ≤ o = goes-down r o in
               let small : new ≢ 65535 = λ k. omega (arith, lengths .templates) in
               same-origin p new (then ∙ f .page o from ∙ rw (ne-eqb new 65535 small) refl) ∙ sym (ap (λ (w : List ℕ). getD w o 0) table ∙ c .moved o below there)
+
+-- called again on what it left, with a table of as many pages: it is not refused, settings and memory lie as they lay, byte for byte, and the table has each stored page's
+-- own number
+pub closing-again : {S : Type 0} (s z z′ : Settings) (m n n′ : Memory) (y w : Closing S) → ByContract s m y z n → ByContract z n w z′ n′ → y .refusal ≡ 0
+    → length (w .lent) ≡ pages (readerAt s m)
+    → ((w .refusal ≡ 0) × ((z′ ≡ z) × (n′ ≡ n)))
+    × ((p : ℕ) → p < pages (readerAt z n) → (has (readerAt z n) p ≡ true → getD (w .table) p 0 ≡ p) × (has (readerAt z n) p ≡ false → getD (w .table) p 0 ≡ 0xffff))
+closing-again s z z′ m n n′ y w p q e l =
+    let r : Reader = readerAt s m in
+    let after : closeOf core r (y .lent) .after ≡ readerAt z n = sym (ap (λ (x : Closed). x .after) p) in
+    let k : MovesNothing core (readerAt z n) (w .lent) =
+    subst (λ (t : Reader). MovesNothing core t (w .lent)) after (moves-nothing core core-holds r (y .lent) (sym (ap (λ (x : Closed). x .refusal) p) ∙ e) (w .lent) l)
+    in
+    let table = ap (λ (x : Closed). x .table) q in (
+      (ap (λ (x : Closed). x .refusal) q ∙ k .refusal, same-vault z′ z n′ n (ap (λ (x : Closed). x .after) q ∙ k .after)),
+      λ i b. (λ h. ap (λ (t : List ℕ). getD t i 0) table ∙ k .own i b h, λ h. ap (λ (t : List ℕ). getD t i 0) table ∙ k .vacant i b h),
+    )

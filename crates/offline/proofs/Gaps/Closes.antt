@@ -16,8 +16,8 @@ use Rattle.protocol.specs.Reader.{noOrigin, fromPage, Buffer, Reader, capacity}
 use Rattle.protocol.specs.Call.{Shape}
 use Rattle.offline.specs.CloseGaps.{rank, newPage, closedTemplates, followed, following, closedUp, tableOf, Closed, closeAs, closeOf}
 use Rattle.protocol.proofs.Laws.Below.{length-listed, at-listed}
-use Rattle.protocol.proofs.Laws.Count.{count-le}
-use Rattle.offline.proofs.Laws.Gaps.{source, rank-lt, length-closed, page-moved, page-rest, fine-closed, stored-closed, same-count}
+use Rattle.protocol.proofs.Laws.Count.{count-le, below-capacity}
+use Rattle.offline.proofs.Laws.Gaps.{source, rank-lt, rank-one, length-closed, page-moved, page-rest, fine-closed, stored-closed, same-count}
 use Rattle.protocol.proofs.Promises.Words.Told.{pages, page, has}
 use Rattle.offline.proofs.Gaps.Refusals.{Able, able, close-is, passes}
 
@@ -28,7 +28,7 @@ pub record Followed (r : Reader) (b c : Buffer) : Type 0 where
   pub none : b .origin ≡ noOrigin → c .origin ≡ noOrigin
   pub page : (p : ℕ) → b .origin ≡ fromPage p → c .origin ≡ fromPage (countBelow (has r) p)
 
--- page k is the k-th stored page in the old order, counted from 0: it has that page's bytes, and the table says so
+-- page k is the k-th stored page in the old order, counted from 0: it has that page's bytes, and the table says so of that page alone
 pub record Kth (r : Reader) (e : Closed) (k : ℕ) : Type 0 where
   pub old : ℕ
   pub below : old < pages r
@@ -36,6 +36,7 @@ pub record Kth (r : Reader) (e : Closed) (k : ℕ) : Type 0 where
   pub number : countBelow (has r) old ≡ k
   pub bytes : page (e .after) k ≡ page r old
   pub told : getD (e .table) old 0 ≡ k
+  pub only : (p : ℕ) → p < pages r → has r p ≡ true → getD (e .table) p 0 ≡ k → p ≡ old
 
 -- of a reader of which n pages are stored
 pub record Closes (r : Reader) (n : ℕ) (e : Closed) : Type 0 where
@@ -49,6 +50,7 @@ pub record Closes (r : Reader) (n : ℕ) (e : Closed) : Type 0 where
   -- "zeroes the rest, sets the index to match", "The count is the same"
   pub rest : (q : ℕ) → n ≤ q → q < pages r → page (e .after) q ≡ replicate 512 0
   pub bits : (q : ℕ) → has (e .after) q ≡ ltb q n
+  pub stored-pages : setBits (r .guarded .index) ≡ n
   pub count : setBits (e .after .guarded .index) ≡ setBits (r .guarded .index)
   pub templates : length (e .after .guarded .templates) ≡ length (r .guarded .templates)
   pub index : length (e .after .guarded .index) ≡ length (r .guarded .index)
@@ -64,9 +66,14 @@ pub keeps-order : (r : Reader) (p q : ℕ) → p < q → has r p ≡ true → co
 unfolding rank stored bit
 keeps-order r p q l e = rank-lt (r .guarded .index) p q l e
 
--- a page goes down or stays; and while page k is not written yet, the page that is to stand there is still at its old place, above all that were written
+-- a page goes down or stays
 pub goes-down : (r : Reader) (p : ℕ) → countBelow (has r) p ≤ p
 goes-down r p = count-le (has r) p
+
+-- so where pages are written in their new order, from 0 on, one that is to go to page k or above is still at its old place while those below k are written; and while
+-- page k is, it is so too, unless it is page k itself and stays
+pub still-there : (r : Reader) (p k : ℕ) → k ≤ countBelow (has r) p → (k ≤ p) × (k ≡ p → countBelow (has r) p ≡ k)
+still-there r p k l = (omega (arith, goes-down r p), λ e. omega (arith, goes-down r p))
 
 follows-one : (r : Reader) (b : Buffer) → Followed r b (following (r .guarded .index) b)
 unfolding followed rank stored bit
@@ -92,10 +99,12 @@ module _ (σ : Shape) (ok : σ .most ≤ 8 * σ .indexed) (r : Reader) (table : 
               number = d .new;
               bytes = subst (λ (q : ℕ). part (512 * q) 512 (closedTemplates c s x) ≡ part (512 * d .page) 512 s) (d .new) (page-moved c s x (fit .long) (d .page) (d .below) (d .there));
               told = told (d .page) (d .below) (d .there) ∙ d .new;
+              only = λ p l h q. rank-one x p (d .page) h (d .there) (sym (told p l h) ∙ q ∙ sym (d .new));
             };
         bytes = page-moved c s x (fit .long);
         rest = page-rest c s x (fit .long);
         bits = stored-closed (σ .indexed) c s x (fit .long) (fit .wide) small;
+        stored-pages = below-capacity x c (omega (arith, fit .wide, fit .high)) (fit .clear);
         count = same-count (σ .indexed) c s x (fit .long) (fit .wide) small (fit .clear);
         templates = length-closed c s x (fit .long);
         index = fine-closed (σ .indexed) c s x (fit .long) (fit .wide) small .long ∙ sym (fit .wide);

@@ -7,10 +7,11 @@ use native.Mathlib.Omega.{arith}
 use lib.Dec.{T}
 use Rattle.protocol.specs.Index.{stored}
 use Rattle.protocol.specs.Reader.{Transfer, closed, opened, unfit, Origin, noOrigin, fromPage, Buffer, Guarded, Reader, capacity, bufferOf, reader}
-use Rattle.protocol.specs.Call.{Shape, fitBuffers, fitTransfer, legal}
+use Rattle.protocol.specs.Call.{Shape, fitBuffers, fitTransfer, sound, legal}
 use Rattle.offline.specs.CloseGaps.{rank, closedTemplates, closedIndex, followed, following, closedUp, Closed, closeAs, closeOf}
 use Rattle.protocol.proofs.Laws.Index.{Fine}
-use Rattle.protocol.proofs.Laws.Origins.{no-page, same-page, Root, Rooted}
+use Rattle.protocol.proofs.Laws.Origins.{no-page, same-page, Root, Rooted, rooted}
+use Rattle.protocol.proofs.Laws.Logic.{and-r}
 use Rattle.protocol.proofs.Laws.Legal.{Good, legal-of}
 use Rattle.offline.proofs.Laws.Gaps.{rank-le, length-closed, page-moved, fine-closed, clear-closed, new-stored}
 use Rattle.protocol.proofs.Promises.Words.Told.{page}
@@ -105,10 +106,10 @@ module _ (σ : Shape) (ok : σ .most ≤ 8 * σ .indexed) (r : Reader) (table : 
           let same : rank (g .index) p ≡ q = same-page (rank (g .index) p) q d in
           f p e ∙ sym (page-moved (capacity g) (g .templates) (g .index) (k .long) p (o .below) (o .there)) ∙ ap (page (reader (r .plain) (closedUp g))) same
 
-  pub closed-faithful : Legal σ ok r → Faithful r → Faithful (closeOf σ r table .after)
-  unfolding closeAs closedUp bufferOf
-  closed-faithful l f =
+  pub closed-faithful : Faithful r → Faithful (closeOf σ r table .after)
+  unfolding closeAs closedUp bufferOf sound
+  closed-faithful f =
       close-kinds σ r table (λ (e : Closed). Faithful (e .after)) (λ n. f)
       (λ t u.
-      let o = good σ ok r l .origins in
+      let o : (w : Bool) → Rooted (capacity (r .guarded)) (r .guarded .index) (bufferOf w (r .guarded)) = rooted (r .guarded) (search (and-r)) in
       record { buffer1 = copy-follows (able σ r table t u) (r .guarded .buffer1) (o false) (f .buffer1); buffer2 = copy-follows (able σ r table t u) (r .guarded .buffer2) (o true) (f .buffer2) })

@@ -40,6 +40,15 @@ rank-lt x p (suc n) h e = go (eq-or-lt-of-le (le-of-suc-le-suc h)) (λ l. rank-l
     go (inl q) ih = rw (← q, e) (omega arith)
     go (inr l) ih = omega (arith, ih l)
 
+-- so two stored pages with one new number are one
+pub rank-one : (x : List ℕ) (p q : ℕ) → stored x p ≡ true → stored x q ≡ true → rank x p ≡ rank x q → p ≡ q
+rank-one x p q a b e = go (decLt p q) (decLt q p)
+  where
+    go : Dec (p < q) → Dec (q < p) → p ≡ q
+    go (yes l) m = absurd (omega (arith, rank-lt x p q l a))
+    go (no l) (yes m) = absurd (omega (arith, rank-lt x q p m b))
+    go (no l) (no m) = omega arith
+
 -- every number below the count is some stored page's
 pub record Source (x : List ℕ) (c q : ℕ) : Type 0 where
   pub page : ℕ

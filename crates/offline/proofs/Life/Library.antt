@@ -134,7 +134,7 @@ module _ (σ : Shape) (ok : σ .most ≤ 8 * σ .indexed) where
   unfolding lastly deed
   deeds-faithful [] r l f = f
   deeds-faithful (calls es ∷ ds) r l f = deeds-faithful ds (finally σ r es) (calling.ever-legal σ ok r l es) (stays-faithful σ ok r l f es)
-  deeds-faithful (closing table ∷ ds) r l f = deeds-faithful ds (closeOf σ r table .after) (closed-legal σ ok r table l) (closed-faithful σ ok r table l f)
+  deeds-faithful (closing table ∷ ds) r l f = deeds-faithful ds (closeOf σ r table .after) (closed-legal σ ok r table l) (closed-faithful σ ok r table f)
 
   pub life-faithful : (r : Reader) → Legal σ ok r → Faithful r → (ds : List Deed) (b p : ℕ) → buffer b (lastly σ r ds .guarded) .origin ≡ fromPage p
       → Holds σ ok (lastly σ r ds) b p
