@@ -7,9 +7,9 @@ use Prim.Native.Nat.{ℕ, suc}
 use lib.ListN.{getD}
 use Rattle.protocol.specs.declared.Settings.{Settings}
 use Rattle.protocol.specs.Records.{readerOf}
-use Rattle.protocol.specs.Reader.{Reader}
+use Rattle.protocol.specs.Reader.{Plain, Guarded, Reader}
 use Rattle.protocol.specs.Call.{Shape, core}
-use Rattle.protocol.specs.Dialogue.{Event, finally, dialogue, Paired}
+use Rattle.protocol.specs.Dialogue.{Event, on, finally, dialogue, kept, Paired}
 use Rattle.protocol.specs.Receiver.{Line}
 use Rattle.dialogues.specs.History.{Exchange, exchanges, Act, moved, history}
 use Rattle.dialogues.specs.Caller.{finallyOn, seen}
@@ -18,7 +18,7 @@ use Rattle.protocol.proofs.Promises.Words.OneResult.{one-reader}
 use Rattle.offline.specs.declared.Moved.{Moved}
 use Rattle.offline.specs.CloseGaps.{Closed, closeOf}
 use Rattle.offline.specs.Records.{closedOf, movedAt}
-use Rattle.offline.specs.Life.{Deed, calls, closing, deed, lastly, deedOn, lastlyOn, Sight, exchanged, told, sights, sightsOn, lifeOf, whereIs, answers, PairedDeeds}
+use Rattle.offline.specs.Life.{Deed, calls, closing, deed, lastly, deedOn, lastlyOn, Sight, exchanged, told, sights, sightsOn, lifeOf, whereIs, answers, keptOver, Unopened, NeverOpened, PairedDeeds}
 use Rattle.offline.specs.Turns.{Closing, Turn, callTurn, closeTurn, lastTurn, deedsOf, toldTurns, Never, UntilTurn, ByContract, Turns, sawTurns, LineTurns, sawLineTurns}
 
 -- ---- what the call returns
@@ -106,19 +106,52 @@ unfolding lifeOf whereIs
 life-means xs table k ss old q =
     record { life-none = refl; life-calls = refl; life-closed = refl; life-refused = refl; where-none = refl; where-calls = refl; where-closed = refl; where-refused = refl }
 
--- how far two lives may differ, both ways: closings stand at the same places, with any tables
+-- how far two lives may differ, both ways: the same calls, and closings anywhere
 pub record PairsOfDeeds (c : ℕ) (es fs : List Event) (t u : List ℕ) (ds gs : List Deed) : Type 0 where
   pub none : PairedDeeds c [] []
   pub both-call : PairedDeeds c (calls es ∷ ds) (calls fs ∷ gs) ↔ (Paired c es fs × PairedDeeds c ds gs)
-  pub both-close : PairedDeeds c (closing t ∷ ds) (closing u ∷ gs) ↔ PairedDeeds c ds gs
-  pub call-or-close : PairedDeeds c (calls es ∷ ds) (closing u ∷ gs) → ⊥
-  pub close-or-call : PairedDeeds c (closing t ∷ ds) (calls fs ∷ gs) → ⊥
-  pub longer : (d : Deed) → PairedDeeds c (d ∷ ds) [] → ⊥
-  pub shorter : (g : Deed) → PairedDeeds c [] (g ∷ gs) → ⊥
+  pub one-closes : PairedDeeds c (closing t ∷ ds) gs ↔ PairedDeeds c ds gs
+  pub other-closes : PairedDeeds c (calls es ∷ ds) (closing u ∷ gs) ↔ PairedDeeds c (calls es ∷ ds) gs
+  pub other-closes-last : PairedDeeds c [] (closing u ∷ gs) ↔ PairedDeeds c [] gs
+  pub longer : PairedDeeds c (calls es ∷ ds) [] → ⊥
+  pub shorter : PairedDeeds c [] (calls fs ∷ gs) → ⊥
 
 pub pairs-of-deeds : (c : ℕ) (es fs : List Event) (t u : List ℕ) (ds gs : List Deed) → PairsOfDeeds c es fs t u ds gs
 pairs-of-deeds c es fs t u ds gs =
-    record { none = tt; both-call = (λ h. h, λ h. h); both-close = (λ h. h, λ h. h); call-or-close = λ h. h; close-or-call = λ h. h; longer = λ d h. h; shorter = λ g h. h }
+    record {
+      none = tt;
+      both-call = (λ h. h, λ h. h);
+      one-closes = (λ h. h, λ h. h);
+      other-closes = (λ h. h, λ h. h);
+      other-closes-last = (λ h. h, λ h. h);
+      longer = λ h. h;
+      shorter = λ h. h;
+    }
+
+-- what stays while no password is accepted, and when none is
+pub record StaysMean (σ : Shape) (r : Reader) (p : Plain) (g : Guarded) (e : Event) (es : List Event) (table : List ℕ) (ds : List Deed) : Type 0 where
+  pub kept-none : keptOver σ p g [] ≡ g
+  pub kept-calls : keptOver σ p g (calls es ∷ ds) ≡ keptOver σ p (kept g es) ds
+  pub kept-closing : keptOver σ p g (closing table ∷ ds) ≡ keptOver σ p (closeOf σ record { plain = p; guarded = g } table .after .guarded) ds
+  pub no-event : Unopened σ r []
+  pub one-event : Unopened σ r (e ∷ es) ↔ ((on σ r e .after .plain .verified ≡ false) × Unopened σ (on σ r e .after) es)
+  pub no-deed : NeverOpened σ r []
+  pub calls-deed : NeverOpened σ r (calls es ∷ ds) ↔ (Unopened σ r es × NeverOpened σ (finally σ r es) ds)
+  pub closing-deed : NeverOpened σ r (closing table ∷ ds) ↔ NeverOpened σ (closeOf σ r table .after) ds
+
+pub stays-mean : (σ : Shape) (r : Reader) (p : Plain) (g : Guarded) (e : Event) (es : List Event) (table : List ℕ) (ds : List Deed) → StaysMean σ r p g e es table ds
+unfolding keptOver
+stays-mean σ r p g e es table ds =
+    record {
+      kept-none = refl;
+      kept-calls = refl;
+      kept-closing = refl;
+      no-event = tt;
+      one-event = (λ h. h, λ h. h);
+      no-deed = tt;
+      calls-deed = (λ h. h, λ h. h);
+      closing-deed = (λ h. h, λ h. h);
+    }
 
 -- ---- a caller's turns
 
@@ -131,7 +164,7 @@ pub record TurnsMean {S : Type 0} (v : S) (xs : List (Entry S)) (y : Closing S) 
   pub told-none : toldTurns {S = S} [] ≡ []
   pub told-called : toldTurns (callTurn xs ∷ ts) ≡ toldOf xs ∷ toldTurns ts
   pub told-closed : toldTurns (closeTurn y ∷ ts) ≡ toldTurns ts
-  -- no call but the last leaves a mark of 1
+  -- no call leaves a mark of 1; and none but the last
   pub never-none : Never mark []
   pub never-more : (x : Entry S) → Never mark (x ∷ xs) ↔ ((mark (x .after) ≢ 1) × Never mark xs)
   pub until-none : UntilTurn mark []

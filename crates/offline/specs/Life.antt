@@ -1,12 +1,13 @@
 -- A reader's life: calls and line switches, and between them, offline, its gaps closed (request [9]); and what was seen of it. A closing is no event: its table
 -- tells the index, and demand 3 speaks of runs and line switches.
-use mathlib.Core.Bool.{cond}
+use mathlib.Core.Bool.{false, cond}
+use mathlib.Core.Path.{_≡_}
 use mathlib.Core.List.{List, [], _∷_}
 use Prim.Native.Nat.{ℕ, zero, suc}
 use lib.ListN.{getD}
-use Rattle.protocol.specs.Reader.{Reader}
+use Rattle.protocol.specs.Reader.{Plain, Guarded, Reader, reader}
 use Rattle.protocol.specs.Call.{Shape, Told}
-use Rattle.protocol.specs.Dialogue.{Event, finally, dialogue, Paired}
+use Rattle.protocol.specs.Dialogue.{Event, on, finally, dialogue, kept, Paired}
 use Rattle.protocol.specs.Receiver.{Line, line}
 use Rattle.dialogues.specs.History.{Exchange, exchanges, Act, moved, history}
 use Rattle.dialogues.specs.Caller.{finallyOn, seen}
@@ -42,18 +43,18 @@ pub data Sight : Type 0 where
   exchanged : List Exchange → Sight
   told : ℕ → List ℕ → Sight
 
-abbrev pub toldBy : Closed → Sight
-toldBy c = told (c .refusal) (c .table)
+abbrev pub sightOf : Closed → Sight
+sightOf c = told (c .refusal) (c .table)
 
 unfoldable pub sights : Shape → Reader → List Deed → List Sight
 sights σ r [] = []
 sights σ r (calls es ∷ ds) = exchanged (exchanges σ r es) ∷ sights σ (finally σ r es) ds
-sights σ r (closing table ∷ ds) = toldBy (closeOf σ r table) ∷ sights σ (closeOf σ r table .after) ds
+sights σ r (closing table ∷ ds) = sightOf (closeOf σ r table) ∷ sights σ (closeOf σ r table .after) ds
 
 unfoldable pub sightsOn : Shape → Line → List Deed → List Sight
 sightsOn σ x [] = []
 sightsOn σ x (calls es ∷ ds) = exchanged (seen σ x es) ∷ sightsOn σ (finallyOn σ x es) ds
-sightsOn σ x (closing table ∷ ds) = toldBy (closeOf σ (x .reader) table) ∷ sightsOn σ (deedOn σ x (closing table)) ds
+sightsOn σ x (closing table ∷ ds) = sightOf (closeOf σ (x .reader) table) ∷ sightsOn σ (deedOn σ x (closing table)) ds
 
 -- the library's history as it was seen, the newest first: a closing that was not refused moved the pages by its table
 unfoldable pub lifeOf : List Sight → List Act → List Act
@@ -78,12 +79,29 @@ answers σ r (calls es ∷ ds) =
     d .told ∷ cond (d .last .plain .verified) [] (answers σ (d .last) ds)
 answers σ r (closing table ∷ ds) = answers σ (closeOf σ r table .after) ds
 
--- the same calls, as far as demand 3 asks, and closings at the same times, whatever tables are lent
+-- "Until then these contents stay as they were, save that a line switch wipes the two buffers": those of a reader with the settings p, which closings alone change
+-- beside it
+unfoldable pub keptOver : Shape → Plain → Guarded → List Deed → Guarded
+keptOver σ p g [] = g
+keptOver σ p g (calls es ∷ ds) = keptOver σ p (kept g es) ds
+keptOver σ p g (closing table ∷ ds) = keptOver σ p (closeOf σ (reader p g) table .after .guarded) ds
+
+-- no password is accepted
+abbrev pub Unopened : Shape → Reader → List Event → Type 0
+Unopened σ r [] = Unit {0}
+Unopened σ r (e ∷ es) = (on σ r e .after .plain .verified ≡ false) × Unopened σ (on σ r e .after) es
+
+abbrev pub NeverOpened : Shape → Reader → List Deed → Type 0
+NeverOpened σ r [] = Unit {0}
+NeverOpened σ r (calls es ∷ ds) = Unopened σ r es × NeverOpened σ (finally σ r es) ds
+NeverOpened σ r (closing table ∷ ds) = NeverOpened σ (closeOf σ r table .after) ds
+
+-- the same calls, as far as demand 3 asks; each has its gaps closed when it will, with any tables
 abbrev pub PairedDeeds : ℕ → List Deed → List Deed → Type 0
 PairedDeeds c [] [] = Unit {0}
-PairedDeeds c [] (g ∷ gs) = ⊥
-PairedDeeds c (d ∷ ds) [] = ⊥
+PairedDeeds c [] (calls fs ∷ gs) = ⊥
+PairedDeeds c [] (closing u ∷ gs) = PairedDeeds c [] gs
+PairedDeeds c (calls es ∷ ds) [] = ⊥
 PairedDeeds c (calls es ∷ ds) (calls fs ∷ gs) = Paired c es fs × PairedDeeds c ds gs
-PairedDeeds c (calls es ∷ ds) (closing u ∷ gs) = ⊥
-PairedDeeds c (closing t ∷ ds) (calls fs ∷ gs) = ⊥
-PairedDeeds c (closing t ∷ ds) (closing u ∷ gs) = PairedDeeds c ds gs
+PairedDeeds c (calls es ∷ ds) (closing u ∷ gs) = PairedDeeds c (calls es ∷ ds) gs
+PairedDeeds c (closing t ∷ ds) gs = PairedDeeds c ds gs

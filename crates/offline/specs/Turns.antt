@@ -38,11 +38,12 @@ toldTurns [] = []
 toldTurns (callTurn xs ∷ ts) = toldOf xs ∷ toldTurns ts
 toldTurns (closeTurn y ∷ ts) = toldTurns ts
 
--- "up to and including the first accepted password": only the last call may leave a verified mark of 1, where `marked` tells the mark
+-- no call leaves a verified mark of 1, where `marked` tells the mark
 abbrev pub Never : {S : Type 0} → (S → ℕ) → List (Entry S) → Type 0
 Never marked [] = Unit {0}
 Never marked (x ∷ xs) = (marked (x .after) ≢ 1) × Never marked xs
 
+-- "up to and including the first accepted password": only the last call may
 abbrev pub UntilTurn : {S : Type 0} → (S → ℕ) → List (Turn S) → Type 0
 UntilTurn marked [] = Unit {0}
 UntilTurn marked (callTurn xs ∷ []) = Until marked xs

@@ -217,8 +217,8 @@ pub(crate) fn is_sound(settings: Settings, index: &[u8], pages: usize) -> bool
     origins::are_fit(settings, index, pages)
 }
 
-// The same for whoever has not counted the pages: of more than a library has, none are legal.
-pub fn is_legal(settings: Settings, index: &[u8], pages: usize) -> bool
+// The same for any number of pages: of more than a library may have none passes.
+pub fn is_sound_of(settings: Settings, index: &[u8], pages: usize) -> bool
     ensures { λ r. ⌜ r ≡ (leb pages mostPages && soundOf pages (now (index .entry)) settings) ⌝ }
 {
     if numbers::MOST_PAGES < pages {

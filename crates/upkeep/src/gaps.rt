@@ -97,7 +97,7 @@ fn close_library(templates: &mut [u8], index: &mut [u8], table: &mut [u16])
     set_first(index, n);
 }
 
-// Where the template of an origin went. No page is none of the table's, and stays what it is.
+// Where the template of an origin went. FFFFh is no page of the table, and stays.
 fn followed(table: &[u16], origin: u16) -> u16
     ensures { λ r. ⌜ r ≡ followedIn (now (table .entry)) origin ⌝ }
 {
@@ -149,8 +149,8 @@ pub fn close_gaps(
     if !fit {
         return moved_of(refusals::BAD_LENGTH, settings);
     }
-    let legal = call::is_legal(settings, index, templates.len() / numbers::PAGE);
-    if !legal {
+    let sound = call::is_sound_of(settings, index, templates.len() / numbers::PAGE);
+    if !sound {
         return moved_of(refusals::BAD_SETTING, settings);
     }
     close_library(templates, index, table);

@@ -1,5 +1,5 @@
 // Calls on a reader's library that no packet reaches, and the doors through which a C firmware makes them. include/bystrodol.h is the C face.
-// It stands apart from `board`, so that in the archive of each one function tests settings, and the compiler builds the test into it.
+// It stands apart from `board`: in an archive where two functions test settings the compiler builds the test into neither.
 ghost use mathlib.Core.Path.{_≡_};
 ghost use mathlib.Core.List.{List};
 ghost use Prim.Native.Nat.{ℕ};

@@ -1,7 +1,6 @@
 -- Document 02, request [9]: "In demand 2's valid count a moved page goes on as stored under its new number, and its old number no longer stands for it."
 use mathlib.Core.Bool.{Bool, true, false, _&&_, not}
 use mathlib.Core.Path.{_≡_, refl}
-use mathlib.Core.Logic.{_≢_}
 use mathlib.Core.List.{List, _∷_}
 use Prim.Native.Nat.{ℕ, _+_, _≤_, _<_}
 use native.Mathlib.Omega.{arith}

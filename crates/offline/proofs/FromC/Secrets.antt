@@ -1,5 +1,5 @@
 -- Demand 3's second half at the doors for C over turns: "two legal locked readers of equal capacity and, but for the filled marks, equal settings .. answer any sequence of
--- runs alike, line switches among them, up to and including the first accepted password", and closings between them, whatever tables are lent.
+-- runs alike, line switches among them, up to and including the first accepted password", and closings between them, each caller's own, whatever tables are lent.
 use mathlib.Core.Bool.{Bool, true}
 use mathlib.Core.Path.{_≡_, refl, sym, ap, ap₂, _∙_, subst}
 use mathlib.Core.Logic.{_≢_}
@@ -39,23 +39,23 @@ use Rattle.offline.proofs.Life.Secrets.{closed-copy, still-locked, clos
 fits : (s : Settings) (m : Memory) → Legal core core-holds (readerAt s m) → FitRecord s
 fits s m l = vault-fit record { settings = s; memory = m } l
 
-marked : Bool → Closed → Closed
-marked b e = record { refusal = e .refusal; table = e .table; after = mark b (e .after) }
+markedCopy : Bool → Closed → Closed
+markedCopy b e = record { refusal = e .refusal; table = e .table; after = mark b (e .after) }
 
 -- ---- the first half: a vault and "its copy with only the verified mark changed" are told the same by a closing, and are such ones after it
 
 pub closing-copies : {S : Type 0} (s : Settings) (m : Memory) → Legal core core-holds (readerAt (withVerified 0 s) m) → s .transfer ≡ 0 → (y w : Closing S) (z z′ : Settings) (n n′ : Memory)
     → y .lent ≡ w .lent → ByContract (withVerified 0 s) m y z n → ByContract (withVerified 1 s) m w z′ n′
     → ((w .refusal ≡ y .refusal) × (w .table ≡ y .table)) × ((z′ ≡ withVerified 1 z) × (n′ ≡ n))
-unfolding marked
+unfolding markedCopy
 closing-copies s m l none y w z z′ n n′ lent p q =
     let at : Reader = readerAt (withVerified 0 s) m in
     let fit : FitRecord (withVerified 0 s) = fits (withVerified 0 s) m l in
     let still : at .plain .transfer ≡ closed = rw (none, fit .none none) (words.kept .transfer-none (marksOf (withVerified 0 s)) (fit .marks)) in
-    let copy : closeOf core (readerAt (withVerified 1 s) m) (w .lent) ≡ marked true (closeOf core at (y .lent)) =
+    let copy : closeOf core (readerAt (withVerified 1 s) m) (w .lent) ≡ markedCopy true (closeOf core at (y .lent)) =
     (λ j. closeOf core (remarked (withVerified 0 s) m fit 1 (omega arith) j) (sym lent j)) ∙ closed-copy core at still true (y .lent)
     in
-    let both : record { refusal = w .refusal; table = w .table; after = readerAt z′ n′ } ≡ marked true record { refusal = y .refusal; table = y .table; after = readerAt z n } = q ∙ copy ∙ sym (ap (marked true) p) in
+    let both : record { refusal = w .refusal; table = w .table; after = readerAt z′ n′ } ≡ markedCopy true record { refusal = y .refusal; table = y .table; after = readerAt z n } = q ∙ copy ∙ sym (ap (markedCopy true) p) in
     let fit′ : FitRecord z = fits z n (subst (λ (e : Closed). Legal core core-holds (e .after)) (sym p) (closed-legal core core-holds at (y .lent) l)) in (
       (ap (λ (e : Closed). e .refusal) both, ap (λ (e : Closed). e .table) both),
       same-vault z′ (withVerified 1 z) n′ n (ap (λ (e : Closed). e .after) both ∙ sym (remarked z n fit′ 1 (omega arith))),
@@ -75,7 +75,7 @@ pub record Together (s : Settings) (m : Memory) (z : Settings) (n : Memory) : Ty
 locks : (s : Settings) (m : Memory) → s .password ≢ 0 ∷ 0 ∷ 0 ∷ 0 ∷ [] → s .verified ≡ 0 → T (locked (readerAt s m .plain))
 locks s m key shut = words.kept .locked-means (readerAt s m .plain) .1 (key, rw shut refl)
 
--- settings of the same reader but for what is guarded
+-- where all that is not guarded is the same, so is the verified mark
 shut-still : (s z : Settings) (m n : Memory) → FitRecord s → FitRecord z → readerAt z n .plain ≡ readerAt s m .plain → s .verified ≡ 0 → z .verified ≡ 0
 shut-still s z m n h k e v = mark-bytes (z .verified) (s .verified) (k .marks .verified) (h .marks .verified) (ap (λ (p : Plain). p .verified) e) ∙ v
 
@@ -84,32 +84,46 @@ never-until marked [] n = tt
 never-until marked (x ∷ []) n = tt
 never-until marked (x ∷ y ∷ xs) (n, ns) = (n, never-until marked (y ∷ xs) ns)
 
--- a closing leaves them so, refused or not
-together-closed : {S : Type 0} (s s′ : Settings) (m m′ : Memory) (z z′ : Settings) (n n′ : Memory) (y w : Closing S) → ByContract s m y s′ m′ → ByContract z n w z′ n′
-    → Together s m z n → Together s′ m′ z′ n′
-together-closed s s′ m m′ z z′ n n′ y w p q t =
+-- a closing of either leaves them so, refused or not
+one-closed : {S : Type 0} (s s′ : Settings) (m m′ : Memory) (z : Settings) (n : Memory) (y : Closing S) → ByContract s m y s′ m′ → Together s m z n → Together s′ m′ z n
+one-closed s s′ m m′ z n y p t =
     record {
       one = one;
-      other = other;
+      other = t .other;
       key = λ e. t .key (sym (ap (λ (x : Plain). x .password) plain) ∙ e);
       shut = shut-still s s′ m m′ (fits s m (t .one)) (fits s′ m′ one) plain (t .shut);
-      same = plain-open s′ z′ (fits s′ m′ one) (fits z′ n′ other) (plain ∙ open-plain s z (fits s m (t .one)) (fits z n (t .other)) (t .same) ∙ sym plain′);
-      pages =
-          ap (λ (e : Closed). length (e .after .guarded .templates)) p ∙ close-length core core-holds (readerAt s m) (y .lent) ∙ t .pages
-          ∙ sym (ap (λ (e : Closed). length (e .after .guarded .templates)) q ∙ close-length core core-holds (readerAt z n) (w .lent));
+      same = plain-open s′ z (fits s′ m′ one) (fits z n (t .other)) (plain ∙ open-plain s z (fits s m (t .one)) (fits z n (t .other)) (t .same));
+      pages = ap (λ (e : Closed). length (e .after .guarded .templates)) p ∙ close-length core core-holds (readerAt s m) (y .lent) ∙ t .pages;
     }
   where
     one : Legal core core-holds (readerAt s′ m′)
     one = subst (λ (e : Closed). Legal core core-holds (e .after)) (sym p) (closed-legal core core-holds (readerAt s m) (y .lent) (t .one))
 
-    other : Legal core core-holds (readerAt z′ n′)
-    other = subst (λ (e : Closed). Legal core core-holds (e .after)) (sym q) (closed-legal core core-holds (readerAt z n) (w .lent) (t .other))
-
     plain : readerAt s′ m′ .plain ≡ readerAt s m .plain
     plain = ap (λ (e : Closed). e .after .plain) p ∙ close-plain core core-holds (readerAt s m) (y .lent)
 
-    plain′ : readerAt z′ n′ .plain ≡ readerAt z n .plain
-    plain′ = ap (λ (e : Closed). e .after .plain) q ∙ close-plain core core-holds (readerAt z n) (w .lent)
+other-closed : {S : Type 0} (s : Settings) (m : Memory) (z z′ : Settings) (n n′ : Memory) (y : Closing S) → ByContract z n y z′ n′ → Together s m z n → Together s m z′ n′
+other-closed s m z z′ n n′ y p t =
+    record {
+      one = t .one;
+      other = other;
+      key = t .key;
+      shut = t .shut;
+      same = plain-open s z′ (fits s m (t .one)) (fits z′ n′ other) (open-plain s z (fits s m (t .one)) (fits z n (t .other)) (t .same) ∙ sym plain);
+      pages = t .pages ∙ sym (ap (λ (e : Closed). length (e .after .guarded .templates)) p ∙ close-length core core-holds (readerAt z n) (y .lent));
+    }
+  where
+    other : Legal core core-holds (readerAt z′ n′)
+    other = subst (λ (e : Closed). Legal core core-holds (e .after)) (sym p) (closed-legal core core-holds (readerAt z n) (y .lent) (t .other))
+
+    plain : readerAt z′ n′ .plain ≡ readerAt z n .plain
+    plain = ap (λ (e : Closed). e .after .plain) p ∙ close-plain core core-holds (readerAt z n) (y .lent)
+
+-- closings alone tell nothing
+told-nothing : {S : Type 0} (c : ℕ) (us : List (Turn S)) → PairedDeeds c [] (deedsOf us) → [] ≡ toldTurns us
+told-nothing c [] p = refl
+told-nothing c (callTurn xs ∷ us) p = absurd p
+told-nothing c (closeTurn y ∷ us) p = told-nothing c us p
 
 -- calls that told the same leave them so, where the settings of the first stayed
 together-called : (es fs : List Event) (s s′ : Settings) (m m′ : Memory) (z z′ : Settings) (n n′ : Memory) → AlikeFromC es fs s m z n s′ m′ z′ n′ → readerAt s′ m′ .plain ≡ readerAt s m .plain
@@ -138,23 +152,19 @@ never-plain (x ∷ xs) v (p, q) l k (n, u) =
 
 pub turns-answer-alike : (ts us : List (Turn Vault)) (v w : Vault) → Turns v ts → Turns w us → UntilTurn (λ (u : Vault). u .settings .verified) ts
     → PairedDeeds (length (v .memory .templates) / 512) (deedsOf ts) (deedsOf us) → Together (v .settings) (v .memory) (w .settings) (w .memory) → toldTurns ts ≡ toldTurns us
-turns-answer-alike [] [] v w p q u pair t = refl
-turns-answer-alike [] (callTurn ys ∷ us) v w p q u pair t = absurd pair
-turns-answer-alike [] (closeTurn y ∷ us) v w p q u pair t = absurd pair
-turns-answer-alike (callTurn xs ∷ ts) [] v w p q u pair t = absurd pair
-turns-answer-alike (closeTurn y ∷ ts) [] v w p q u pair t = absurd pair
-turns-answer-alike (callTurn xs ∷ ts) (closeTurn y ∷ us) v w p q u pair t = absurd pair
-turns-answer-alike (closeTurn y ∷ ts) (callTurn xs ∷ us) v w p q u pair t = absurd pair
-turns-answer-alike (closeTurn x ∷ ts) (closeTurn y ∷ us) v w (a, p) (b, q) u pair t =
+turns-answer-alike [] us v w p q u pair t = told-nothing (length (v .memory .templates) / 512) us pair
+turns-answer-alike (closeTurn x ∷ ts) us v w (a, p) q u pair t =
     let same : length (x .after .memory .templates) ≡ length (v .memory .templates) =
     ap (λ (e : Closed). length (e .after .guarded .templates)) a ∙ close-length core core-holds (readerIn v) (x .lent)
     in
-    turns-answer-alike ts us (x .after) (y .after) p q u (subst (λ (k : ℕ). PairedDeeds (k / 512) (deedsOf ts) (deedsOf us)) (sym same) pair)
-    (together-closed (v .settings) (x .after .settings) (v .memory) (x .after .memory) (w .settings) (y .after .settings) (w .memory) (y .after .memory) x y a b t)
-turns-answer-alike (callTurn xs ∷ []) (callTurn ys ∷ []) v w (a, p) (b, q) u (pair, more) t =
-    ap (λ (z : List Told). z ∷ []) (vault-second-half v w (t .one) (t .other) (t .key) (t .shut) (t .same) (t .pages) xs ys a b u pair .told)
-turns-answer-alike (callTurn xs ∷ []) (callTurn ys ∷ callTurn zs ∷ us) v w (a, p) (b, q) u (pair, more) t = absurd more
-turns-answer-alike (callTurn xs ∷ []) (callTurn ys ∷ closeTurn z ∷ us) v w (a, p) (b, q) u (pair, more) t = absurd more
+    turns-answer-alike ts us (x .after) w p q u (subst (λ (k : ℕ). PairedDeeds (k / 512) (deedsOf ts) (deedsOf us)) (sym same) pair)
+    (one-closed (v .settings) (x .after .settings) (v .memory) (x .after .memory) (w .settings) (w .memory) x a t)
+turns-answer-alike (callTurn xs ∷ ts) [] v w p q u pair t = absurd pair
+turns-answer-alike (callTurn xs ∷ ts) (closeTurn y ∷ us) v w p (b, q) u pair t =
+    turns-answer-alike (callTurn xs ∷ ts) us v (y .after) p q u pair (other-closed (v .settings) (v .memory) (w .settings) (y .after .settings) (w .memory) (y .after .memory) y b t)
+turns-answer-alike (callTurn xs ∷ []) (callTurn ys ∷ us) v w (a, p) (b, q) u (pair, more) t =
+    ap₂ (λ (z : List Told) (rest : List (List Told)). z ∷ rest)
+    (vault-second-half v w (t .one) (t .other) (t .key) (t .shut) (t .same) (t .pages) xs ys a b u pair .told) (told-nothing (length (v .memory .templates) / 512) us more)
 turns-answer-alike (callTurn xs ∷ c ∷ ts) (callTurn ys ∷ us) v w (a, p) (b, q) (never, u) (pair, more) t =
     let blind = vault-second-half v w (t .one) (t .other) (t .key) (t .shut) (t .same) (t .pages) xs ys a b (never-until (λ (u : Vault). u .settings .verified) xs never) pair in
     let plain = never-plain xs v a (t .one) (locks (v .settings) (v .memory) (t .key) (t .shut)) never in
@@ -191,25 +201,21 @@ line-never-plain (x ∷ xs) v (p, q) l k (n, u) =
 pub line-turns-answer-alike : (ts us : List (Turn LineVault)) (v w : LineVault) → LineTurns v ts → LineTurns w us → UntilTurn (λ (u : LineVault). u .line .settings .verified) ts
     → PairedDeeds (length (v .memory .templates) / 512) (deedsOf ts) (deedsOf us) → Together (v .line .settings) (v .memory) (w .line .settings) (w .memory)
     → v .line .receiver .count ≤ 267 → w .line .receiver .count ≤ 267 → SameHeld (v .line .receiver) (w .line .receiver) → toldTurns ts ≡ toldTurns us
-line-turns-answer-alike [] [] v w p q u pair t f g h = refl
-line-turns-answer-alike [] (callTurn ys ∷ us) v w p q u pair t f g h = absurd pair
-line-turns-answer-alike [] (closeTurn y ∷ us) v w p q u pair t f g h = absurd pair
-line-turns-answer-alike (callTurn xs ∷ ts) [] v w p q u pair t f g h = absurd pair
-line-turns-answer-alike (closeTurn y ∷ ts) [] v w p q u pair t f g h = absurd pair
-line-turns-answer-alike (callTurn xs ∷ ts) (closeTurn y ∷ us) v w p q u pair t f g h = absurd pair
-line-turns-answer-alike (closeTurn y ∷ ts) (callTurn xs ∷ us) v w p q u pair t f g h = absurd pair
-line-turns-answer-alike (closeTurn x ∷ ts) (closeTurn y ∷ us) v w ((a, c), p) ((b, d), q) u pair t f g h =
+line-turns-answer-alike [] us v w p q u pair t f g h = told-nothing (length (v .memory .templates) / 512) us pair
+line-turns-answer-alike (closeTurn x ∷ ts) us v w ((a, c), p) q u pair t f g h =
     let same : length (x .after .memory .templates) ≡ length (v .memory .templates) =
     ap (λ (e : Closed). length (e .after .guarded .templates)) a ∙ close-length core core-holds (lineIn v .reader) (x .lent)
     in
-    line-turns-answer-alike ts us (x .after) (y .after) p q u (subst (λ (k : ℕ). PairedDeeds (k / 512) (deedsOf ts) (deedsOf us)) (sym same) pair)
-    (together-closed (v .line .settings) (x .after .line .settings) (v .memory) (x .after .memory) (w .line .settings) (y .after .line .settings) (w .memory) (y .after .memory) x y a b t)
-    (rw c f) (rw d g) (rw (c, d) h)
-line-turns-answer-alike (callTurn xs ∷ []) (callTurn ys ∷ []) v w (a, p) (b, q) u (pair, more) t f g h =
-    ap (λ (z : List Told). z ∷ [])
+    line-turns-answer-alike ts us (x .after) w p q u (subst (λ (k : ℕ). PairedDeeds (k / 512) (deedsOf ts) (deedsOf us)) (sym same) pair)
+    (one-closed (v .line .settings) (x .after .line .settings) (v .memory) (x .after .memory) (w .line .settings) (w .memory) x a t) (rw c f) g (rw c h)
+line-turns-answer-alike (callTurn xs ∷ ts) [] v w p q u pair t f g h = absurd pair
+line-turns-answer-alike (callTurn xs ∷ ts) (closeTurn y ∷ us) v w p ((b, d), q) u pair t f g h =
+    line-turns-answer-alike (callTurn xs ∷ ts) us v (y .after) p q u pair
+    (other-closed (v .line .settings) (v .memory) (w .line .settings) (y .after .line .settings) (w .memory) (y .after .memory) y b t) f (rw d g) (rw d h)
+line-turns-answer-alike (callTurn xs ∷ []) (callTurn ys ∷ us) v w (a, p) (b, q) u (pair, more) t f g h =
+    ap₂ (λ (z : List Told) (rest : List (List Told)). z ∷ rest)
     (line-vault-second-half v w record { reader = t .one; few = f } record { reader = t .other; few = g } (t .key) (t .shut) (t .same) (t .pages) h xs ys a b u pair .told)
-line-turns-answer-alike (callTurn xs ∷ []) (callTurn ys ∷ callTurn zs ∷ us) v w (a, p) (b, q) u (pair, more) t f g h = absurd more
-line-turns-answer-alike (callTurn xs ∷ []) (callTurn ys ∷ closeTurn z ∷ us) v w (a, p) (b, q) u (pair, more) t f g h = absurd more
+    (told-nothing (length (v .memory .templates) / 512) us more)
 line-turns-answer-alike (callTurn xs ∷ c ∷ ts) (callTurn ys ∷ us) v w (a, p) (b, q) (never, u) (pair, more) t f g h =
     let one : LegalLine v = record { reader = t .one; few = f } in
     let other : LegalLine w = record { reader = t .other; few = g } in

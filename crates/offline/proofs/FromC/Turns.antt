@@ -21,7 +21,7 @@ use Rattle.dialogues.proofs.Library.Faithful.{Faithful, Holds}
 use Rattle.dialogues.proofs.FromC.Steps.{steps-end, steps-saw, LegalVault, count-of, HeldPages, pages-held}
 use Rattle.dialogues.proofs.FromC.Lines.{receives-end, receives-saw, LegalLine}
 use Rattle.offline.specs.CloseGaps.{Closed}
-use Rattle.offline.specs.Life.{deed, lastly, deedOn, lastlyOn, Sight, exchanged, toldBy, sights, sightsOn, lifeOf}
+use Rattle.offline.specs.Life.{deed, lastly, deedOn, lastlyOn, Sight, exchanged, sightOf, sights, sightsOn, lifeOf}
 use Rattle.offline.specs.Turns.{Turn, callTurn, closeTurn, lastTurn, deedsOf, Turns, sawTurns, LineTurns, sawLineTurns}
 use Rattle.offline.proofs.Life.Library.{ever-legal, deeds-tell, life-faithful}
 use Rattle.offline.proofs.Life.Deleted.{StandsOrLost, lost-by-deletion}
@@ -42,8 +42,8 @@ turns-saw (callTurn xs ∷ ts) v (p, q) =
     ap (λ (ss : List Sight). exchanged (saw xs) ∷ ss) (turns-saw ts (lastOf v xs) q)
     ∙ (λ j. exchanged (steps-saw xs v p j) ∷ sights core (steps-end xs v p j) (deedsOf ts))
 turns-saw (closeTurn y ∷ ts) v (p, q) =
-    ap (λ (ss : List Sight). toldBy record { refusal = y .refusal; table = y .table; after = readerIn (y .after) } ∷ ss) (turns-saw ts (y .after) q)
-    ∙ ap (λ (e : Closed). toldBy e ∷ sights core (e .after) (deedsOf ts)) p
+    ap (λ (ss : List Sight). sightOf record { refusal = y .refusal; table = y .table; after = readerIn (y .after) } ∷ ss) (turns-saw ts (y .after) q)
+    ∙ ap (λ (e : Closed). sightOf e ∷ sights core (e .after) (deedsOf ts)) p
 
 line-turns-end : (ts : List (Turn LineVault)) (v : LineVault) → LineTurns v ts → lineIn (lastTurn v ts) ≡ lastlyOn core (lineIn v) (deedsOf ts)
 unfolding lastlyOn deedOn
@@ -59,8 +59,8 @@ line-turns-saw (callTurn xs ∷ ts) v (p, q) =
     ap (λ (ss : List Sight). exchanged (sawOn v xs) ∷ ss) (line-turns-saw ts (lastOf v xs) q)
     ∙ (λ j. exchanged (receives-saw xs v p j) ∷ sightsOn core (receives-end xs v p j) (deedsOf ts))
 line-turns-saw (closeTurn y ∷ ts) v ((p, h), q) =
-    ap (λ (ss : List Sight). toldBy record { refusal = y .refusal; table = y .table; after = lineIn (y .after) .reader } ∷ ss) (line-turns-saw ts (y .after) q)
-    ∙ (λ j. toldBy (p j) ∷ sightsOn core (receivers.line (p j .after) (h j)) (deedsOf ts))
+    ap (λ (ss : List Sight). sightOf record { refusal = y .refusal; table = y .table; after = lineIn (y .after) .reader } ∷ ss) (line-turns-saw ts (y .after) q)
+    ∙ (λ j. sightOf (p j) ∷ sightsOn core (receivers.line (p j .after) (h j)) (deedsOf ts))
 
 -- ---- without a receiver
 

@@ -35,8 +35,6 @@ count-own t n h p e =
     count-all (has t) p (λ q a. h q ∙ lt-ltb q n (omega arith))
 
 module _ (σ : Shape) (ok : σ .most ≤ 8 * σ .indexed) (r : Reader) (table : List ℕ) where
-  -- ---- "a second run moves nothing"
-
   origin-again : Able σ r table → (b : Buffer) → Rooted (capacity (r .guarded)) (r .guarded .index) b
       → followed (closedIndex (capacity (r .guarded)) (r .guarded .index)) (followed (r .guarded .index) (b .origin)) ≡ followed (r .guarded .index) (b .origin)
   unfolding followed
@@ -105,7 +103,6 @@ module _ (σ : Shape) (ok : σ .most ≤ 8 * σ .indexed) (r : Reader) (table : 
       rw (same, ts, is, o1, o2) refl
 
 module _ (σ : Shape) (ok : σ .most ≤ 8 * σ .indexed) (r : Reader) (table : List ℕ) (z : closeOf σ r table .refusal ≡ 0) where
-  -- "a second run moves nothing"
   pub moves-nothing : (next : List ℕ) → length next ≡ pages r → MovesNothing σ (closeOf σ r table .after) next
   unfolding closeAs
   moves-nothing next e =

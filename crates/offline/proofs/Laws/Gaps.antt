@@ -206,7 +206,7 @@ module _ (m c : ℕ) (t x : List ℕ) (h : length t ≡ 512 * c) (wide : length 
   pub clear-closed : T (clearFrom (closedIndex c x) c)
   clear-closed = rw wide (clear-first m k c few (rank-le x c))
 
-  -- a page's new number is below C, and its bit is set
+  -- the bit of a page's new number is set
   pub new-stored : (p : ℕ) → p < c → stored x p ≡ true → stored (closedIndex c x) (rank x p) ≡ true
   new-stored p l e = stored-closed (rank x p) ∙ lt-ltb (rank x p) (rank x c) (rank-lt x p c l e)
 

@@ -1,5 +1,5 @@
--- Request [5] over any life: a stored page is lost by deletion alone. Whatever the reader, legal or not, it is stored with the same 512 bytes under the number that the
--- tables tell for it, or it was seen deleted under the number that it had then.
+-- Request [5] over any life: a stored page is lost by deletion alone. Whatever the reader, legal or not, it is stored with the same bytes, 512 where it has so many, under
+-- the number that the tables tell for it, or it was seen deleted under the number that it had then.
 use mathlib.Core.Bool.{true, true≢false}
 use mathlib.Core.Path.{_≡_, refl, sym, ap, _∙_, subst}
 use mathlib.Core.Logic.{_⊎_, inl, inr, _≢_}

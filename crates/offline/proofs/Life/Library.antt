@@ -28,7 +28,7 @@ use Rattle.dialogues.proofs.Laws.History.{ever-capacity}
 use Rattle.dialogues.proofs.Library.ValidCount.{Tells, tells-none, tells-count, tells-ever, tells-told}
 use Rattle.dialogues.proofs.Library.Faithful.{Faithful, Holds, ever-faithful, stays-faithful}
 use Rattle.offline.specs.CloseGaps.{rank, newPage, closedUp, tableOf, Closed, fitClosing, closeAs, closeOf}
-use Rattle.offline.specs.Life.{Deed, calls, closing, deed, lastly, Sight, toldBy, sights, lifeOf}
+use Rattle.offline.specs.Life.{Deed, calls, closing, deed, lastly, Sight, sightOf, sights, lifeOf}
 use Rattle.offline.proofs.Laws.Gaps.{rank-lt, Source, source, length-closed, fine-closed, stored-closed}
 use Rattle.offline.proofs.Gaps.Refusals.{Able, able, close-kinds}
 use Rattle.offline.proofs.Gaps.StaysLegal.{closed-legal, closed-faithful}
@@ -115,7 +115,7 @@ module _ (σ : Shape) (ok : σ .most ≤ 8 * σ .indexed) where
   deeds-tell (calls es ∷ ds) r acts k = deeds-tell ds (finally σ r es) _ (tells-ever σ ok r acts k es)
   deeds-tell (closing table ∷ ds) r acts k =
       close-kinds σ r table
-      (λ (e : Closed). Tells (σ .indexed) (lastly σ (e .after) ds .guarded .index) (lifeOf (toldBy e ∷ sights σ (e .after) ds) acts))
+      (λ (e : Closed). Tells (σ .indexed) (lastly σ (e .after) ds .guarded .index) (lifeOf (sightOf e ∷ sights σ (e .after) ds) acts))
       (λ n. deeds-tell ds r acts k) (λ t u. deeds-tell ds (closeAs r table 0 .after) _ (closing-tells r table acts k t u))
 
   pub valid-count : (r : Reader) → r .guarded .index ≡ zeros (σ .indexed) → (ds : List Deed) → setBits (lastly σ r ds .guarded .index) ≡ livePages (σ .indexed) (sights σ r ds)

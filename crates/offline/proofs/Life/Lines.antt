@@ -18,7 +18,7 @@ use Rattle.protocol.proofs.Promises.Refusals.StaysLegal.{Legal}
 use Rattle.dialogues.proofs.Library.Faithful.{Faithful, Holds}
 use Rattle.dialogues.proofs.Lines.ReceiverCalls.{as-calls, ever-few, seen-is, LineGives, line-gives}
 use Rattle.offline.specs.CloseGaps.{closeOf}
-use Rattle.offline.specs.Life.{Deed, calls, closing, deed, lastly, deedOn, lastlyOn, Sight, exchanged, toldBy, sights, sightsOn}
+use Rattle.offline.specs.Life.{Deed, calls, closing, deed, lastly, deedOn, lastlyOn, Sight, exchanged, sightOf, sights, sightsOn}
 use Rattle.offline.proofs.Life.Library.{livePages, ever-legal, valid-count, count-told, life-faithful}
 use Rattle.offline.proofs.Life.Deleted.{StandsOrLost, lost-by-deletion}
 
@@ -52,7 +52,7 @@ module _ (σ : Shape) where
       (λ j. exchanged (seen-is σ es x few j) ∷ sights σ (sym (as-calls σ es x few) j) (runDeeds y ds))
       ∙ ap (λ (ss : List Sight). exchanged (seen σ x es) ∷ ss) (sights-is ds y (ever-few σ es x few))
   sights-is (closing table ∷ ds) x few =
-      ap (λ (ss : List Sight). toldBy (closeOf σ (x .reader) table) ∷ ss) (sights-is ds (line (closeOf σ (x .reader) table .after) (x .receiver)) few)
+      ap (λ (ss : List Sight). sightOf (closeOf σ (x .reader) table) ∷ ss) (sights-is ds (line (closeOf σ (x .reader) table .after) (x .receiver)) few)
 
 -- ---- the promises
 

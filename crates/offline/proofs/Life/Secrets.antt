@@ -1,6 +1,6 @@
--- Demand 3 over any life: no host learns more because gaps were closed between its runs. "two legal locked readers of equal capacity and, but for the filled marks,
+-- Demand 3 over any life: no host learns more because gaps were closed between its runs, nor whether they were. "two legal locked readers of equal capacity and, but for the filled marks,
 -- equal settings, whose templates, index, notepad, buffers and filled marks differ at will, answer any sequence of runs alike, line switches among them, up to and
--- including the first accepted password": closings among them, too, with any tables, refused or not.
+-- including the first accepted password": with closings between them, each reader's own, with any tables, refused or not.
 use mathlib.Core.Bool.{Bool, true, false, _&&_, cond}
 use mathlib.Core.Path.{_≡_, refl, sym, ap, ap₂, _∙_, subst}
 use mathlib.Core.List.{List, [], _∷_}
@@ -9,22 +9,22 @@ use lib.Dec.{T}
 use Rattle.protocol.specs.Numbers.{badLength, badSetting}
 use Rattle.protocol.specs.Tests.{verdict}
 use Rattle.protocol.specs.Index.{clearFrom}
-use Rattle.protocol.specs.Reader.{Transfer, closed, Plain, Guarded, Reader, capacity, locked}
-use Rattle.protocol.specs.Call.{Shape, fitPlain, fitTransfer, fitOrigins, sound, legal, Told}
-use Rattle.protocol.specs.Dialogue.{Event, received, switch, on, finally, Dialogue, over, first, dialogue}
+use Rattle.protocol.specs.Reader.{Transfer, closed, Plain, Guarded, Reader, capacity, locked, reader}
+use Rattle.protocol.specs.Call.{Shape, fitPlain, fitTransfer, fitOrigins, sound, legal, Told, Ended}
+use Rattle.protocol.specs.Dialogue.{Event, received, switch, on, finally, Dialogue, over, first, dialogue, kept}
 use Rattle.protocol.proofs.Laws.Locked.{veiled, shut-of, locked-call, plain-or, locked-switch}
-use Rattle.protocol.proofs.Promises.Refusals.StaysLegal.{Legal, stays-legal}
+use Rattle.protocol.proofs.Promises.Refusals.StaysLegal.{Legal, stays-legal, ever-legal}
 use Rattle.protocol.proofs.Promises.Secrets.Lock.{mark, Blind, second-half}
 use Rattle.dialogues.proofs.Laws.History.{ever-capacity}
 use Rattle.offline.specs.CloseGaps.{Closed, fitClosing, closeRefusal, closeAs, closeOf}
-use Rattle.offline.specs.Life.{Deed, calls, closing, answers, PairedDeeds}
+use Rattle.offline.specs.Life.{Deed, calls, closing, deed, lastly, answers, keptOver, Unopened, NeverOpened, PairedDeeds}
 use Rattle.offline.proofs.Gaps.Refusals.{close-kinds}
 use Rattle.offline.proofs.Gaps.StaysLegal.{closed-legal}
 use Rattle.offline.proofs.Life.Library.{close-capacity}
 
 -- ---- the first half: "its copy with only the verified mark changed" is one after a closing, too
 
--- none is legal beside any mark
+-- without a transfer the marks make no difference
 same-transfer : (p q : Plain) (g : Guarded) (t : Transfer) → t ≡ closed → fitTransfer p g t ≡ fitTransfer q g t
 unfolding fitTransfer
 same-transfer p q g t z = rw z refl
@@ -54,16 +54,35 @@ module _ (σ : Shape) (ok : σ .most ≤ 8 * σ .indexed) where
   still-locked r f l (received s lent) = rw (locked-call σ r f l s lent) (plain-or (veiled (r .plain) (capacity (r .guarded))) (shut-of σ r f l .unverified) s _ (lent .room))
   still-locked r f l switch = rw (locked-switch σ r f l) (λ v. refl)
 
+  event-stays : (r : Reader) → T (legal σ r) → T (locked (r .plain)) → (e : Event) → on σ r e .after .guarded ≡ kept (r .guarded) (e ∷ [])
+  unfolding on kept
+  event-stays r f l (received s lent) = ap (λ (e : Ended). e .after .guarded) (locked-call σ r f l s lent)
+  event-stays r f l switch = ap (λ (e : Ended). e .after .guarded) (locked-switch σ r f l)
+
+  kept-more : (e : Event) (es : List Event) (g : Guarded) → kept g (e ∷ es) ≡ kept (kept g (e ∷ [])) es
+  unfolding kept
+  kept-more (received s lent) es g = refl
+  kept-more switch es g = refl
+
+  events-stay : (es : List Event) (r : Reader) → Legal σ ok r → T (locked (r .plain)) → Unopened σ r es → finally σ r es ≡ reader (r .plain) (kept (r .guarded) es)
+  unfolding finally kept
+  events-stay [] r l k n = refl
+  events-stay (e ∷ es) r l k (n, ns) =
+      let t : Reader = on σ r e .after in
+      let p : t .plain ≡ r .plain = still-locked r (l .legal) k e n in
+      events-stay es t (stays-legal σ ok r l e) (subst (λ (x : Plain). T (locked x)) (sym p) k) ns
+      ∙ (λ j. reader (p j) (kept (event-stays r (l .legal) k e j) es)) ∙ ap (reader (r .plain)) (sym (kept-more e es (r .guarded)))
+
   -- where a dialogue leaves off
-  record Leaves (r : Reader) (d : Dialogue) : Type 0 where
+  record LeavesOff (r : Reader) (d : Dialogue) : Type 0 where
     legally : Legal σ ok (d .last)
     pages : capacity (d .last .guarded) ≡ capacity (r .guarded)
     settings : d .last .plain .verified ≡ false → d .last .plain ≡ r .plain
 
-  leaves : (es : List Event) (r : Reader) → Legal σ ok r → T (locked (r .plain)) → Leaves r (dialogue σ r es)
+  leaves-off : (es : List Event) (r : Reader) → Legal σ ok r → T (locked (r .plain)) → LeavesOff r (dialogue σ r es)
   unfolding dialogue over first finally
-  leaves [] r l k = record { legally = l; pages = refl; settings = λ v. refl }
-  leaves (e ∷ es) r l k = go (t .plain .verified) refl (leaves es t m)
+  leaves-off [] r l k = record { legally = l; pages = refl; settings = λ v. refl }
+  leaves-off (e ∷ es) r l k = go (t .plain .verified) refl (leaves-off es t m)
     where
       t : Reader
       t = on σ r e .after
@@ -74,8 +93,8 @@ module _ (σ : Shape) (ok : σ .most ≤ 8 * σ .indexed) where
       same : capacity (t .guarded) ≡ capacity (r .guarded)
       same = ever-capacity σ ok r (e ∷ [])
 
-      go : (b : Bool) → t .plain .verified ≡ b → (T (locked (t .plain)) → Leaves t (dialogue σ t es))
-          → Leaves r (first e (on σ r e .told) (cond b (over t) (dialogue σ t es)))
+      go : (b : Bool) → t .plain .verified ≡ b → (T (locked (t .plain)) → LeavesOff t (dialogue σ t es))
+          → LeavesOff r (first e (on σ r e .told) (cond b (over t) (dialogue σ t es)))
       go true v ih = record { legally = m; pages = same; settings = λ w. still-locked r (l .legal) k e w }
       go false v ih =
           let p : t .plain ≡ r .plain = still-locked r (l .legal) k e v in
@@ -90,15 +109,15 @@ module _ (σ : Shape) (ok : σ .most ≤ 8 * σ .indexed) where
       → capacity (r .guarded) ≡ capacity (t .guarded) → answers σ r ds ≡ answers σ t gs
   unfolding answers
   answer-alike [] [] r t q l m k e c = refl
-  answer-alike [] (g ∷ gs) r t q l m k e c = absurd q
-  answer-alike (d ∷ ds) [] r t q l m k e c = absurd q
-  answer-alike (calls es ∷ ds) (closing u ∷ gs) r t q l m k e c = absurd q
-  answer-alike (closing u ∷ ds) (calls fs ∷ gs) r t q l m k e c = absurd q
-  answer-alike (closing u ∷ ds) (closing w ∷ gs) r t q l m k e c =
-      let x : Reader = closeOf σ r u .after in
-      let y : Reader = closeOf σ t w .after in
-      answer-alike ds gs x y (subst (λ (n : ℕ). PairedDeeds n ds gs) (sym (close-capacity σ ok r u)) q) (closed-legal σ ok r u l) (closed-legal σ ok t w m)
-      (subst (λ (p : Plain). T (locked p)) (sym (close-plain r u)) k) (close-plain r u ∙ e ∙ sym (close-plain t w)) (close-capacity σ ok r u ∙ c ∙ sym (close-capacity σ ok t w))
+  answer-alike [] (calls fs ∷ gs) r t q l m k e c = absurd q
+  answer-alike [] (closing u ∷ gs) r t q l m k e c =
+      answer-alike [] gs r (closeOf σ t u .after) q l (closed-legal σ ok t u m) k (e ∙ sym (close-plain t u)) (c ∙ sym (close-capacity σ ok t u))
+  answer-alike (calls es ∷ ds) [] r t q l m k e c = absurd q
+  answer-alike (calls es ∷ ds) (closing u ∷ gs) r t q l m k e c =
+      answer-alike (calls es ∷ ds) gs r (closeOf σ t u .after) q l (closed-legal σ ok t u m) k (e ∙ sym (close-plain t u)) (c ∙ sym (close-capacity σ ok t u))
+  answer-alike (closing u ∷ ds) gs r t q l m k e c =
+      answer-alike ds gs (closeOf σ r u .after) t (subst (λ (n : ℕ). PairedDeeds n ds gs) (sym (close-capacity σ ok r u)) q) (closed-legal σ ok r u l) m
+      (subst (λ (p : Plain). T (locked p)) (sym (close-plain r u)) k) (close-plain r u ∙ e) (close-capacity σ ok r u ∙ c)
   answer-alike (calls es ∷ ds) (calls fs ∷ gs) r t (p, q) l m k e c =
       ap₂ (λ (a : List Told) (b : List (List Told)). a ∷ b) (blind .told)
       (go (x .last .plain .verified) (y .last .plain .verified) refl (sym (ap (λ (p : Plain). p .verified) (blind .settings)))
@@ -113,11 +132,11 @@ module _ (σ : Shape) (ok : σ .most ≤ 8 * σ .indexed) where
       blind : Blind (capacity (r .guarded)) (r .guarded) (t .guarded) x y
       blind = second-half σ r t (l .legal) (m .legal) k e c es fs p
 
-      one : Leaves r x
-      one = leaves es r l k
+      one : LeavesOff r x
+      one = leaves-off es r l k
 
-      other : Leaves t y
-      other = leaves fs t m (subst (λ (p : Plain). T (locked p)) e k)
+      other : LeavesOff t y
+      other = leaves-off fs t m (subst (λ (p : Plain). T (locked p)) e k)
 
       go : (a b : Bool) → x .last .plain .verified ≡ a → b ≡ a
           → (T (locked (x .last .plain)) → x .last .plain ≡ y .last .plain → capacity (x .last .guarded) ≡ capacity (y .last .guarded) → answers σ (x .last) ds ≡ answers σ (y .last) gs)
@@ -126,3 +145,18 @@ module _ (σ : Shape) (ok : σ .most ≤ 8 * σ .indexed) where
       go false b v w ih =
           rw w
           (ih (subst (λ (p : Plain). T (locked p)) (sym (one .settings v)) k) (blind .settings) (one .pages ∙ c ∙ sym (other .pages)))
+
+  -- ---- "Until then these contents stay as they were, save that a line switch wipes the two buffers and clears their filled marks": runs change nothing, and closings what
+  -- they change
+
+  pub contents-stay : (ds : List Deed) (r : Reader) → Legal σ ok r → T (locked (r .plain)) → NeverOpened σ r ds → lastly σ r ds ≡ reader (r .plain) (keptOver σ (r .plain) (r .guarded) ds)
+  unfolding lastly deed keptOver
+  contents-stay [] r l k n = refl
+  contents-stay (calls es ∷ ds) r l k (n, u) =
+      let same : finally σ r es ≡ reader (r .plain) (kept (r .guarded) es) = events-stay es r l k n in
+      contents-stay ds (finally σ r es) (ever-legal σ ok r l es) (subst (λ (x : Reader). T (locked (x .plain))) (sym same) k) u
+      ∙ ap (λ (x : Reader). reader (x .plain) (keptOver σ (x .plain) (x .guarded) ds)) same
+  contents-stay (closing table ∷ ds) r l k u =
+      let t : Reader = closeOf σ r table .after in
+      contents-stay ds t (closed-legal σ ok r table l) (subst (λ (p : Plain). T (locked p)) (sym (close-plain r table)) k) u
+      ∙ ap (λ (p : Plain). reader p (keptOver σ p (t .guarded) ds)) (close-plain r table)

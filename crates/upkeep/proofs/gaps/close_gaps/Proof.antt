@@ -13,8 +13,8 @@ moved-of-requires c κs = search needs
 returns : tie.Need-returns
 returns c = search bad-length
 
-is-legal-requires : tie.Need-is-legal-requires
-is-legal-requires c κs = search needs
+is-sound-of-requires : tie.Need-is-sound-of-requires
+is-sound-of-requires c κs = search needs
 
 moved-of-requires-2 : tie.Need-moved-of-requires-2
 moved-of-requires-2 c κs = search needs
@@ -56,10 +56,10 @@ closing c = search
 unfoldable passed : tie.After-close-library → tie.Else2
 passed c = search
 
-unfoldable asked : tie.Else2 → tie.After-is-legal
+unfoldable asked : tie.Else2 → tie.After-is-sound-of
 asked c = search
 
-unfoldable fitted : tie.After-is-legal → tie.Else1
+unfoldable fitted : tie.After-is-sound-of → tie.Else1
 fitted c = search
 
 unfoldable tested : tie.Else1 → tie.After-is-fit
@@ -70,13 +70,13 @@ unfolding closing passed asked fitted tested
 returns-3 c =
     let p₁ : tie.After-close-library = closing c in
     let p₂ : tie.Else2 = passed p₁ in
-    let p₃ : tie.After-is-legal = asked p₂ in
+    let p₃ : tie.After-is-sound-of = asked p₂ in
     let p₄ : tie.Else1 = fitted p₃ in
     let p₅ : tie.After-is-fit = tested p₄ in
     let o : tie.After-followed = search in
     let t : tie.After-followed2 = search in
     let q : tie.After-linked = search in
-    done _ _ _ _ _ (p₅ .is-fit .ensures) (p₄ .if1 .left) _ (p₃ .is-legal .ensures) (p₂ .if2 .left) _ _ _ (p₁ .close-library .ensures) _ _ _ _ (c .moved-of3 .ensures)
+    done _ _ _ _ _ (p₅ .is-fit .ensures) (p₄ .if1 .left) _ (p₃ .is-sound-of .ensures) (p₂ .if2 .left) _ _ _ (p₁ .close-library .ensures) _ _ _ _ (c .moved-of3 .ensures)
     (q .linked .ensures) (o .followed .ensures) (t .followed2 .ensures)
 
 pub close-gaps-spec : {M : Type 1} → statement M
@@ -86,7 +86,7 @@ close-gaps-spec =
     is-fit-requires
     moved-of-requires
     returns
-    is-legal-requires
+    is-sound-of-requires
     moved-of-requires-2
     same-length
     returns-2

@@ -9,8 +9,8 @@ use borrow.Author.Tests.{le-leb, lt-leb}
 use Rattle.protocol.specs.declared.Settings.{Settings}
 use Rattle.protocol.specs.Numbers.{mostPages}
 use Rattle.rules.specs.Settings.{soundOf}
-use Rattle.reader.proofs.call.is_legal.Statement.{statement}
-use Rattle.reader.proofs.call.is_legal.Tie as tie
+use Rattle.reader.proofs.call.is_sound_of.Statement.{statement}
+use Rattle.reader.proofs.call.is_sound_of.Tie as tie
 
 module _ (s : Settings) (i : List ℕ) (pages : ℕ) where
   too-many : mostPages < pages → false ≡ (leb pages mostPages && soundOf pages i s)
@@ -28,5 +28,5 @@ is-sound-requires c κs = search needs
 returns-2 : tie.Need-returns-2
 returns-2 c = search few
 
-pub is-legal-spec : {M : Type 1} → statement M
-is-legal-spec = tie.close (tie.spec returns is-sound-requires returns-2)
+pub is-sound-of-spec : {M : Type 1} → statement M
+is-sound-of-spec = tie.close (tie.spec returns is-sound-requires returns-2)
