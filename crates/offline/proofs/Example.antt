@@ -1,14 +1,20 @@
 -- A library of four pages, of which pages 1 and 3 are stored and page 0 has old bytes: computed by the checker. So the promises' premises can be met.
 use mathlib.Core.Bool.{true, false}
-use mathlib.Core.Path.{_≡_, refl}
+use mathlib.Core.Path.{_≡_, refl, sym}
 use mathlib.Core.List.{List, [], _∷_, _++_}
 use Prim.Native.Nat.{ℕ}
 use lib.ListN.{length, replicate}
 use Rattle.protocol.specs.Numbers.{highestSize}
 use Rattle.protocol.specs.Tests.{verdict, within, every, countBelow, listed}
 use Rattle.protocol.specs.Index.{bit, stored, setBit, clearFrom}
-use Rattle.protocol.specs.Reader.{noOrigin, fromPage, Reader, capacity, fresh, contents, reader, bufferOf}
+use Rattle.protocol.specs.Bytes.{four}
+use Rattle.protocol.specs.Reader.{Guarded, noOrigin, fromPage, Reader, capacity, fresh, contents, reader, bufferOf}
 use Rattle.protocol.specs.Call.{core, fitPlain, fitTransfer, fitOrigin, fitOrigins, sound}
+use Rattle.protocol.specs.declared.Settings.{Settings}
+use Rattle.protocol.specs.Table.{isBuffer}
+use Rattle.protocol.specs.Records.{fitMark, fitMarks, transferOf, originOf}
+use Rattle.dialogues.specs.Doors.{Vault}
+use Rattle.offline.specs.Turns.{closeTurn, Turns}
 use Rattle.offline.specs.CloseGaps.{rank, newPage, gathered, closedTemplates, firstBits, followed, closedUp, tableOf, fitClosing, closeRefusal, closeAs, closeOf}
 
 -- a page of one byte
@@ -31,3 +37,35 @@ after =
 pub example : (table : List ℕ) → length table ≡ 4 → closeOf core before table ≡ record { refusal = 0; table = 0xffff ∷ 0 ∷ 0xffff ∷ 1 ∷ []; after = after }
 unfolding closeOf closeRefusal closeAs fitClosing closedUp tableOf newPage rank gathered closedTemplates firstBits followed core sound fitPlain fitTransfer fitOrigin fitOrigins within verdict every countBelow listed bit stored setBit clearFrom capacity fresh highestSize bufferOf
 example table e = rw e refl
+
+-- the same of a caller from C: such a turn there is
+abbrev settingsWith : ℕ → Settings
+settingsWith origin =
+    record {
+      password = 0 ∷ 0 ∷ 0 ∷ 0 ∷ [];
+      address = 255 ∷ 255 ∷ 255 ∷ 255 ∷ [];
+      level = 3;
+      size = 2;
+      baud = 6;
+      transfer = 0;
+      sensor = 0;
+      got = 0;
+      verified = 0;
+      filled1 = 1;
+      filled2 = 0;
+      found = 1;
+      origin1 = origin;
+      origin2 = 0xffff;
+    }
+
+abbrev vaultOf : ℕ → Guarded → Vault
+vaultOf origin g =
+    record {
+      settings = settingsWith origin;
+      memory = record { templates = g .templates; index = g .index; notepad = g .notepad; buffer1 = g .buffer1 .bytes; buffer2 = g .buffer2 .bytes };
+    }
+
+pub example-turn : (table : List ℕ) → length table ≡ 4
+    → Turns (vaultOf 3 (before .guarded)) (closeTurn record { lent = table; refusal = 0; table = 0xffff ∷ 0 ∷ 0xffff ∷ 1 ∷ []; after = vaultOf 1 (after .guarded) } ∷ [])
+unfolding transferOf fitMarks fitMark isBuffer originOf fresh four
+example-turn table e = (sym (example table e), tt)
