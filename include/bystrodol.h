@@ -440,8 +440,8 @@ uint16_t bystrodol_count(const uint8_t *index, size_t index_length);
  * open transfer goes on. Buffers and notepad are not lent. It works on a locked reader, too, and no host can start it by a packet. Called
  * again, it moves nothing, and the table has each stored page's own number.
  *
- * Returns 0; or BYSTRODOL_BAD_LENGTH, or else BYSTRODOL_BAD_SETTING, where bystrodol_step would. If it is refused, nothing changes, and
- * the table is not written.
+ * Returns 0; or BYSTRODOL_BAD_LENGTH if a length is not as below; or else BYSTRODOL_BAD_SETTING where bystrodol_step would. If it is
+ * refused, nothing changes, and the table is not written.
  *
  * Before it. Commands and replies name pages by their old numbers. So wait until the last reply has left, and no byte is held, left of a
  * piece, or in the port. If an unfinished packet is held, wait for the pause of Silence and drop it. From then on drop every byte that
