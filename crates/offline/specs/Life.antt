@@ -14,7 +14,7 @@ use Rattle.dialogues.specs.Caller.{finallyOn, seen}
 use Rattle.offline.specs.CloseGaps.{Closed, closeOf}
 
 pub data Deed : Type 0 where
-  -- some calls and line switches
+  -- a stretch of calls and line switches; two stretches may follow one another
   calls : List Event → Deed
   -- the gaps closed, with this table lent
   closing : List ℕ → Deed
@@ -79,8 +79,8 @@ answers σ r (calls es ∷ ds) =
     d .told ∷ cond (d .last .plain .verified) [] (answers σ (d .last) ds)
 answers σ r (closing table ∷ ds) = answers σ (closeOf σ r table .after) ds
 
--- "Until then these contents stay as they were, save that a line switch wipes the two buffers": those of a reader with the settings p, which closings alone change
--- beside it
+-- "Until then these contents stay as they were, save that a line switch wipes the two buffers": what the contents g of a reader with the settings p are then, which
+-- only line switches and closings change
 unfoldable pub keptOver : Shape → Plain → Guarded → List Deed → Guarded
 keptOver σ p g [] = g
 keptOver σ p g (calls es ∷ ds) = keptOver σ p (kept g es) ds
@@ -96,7 +96,7 @@ NeverOpened σ r [] = Unit {0}
 NeverOpened σ r (calls es ∷ ds) = Unopened σ r es × NeverOpened σ (finally σ r es) ds
 NeverOpened σ r (closing table ∷ ds) = NeverOpened σ (closeOf σ r table .after) ds
 
--- the same calls, as far as demand 3 asks; each has its gaps closed when it will, with any tables
+-- the same calls, stretch by stretch, as far as demand 3 asks; between them the gaps of either may be closed, with any tables
 abbrev pub PairedDeeds : ℕ → List Deed → List Deed → Type 0
 PairedDeeds c [] [] = Unit {0}
 PairedDeeds c [] (calls fs ∷ gs) = ⊥
