@@ -34,9 +34,6 @@ impl Tally {
     pub fn add_closing(&mut self, request: &Request, outcome: &Outcome) {
         let refusal = outcome.answer.refusal;
         self.count(CLOSINGS, refusal);
-        if request.room.len() % 2 == 1 {
-            self.count(CLOSINGS_BY_ODD_BYTE, refusal);
-        }
         match refusal {
             0 => {
                 self.add_closed(request, outcome);
@@ -69,22 +66,15 @@ impl Tally {
         let zero = |page: usize| old.template(page).iter().all(|&byte| byte == 0);
         for page in (0..capacity).filter(|&page| !old.stored(page)) {
             self.count(CLOSINGS_BY_PAGE, usize::from(!zero(page)));
-            if !zero(page) {
-                self.count(DIRTY_VACANT, (page + 1).saturating_sub(count).min(2));
-            }
         }
         for (new, &page) in stored.iter().enumerate() {
             self.count(CLOSINGS_BY_PAGE, 2 + (page - new).min(2));
             if page != new {
                 self.count(PAGES_MOVED_FROM, page);
-                self.count(PAGES_MOVED_TO, new);
                 if zero(page) {
                     self.count(CLOSINGS_BY_PAGE, 5_usize);
                 }
             }
-        }
-        if stored.last() >= Some(&count) {
-            self.count(COUNTS_CLOSED, count % 8);
         }
         self.add_closed_origins(old, &outcome.reader);
     }
@@ -98,10 +88,6 @@ impl Tally {
                 continue;
             }
             moved += buffer + 1;
-            self.count(ORIGINS_MOVED_FROM, page);
-            if old.settings.origins[1 - buffer] == NONE {
-                self.count(ORIGINS_BESIDE_NONE, buffer + 1);
-            }
         }
         for (kind, buffers) in [(ORIGINS_MOVED, moved), (ORIGINS_NOT_MOVED, left)] {
             if buffers > 0 {
@@ -113,7 +99,6 @@ impl Tally {
     /// A closing that was carried out, by what else was there.
     fn add_closed_with(&mut self, request: &Request) {
         let Reader { settings, notepad, buffers, chip, .. } = &request.reader;
-        self.count(CLOSINGS_LIKE_CALLS, request.reader.refusal(request.room.len()));
         self.count(CLOSINGS_BY_LOCK, if settings.locked() { 2_usize } else { (settings.password != [0; 4]).into() });
         self.count(CLOSINGS_BY_TRANSFER, settings.transfer);
         self.count(CLOSINGS_BY_FOUND, settings.found.is_set());
@@ -160,9 +145,6 @@ impl Tally {
         if let Some(page) = request.reader.bit_beyond() {
             if refusal_with(|request| clear_beyond(&mut request.reader), request) == 0 {
                 self.count(BITS_REFUSED_CLOSED, page / 8 / INDEX_PAGE);
-                if page == capacity {
-                    self.count(BITS_AT_C, capacity);
-                }
             }
         }
         if refusal_with(|request| request.reader.settings.origins = [NONE; 2], request) == 0 {

@@ -278,7 +278,6 @@ kinds! {
     /// What a closing of the gaps meets and brings about.
     CLOSED:
     CLOSINGS = "closings by refusal", Numbers(&[0, 1, 3]);
-    CLOSINGS_LIKE_CALLS = "closings carried out by the refusal that a call would get", Numbers(&[0, 1, 2]);
     CLOSINGS_BY_CAPACITY = "closings carried out by C", Numbers(&CAPACITIES_IN_TURN);
     CLOSINGS_BY_GAP =
         "closings carried out by gap: 0 none, 1 at page 0, 2 inside, 3 at the end, 4 all vacant",
@@ -287,19 +286,12 @@ kinds! {
         "pages closed: 0 vacant and zero, 1 vacant and not zero, 2 left in place, 3 moved by one, 4 moved further, 5 moved and zero",
         Numbers(&[0, 1, 2, 3, 4, 5]);
     PAGES_MOVED_FROM = "pages moved, by the old page", Numbers(&[1, 7, 8, 9, 255, 256, 257, 998, 999]);
-    PAGES_MOVED_TO = "pages moved, by the new page", Numbers(&[0, 1, 7, 8, 254, 255, 256, 997, 998]);
-    COUNTS_CLOSED = "closings that moved pages, by the count modulo 8", UpTo(7);
-    DIRTY_VACANT = "vacant pages of old that were not zero: 0 below the count, 1 at it, 2 above it", Numbers(&[0, 1, 2]);
     ORIGINS_MOVED = "origins that moved: 1, 2, or 3 for both", Numbers(&[1, 2, 3]);
     ORIGINS_NOT_MOVED = "origins that did not move: 1, 2, or 3 for both", Numbers(&[1, 2, 3]);
-    ORIGINS_BESIDE_NONE = "closings that moved an origin while the other buffer's is none, by buffer", Numbers(&[1, 2]);
-    ORIGINS_MOVED_FROM = "origins that moved, by the old page", Numbers(&[1, 8, 255, 256, 998, 999]);
     CLOSINGS_BY_LOCK =
         "closings carried out: 0 without a password, 1 with one and verified, 2 locked", Numbers(&[0, 1, 2]);
     CLOSINGS_BY_TRANSFER = "closings carried out by the buffer of a transfer", Numbers(&[0, 1, 2]);
     CLOSINGS_BY_FOUND = "closings carried out by the found mark", Numbers(&[0, 1]);
-    CLOSINGS_BY_ODD_BYTE =
-        "closings with a byte behind the table: 0 carried out, 1 refused with 1, 3 with 3", Numbers(&[0, 1, 3]);
     SECOND_CLOSINGS =
         "closings of what a closing left: 0 with no page stored, 1 with some, 2 with all", Numbers(&[0, 1, 2]);
     COMMANDS_AFTER_CLOSING =
@@ -317,7 +309,6 @@ kinds! {
         Numbers(&[1, PAGE / 2, PAGE - 1]);
     BITS_REFUSED_CLOSED =
         "closings refused for a bit at or above C alone, by the index page of the first", UpTo(INDEX_PAGES - 1);
-    BITS_AT_C = "closings refused for the bit at C alone, by C", Numbers(&CAPACITIES_IN_TURN);
     SETTINGS_REFUSED =
         "closings refused for a setting alone: 0 level, 1 size code, 2 baud factor, 3 verified, 4 filled, 5 found, 6 transfer, 7 origin",
         UpTo(7);

@@ -23,45 +23,24 @@ const FIT_INDEX: Fit = |asked| asked.reader.index.resize(INDEX, 0);
 const FIT_TABLE: Fit = |asked| asked.room.resize(2 * asked.reader.capacity(), 0);
 
 pub fn add(rows: &mut Rows) {
-    // Which page goes where, by its place among the stored ones, their number, and C.
-    rows.closing("closes-in-reverse").moves(|old| paired(old, |place, _, count, _| count - 1 - place));
-    rows.closing("closes-to-the-end").moves(|old| paired(old, |place, _, count, capacity| capacity - count + place));
-    rows.closing("closes-no-gap").moves(|old| paired(old, |_, page, _, _| page));
-    rows.closing("closes-from-page-1").moves(|old| paired(old, |place, page, _, _| page.min(place + 1)));
-    rows.closing("closes-gaps-in-each-byte").moves(|old| in_parts(old, 8));
+    // Which page goes where, by its place among the stored ones and their number.
+    rows.closing("closes-in-reverse").moves(|old| paired(old, |place, _, count| count - 1 - place));
+    rows.closing("closes-no-gap").moves(|old| paired(old, |_, page, _| page));
+    rows.closing("closes-gaps-in-each-byte").moves(in_bytes);
     rows.closing("closes-gaps-below-256")
-        .moves(|old| paired(old, |place, page, _, _| if page < 256 { place } else { page }));
-    rows.closing("fills-gaps-from-the-end").moves(|old| {
-        let count = stored(old).count();
-        let (stay, go): (Vec<_>, Vec<_>) = stored(old).partition(|&page| page < count);
-        let vacant = (0..count).filter(|&page| !old.stored(page));
-        stay.into_iter().map(|page| (page, page)).chain(go.into_iter().rev().zip(vacant)).collect()
-    });
+        .moves(|old| paired(old, |place, page, _| if page < 256 { place } else { page }));
     rows.closing("loses-page-0").moves(|old| packed(old, |old, page| old.stored(page) && page > 0));
     rows.closing("loses-last-page").moves(|old| packed(old, |old, page| old.stored(page) && page + 1 < old.capacity()));
-    rows.closing("loses-zero-templates").moves(|old| packed(old, |old, page| old.stored(page) && has_bytes(old, page)));
     rows.closing("takes-bytes-for-stored")
         .moves(|old| packed(old, |old, page| old.stored(page) || has_bytes(old, page)));
     // Template bytes.
     rows.closing("moves-no-bytes").leaves(DONE, |now, old| now.templates = old.templates.clone());
     rows.closing("leaves-rest").rest(|_, _, _| true);
-    rows.closing("leaves-first-of-rest").rest(|_, page, count| page == count);
     rows.closing("leaves-last-page").rest(|old, page, _| page + 1 == old.capacity());
     rows.closing("leaves-old-bytes-of-vacant").rest(|old, page, _| !old.stored(page));
-    rows.closing("leaves-rest-from-256").rest(|_, page, _| page >= 256);
     rows.closing("moves-511-bytes").per_page(|now, old, page, new| {
         if page != new {
             now.template_mut(new)[PAGE - 1] = old.template(new)[PAGE - 1];
-        }
-    });
-    rows.closing("joins-bytes-of-vacant").per_page(|now, old, _, new| {
-        if !old.stored(new) {
-            now.template_mut(new).iter_mut().zip(old.template(new)).for_each(|(byte, of_old)| *byte |= of_old);
-        }
-    });
-    rows.closing("zeroes-pages-left-in-place").per_page(|now, _, page, new| {
-        if page == new {
-            now.template_mut(new).fill(0);
         }
     });
     rows.closing("moves-pages-in-8-bits")
@@ -83,15 +62,8 @@ pub fn add(rows: &mut Rows) {
     // Index.
     rows.closing("leaves-index").leaves(DONE, |now, old| now.index = old.index.clone());
     rows.closing("leaves-old-bits").indexes(|old, page, count| page < count || old.stored(page));
-    rows.closing("leaves-old-bits-from-256")
-        .indexes(|old, page, count| page < count || page >= 256 && old.stored(page));
     rows.closing("sets-one-bit-more").indexes(|_, page, count| page <= count);
-    rows.closing("sets-one-bit-less").indexes(|_, page, count| page + 1 < count);
     rows.closing("sets-whole-bytes").indexes(|_, page, count| page < (count + 7) / 8 * 8);
-    rows.closing("sets-no-last-whole-byte")
-        .indexes(|_, page, count| page < count && (count % 8 > 0 || page + 8 < count));
-    rows.closing("sets-bits-turned")
-        .leaves(DONE, |now, _| now.index.iter_mut().for_each(|byte| *byte = byte.reverse_bits()));
     // Table.
     rows.closing("table-left").also(DONE, |case| case.outcome.room = case.request.room.clone());
     rows.closing("table-by-new-page").tables(|closed| {
@@ -100,52 +72,29 @@ pub fn add(rows: &mut Rows) {
     });
     rows.closing("table-0-for-vacant").renumbers(|new| new.unwrap_or(0));
     rows.closing("table-in-8-bits").renumbers(|new| new.map_or(VACANT, |new| new % 256));
-    rows.closing("table-low-byte-first").renumbers(|new| new.map_or(VACANT, u16::swap_bytes));
-    rows.closing("table-left-for-vacant").table_left(|old, page| !old.stored(page));
     rows.closing("table-left-for-last-page").table_left(|old, page| page + 1 == old.capacity());
-    rows.closing("zeroes-byte-behind-table").also(DONE, |case| {
-        let behind = case.outcome.room.iter_mut().skip(2 * case.old.capacity());
-        behind.for_each(|byte| *byte = 0);
-    });
     // Origins and buffers.
-    rows.closing("leaves-origins").origins(|old, _, _| old);
     rows.closing("leaves-origin-1").origins(|old, new, buffer| if buffer == 0 { old } else { new });
     rows.closing("leaves-origin-2").origins(|old, new, buffer| if buffer == 1 { old } else { new });
     rows.closing("makes-moved-origins-none").origins(|old, new, _| if old == new { new } else { NONE });
-    rows.closing("origins-in-8-bits").origins(|_, new, _| if new == NONE { NONE } else { Origin(new.0 % 256) });
-    rows.closing("origin-0-for-none").origins(|_, new, _| if new == NONE { Origin(0) } else { new });
     rows.closing("origins-follow-twice").tables(|closed| {
         for origin in &mut closed.now.settings.origins {
             *origin = origin.page().map_or(NONE, |page| Origin(closed.table[page]));
-        }
-    });
-    rows.closing("origins-by-new-page").tables(|closed| {
-        for origin in &mut closed.now.settings.origins {
-            let other = origin.page().and_then(|new| closed.stored.get(closed.stored[new]));
-            *origin = other.map_or(NONE, |&page| Origin::of(page));
         }
     });
     rows.closing("wipes-moved-buffers").leaves(DONE, |now, old| {
         let moved = [0, 1].map(|b| now.settings.origins[b] != old.settings.origins[b]);
         (0..2).filter(|&b| moved[b]).for_each(|b| now.wipe(b));
     });
-    rows.closing("loads-buffers-again").leaves(DONE, |now, _| {
-        for b in (0..2).filter(|&b| now.buffers[b].len() == PAGE).collect::<Vec<_>>() {
-            now.settings.origins[b].page().into_iter().for_each(|page| now.buffers[b] = now.template(page).to_vec());
-        }
-    });
-    rows.closing("zeroes-buffers").leaves(DONE, |now, _| now.buffers.iter_mut().for_each(|buffer| buffer.fill(0)));
     // Other settings.
     rows.closing("clears-filled").sets(DONE, |now, _| now.filled = [CLEAR; 2]);
     rows.closing("closing-clears-found").sets(DONE, |now, _| now.found = CLEAR);
     rows.closing("closing-clears-verified").sets(DONE, |now, _| now.verified = CLEAR);
     rows.closing("closing-ends-transfer").sets(DONE, |now, _| (now.transfer, now.got) = (0, 0));
     // Lengths that are taken.
-    rows.closing("takes-any-table").takes_table(|pages, table| table != pages);
     rows.closing("takes-table-of-one-more").takes_table(|pages, table| table == pages + 1);
     rows.closing("takes-table-of-one-less").takes_table(|pages, table| table + 1 == pages);
-    rows.closing("takes-no-table").takes_table(|_, table| table == 0);
-    for length in [32, 127, 129, 256] {
+    for length in [127, 129] {
         rows.closing(format!("closing-takes-index-of-{length}")).as_if(
             move |case| case.old.index.len() == length,
             FIT_INDEX,
@@ -171,26 +120,18 @@ pub fn add(rows: &mut Rows) {
     );
     rows.closing("takes-no-pages").refuses(0, |case| case.refusal == 1 && case.old.templates.is_empty());
     // What refusal 3 is for, and is taken.
-    rows.closing("clears-bits-beyond-C").takes(ANY, |asked| drop(take_bits_beyond(&mut asked.reader, |_, _| true)));
-    rows.closing("leaves-bits-beyond-C").ignores_bits_beyond(|_, _| true);
-    rows.closing("takes-bit-at-C").ignores_bits_beyond(|capacity, page| page == capacity);
-    rows.closing("takes-bits-from-1000").ignores_bits_beyond(|_, page| page >= MOST_PAGES);
+    rows.closing("clears-bits-beyond-C").takes(ANY, |asked| drop(take_bits_beyond(&mut asked.reader)));
+    rows.closing("leaves-bits-beyond-C").ignores_bits_beyond();
     rows.closing("takes-unfit-settings").overlooks(|now| {
         (now.level, now.size_code, now.baud_factor) = (3, now.size_code % 4, 6);
     });
     rows.closing("takes-unfit-found").overlooks(|now| now.found = CLEAR);
-    rows.closing("takes-unfit-verified").overlooks(|now| now.verified = CLEAR);
-    rows.closing("takes-unfit-filled").overlooks(|now| now.filled = now.filled.map(|mark| Mark::of(mark != CLEAR)));
     rows.closing("takes-unfit-transfer").overlooks(|now| (now.transfer, now.got) = (0, 0));
     rows.closing("takes-unfit-origins").overlooks(|now| now.origins = [NONE; 2]);
     rows.closing("takes-origins-of-not-filled").overlooks(|now| now.filled = [SET; 2]);
     // What is refused.
     rows.closing("closing-asks-lock").refuses(3, |case| DONE(case) && case.locked());
-    rows.closing("locked-closes-no-gap").refuses(0, |case| DONE(case) && case.locked());
     rows.closing("closing-refused-in-a-transfer").refuses(3, |case| DONE(case) && case.in_transfer());
-    rows.closing("refused-with-nothing-to-move")
-        .refuses(3, |case| DONE(case) && case.outcome.reader.index == case.old.index);
-    rows.closing("refuses-byte-behind-table").refuses(1, |case| DONE(case) && case.request.room.len() % 2 == 1);
     for (refusal, what) in [(1, "memory"), (2, "room")] {
         rows.closing(format!("closing-tests-{what}-like-call"))
             .refuses(refusal, move |case| case.old.refusal(case.request.room.len()) == refusal);
@@ -212,26 +153,9 @@ pub fn add(rows: &mut Rows) {
             now.templates.iter_mut().rev().take(PAGE).for_each(|byte| *byte = 0);
         });
     }
-    rows.closing("refused-with-3-closes").also(
-        |case| case.refusal == 3,
-        |case| {
-            case.ask(|asked| {
-                asked.reader.settings = Settings::fresh();
-                drop(take_bits_beyond(&mut asked.reader, |_, _| true));
-            });
-            case.outcome.answer.refusal = 3;
-            case.outcome.reader.settings = case.old.settings.clone();
-        },
-    );
     // What else is done.
     rows.closing("closing-tells-table-as-reply")
         .also(DONE, |case| case.outcome.answer.length = case.request.room.len());
-    rows.closing("closing-runs-packet").also(DONE, |case| {
-        let reader = case.outcome.reader.clone();
-        let called = Request { kind: Kind::Call, reader, room: vec![0; ROOM], ..case.request.clone() }.carried_out();
-        case.outcome.reader = called.reader;
-        case.outcome.answer.used = called.answer.used;
-    });
 }
 
 impl Row<'_> {
@@ -324,13 +248,13 @@ impl Row<'_> {
         );
     }
 
-    /// Such bits at or above C are no reason for refusal 3, and stay.
-    fn ignores_bits_beyond(self, such: fn(usize, usize) -> bool) {
+    /// Bits at or above C are no reason for refusal 3, and stay.
+    fn ignores_bits_beyond(self) {
         self.also(
             |case| case.old.index.len() == INDEX,
-            move |case| {
-                let ignored = take_bits_beyond(&mut case.old.clone(), such);
-                case.ask(|asked| drop(take_bits_beyond(&mut asked.reader, such)));
+            |case| {
+                let ignored = take_bits_beyond(&mut case.old.clone());
+                case.ask(|asked| drop(take_bits_beyond(&mut asked.reader)));
                 ignored.iter().for_each(|page| case.outcome.reader.index[page / 8] |= bit(*page));
             },
         );
@@ -356,16 +280,16 @@ fn stored(old: &Reader) -> impl Iterator<Item = usize> + '_ {
     (0..old.capacity()).filter(|&page| old.stored(page))
 }
 
-/// The stored pages and where they go: by the place among them, the page, their number, and C.
-fn paired(old: &Reader, new: fn(usize, usize, usize, usize) -> usize) -> Vec<(usize, usize)> {
+/// The stored pages and where they go: by the place among them, the page, and their number.
+fn paired(old: &Reader, new: fn(usize, usize, usize) -> usize) -> Vec<(usize, usize)> {
     let count = stored(old).count();
-    stored(old).enumerate().map(|(place, page)| (page, new(place, page, count, old.capacity()))).collect()
+    stored(old).enumerate().map(|(place, page)| (page, new(place, page, count))).collect()
 }
 
-/// The stored pages moved within parts of so many pages.
-fn in_parts(old: &Reader, pages: usize) -> Vec<(usize, usize)> {
-    let place = |page: usize| (page / pages * pages..page).filter(|&before| old.stored(before)).count();
-    stored(old).map(|page| (page, page / pages * pages + place(page))).collect()
+/// The stored pages moved within the eight of an index byte.
+fn in_bytes(old: &Reader) -> Vec<(usize, usize)> {
+    let place = |page: usize| (page / 8 * 8..page).filter(|&before| old.stored(before)).count();
+    stored(old).map(|page| (page, page / 8 * 8 + place(page))).collect()
 }
 
 /// Such pages moved to pages 0, 1, 2 and up.
@@ -377,11 +301,9 @@ fn has_bytes(old: &Reader, page: usize) -> bool {
     old.template(page).iter().any(|&byte| byte != 0)
 }
 
-/// Clears such bits at or above C, by C and their pages; the pages of those that were set.
-fn take_bits_beyond(reader: &mut Reader, such: fn(usize, usize) -> bool) -> Vec<usize> {
-    let capacity = reader.capacity();
-    let beyond = (capacity..8 * reader.index.len()).filter(|&page| reader.stored(page) && such(capacity, page));
-    let beyond: Vec<usize> = beyond.collect();
+/// Clears the bits at or above C; the pages of those that were set.
+fn take_bits_beyond(reader: &mut Reader) -> Vec<usize> {
+    let beyond: Vec<usize> = (reader.capacity()..8 * reader.index.len()).filter(|&page| reader.stored(page)).collect();
     beyond.iter().for_each(|page| reader.index[page / 8] &= !bit(*page));
     beyond
 }
