@@ -7,10 +7,11 @@ use lib.Dec.{eqb}
 use lib.ListN.{length}
 use Rattle.protocol.specs.Numbers.{pageBytes, noPage, badLength, badSetting}
 use Rattle.protocol.specs.Bytes.{part, zeros}
-use Rattle.protocol.specs.Tests.{verdict, within, countBelow, listed}
+use Rattle.protocol.specs.Tests.{verdict, countBelow, listed}
 use Rattle.protocol.specs.Index.{stored, setBit}
 use Rattle.protocol.specs.Reader.{Origin, noOrigin, fromPage, Buffer, Guarded, Reader, capacity, contents, reader}
 use Rattle.protocol.specs.Call.{Shape, sound}
+use Rattle.offline.specs.Lengths.{pagesFit}
 
 -- ---- where the pages go, by an index x
 
@@ -68,7 +69,7 @@ pub record Closed : Type 0 where
 
 -- the lent lengths as numbers: of c pages the templates, the index and the table. Neither notepad nor buffers are lent
 abbrev pub closingFits : Shape → ℕ → ℕ → ℕ → ℕ → Bool
-closingFits σ c t i n = eqb t (pageBytes * c) && within (σ .least) c (σ .most) && eqb i (σ .indexed) && eqb n c
+closingFits σ c t i n = pagesFit σ c t i && eqb n c
 
 unfoldable pub fitClosing : Shape → Guarded → List ℕ → Bool
 fitClosing σ g table = closingFits σ (capacity g) (length (g .templates)) (length (g .index)) (length table)

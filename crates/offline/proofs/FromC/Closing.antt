@@ -148,16 +148,16 @@ module _ {S : Type 0} (s : Settings) (m : Memory) (y : Closing S) (z : Settings)
       lengths = closing-mean (r .guarded) (y .lent) .0 (pass .lengths)
 
       settled : Settled r
-      settled = settled-means r (lengths .pages) (lengths .templates) .0 (pass .settings)
+      settled = settled-means r (lengths .library .pages) (lengths .library .templates) .0 (pass .settings)
 
       fit : FitRecord s
       fit = settled-fit s (m .templates) (m .index) (m .notepad) (m .buffer1) (m .buffer2) settled
 
       fit′ : FitRecord z
       fit′ =
-          let long = ap (λ (x : Reader). length (x .guarded .templates)) after ∙ c .templates ∙ lengths .templates in
+          let long = ap (λ (x : Reader). length (x .guarded .templates)) after ∙ c .templates ∙ lengths .library .templates in
           let sounds = subst (λ (x : Reader). T (sound x)) (sym (after ∙ ap (λ (x : Closed). x .after) (close-is core r (y .lent) (pass .lengths) (pass .settings)))) (sound-closed core core-holds r (y .lent) (pass .lengths) (pass .settings)) in
-          settled-fit z (n .templates) (n .index) (n .notepad) (n .buffer1) (n .buffer2) (settled-means (readerAt z n) (lengths .pages) long .0 sounds)
+          settled-fit z (n .templates) (n .index) (n .notepad) (n .buffer1) (n .buffer2) (settled-means (readerAt z n) (lengths .library .pages) long .0 sounds)
 
       -- a buffer b with the origin o before it, and the buffer d with the origin p after it
       follows : (o p : ℕ) (b : Buffer) → b .origin ≡ originOf o → (d : Buffer) → originOf p ≡ d .origin → Followed r b d
@@ -171,12 +171,12 @@ module _ {S : Type 0} (s : Settings) (m : Memory) (y : Closing S) (z : Settings)
           page h =
               let from : b .origin ≡ fromPage o = before ∙ rw (ne-eqb o 65535 h) refl in
               let legal = l o from in
-              let most = lengths .most in
-              let below : o < pages r = omega (arith, legal .below (lengths .pages) (lengths .templates), lengths .templates) in
+              let most = lengths .library .most in
+              let below : o < pages r = omega (arith, legal .below (lengths .library .pages) (lengths .library .templates), lengths .library .templates) in
               let there : has r o ≡ true = rw (legal .there) refl in
               let new : ℕ = countBelow (has r) o in
               let low : new ≤ o = goes-down r o in
-              let small : new ≢ 65535 = λ k. omega (arith, lengths .templates) in
+              let small : new ≢ 65535 = λ k. omega (arith, lengths .library .templates) in
               same-origin p new (then ∙ f .page o from ∙ rw (ne-eqb new 65535 small) refl) ∙ sym (ap (λ (w : List ℕ). getD w o 0) table ∙ c .moved o below there)
 
 -- called again on what it left, with a table of as many pages: it is not refused, settings and memory lie as they lay, byte for byte, and the table has each stored page's

@@ -10,6 +10,7 @@ use Rattle.protocol.specs.Tests.{within}
 use Rattle.protocol.specs.Index.{clearFrom}
 use Rattle.protocol.specs.Reader.{Guarded, Reader, capacity}
 use Rattle.protocol.specs.Call.{Shape, core, sound}
+use Rattle.offline.proofs.Lengths.{LibraryLengths, library-mean}
 use Rattle.offline.specs.CloseGaps.{Closed, fitClosing, closeRefusal, closeAs, closeOf}
 use Rattle.protocol.proofs.Laws.Logic.{and-l, and-r, and-i, eq→eqb, verdict-passed, passed-verdict}
 use Rattle.protocol.proofs.Laws.Lines.{Line, unless, Follows, follows}
@@ -20,12 +21,8 @@ use Rattle.protocol.proofs.Promises.Refusals.LegalMeans.{Settled, settled-means
 
 -- the templates, the index and the table; neither notepad nor buffers are lent
 pub record ClosingLengths (g : Guarded) (table : List ℕ) : Type 0 where
-  pub pages : ℕ
-  pub templates : length (g .templates) ≡ 512 * pages
-  pub least : 1 ≤ pages
-  pub most : pages ≤ 1000
-  pub index : length (g .index) ≡ 128
-  pub entries : length table ≡ pages
+  pub library : LibraryLengths (g .templates) (g .index)
+  pub entries : length table ≡ library .pages
 
 abbrev pub close-lines : Reader → List ℕ → List Line
 close-lines r table = unless (ClosingLengths (r .guarded) table) 1 ∷ unless (Settled r) 3 ∷ []
@@ -36,35 +33,26 @@ CloseEnds r table e zero = e .refusal ≡ 0
 CloseEnds r table e (suc n) = (e .refusal ≡ suc n) × ((e .table ≡ table) × (e .after ≡ r))
 
 pub closing-mean : (g : Guarded) (table : List ℕ) → T (fitClosing core g table) ↔ ClosingLengths g table
-unfolding core fitClosing within capacity
+unfolding fitClosing capacity
 closing-mean g table = (to, from)
   where
     to : T (fitClosing core g table) → ClosingLengths g table
     to t =
-        record {
-          pages = capacity g;
-          templates = eqb→eq (length (g .templates)) (512 * capacity g) (search (and-l, and-r) depth 8);
-          least = leb→le 1 (capacity g) (search (and-l, and-r) depth 8);
-          most = leb→le (capacity g) 1000 (search (and-l, and-r) depth 8);
-          index = eqb→eq (length (g .index)) 128 (search (and-l, and-r) depth 8);
-          entries = eqb→eq (length table) (capacity g) (search (and-l, and-r) depth 8);
-        }
+        let l : LibraryLengths (g .templates) (g .index) = library-mean (g .templates) (g .index) .0 (search (and-l)) in
+        let e : length table ≡ capacity g = eqb→eq (length table) (capacity g) (search (and-r)) in
+        record { library = l; entries = omega (arith, e, l .templates) }
 
     from : ClosingLengths g table → T (fitClosing core g table)
     from m =
-        let c : capacity g ≡ m .pages = omega (arith, m .templates) in
-        let t₁ = eq→eqb (length (g .templates)) (512 * capacity g) (omega (arith, m .templates)) in
-        let t₂ = le→leb 1 (capacity g) (omega (arith, m .least)) in
-        let t₃ = le→leb (capacity g) 1000 (omega (arith, m .most)) in
-        let t₄ = eq→eqb (length (g .index)) 128 (m .index) in
-        let t₅ = eq→eqb (length table) (capacity g) (omega (arith, m .entries)) in
-        search (and-i) depth 8
+        let a = library-mean (g .templates) (g .index) .1 (m .library) in
+        let b = eq→eqb (length table) (capacity g) (omega (arith, m .entries, m .library .templates)) in
+        search (and-i)
 
 pub close-refusals : (r : Reader) (table : List ℕ) → Follows (close-lines r table) (CloseEnds r table (closeOf core r table))
 unfolding closeOf closeRefusal closeAs
 close-refusals r table =
     follows ((fitClosing core (r .guarded) table, 1) ∷ (sound r, 3) ∷ []) (close-lines r table) (CloseEnds r table (closeOf core r table))
-    (closing-mean (r .guarded) table, (refl, λ m. (settled-means r (m .pages) (m .templates), (refl, λ k. tt)))) (ends (closeRefusal core r table))
+    (closing-mean (r .guarded) table, (refl, λ m. (settled-means r (m .library .pages) (m .library .templates), (refl, λ k. tt)))) (ends (closeRefusal core r table))
   where
     ends : (n : ℕ) → CloseEnds r table (closeAs r table n) n
     ends zero = refl
