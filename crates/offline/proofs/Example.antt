@@ -14,7 +14,8 @@ use Rattle.protocol.specs.declared.Settings.{Settings}
 use Rattle.protocol.specs.Table.{isBuffer}
 use Rattle.protocol.specs.Records.{fitMark, fitMarks, transferOf, originOf}
 use Rattle.dialogues.specs.Doors.{Vault}
-use Rattle.offline.specs.Turns.{closeTurn, Turns}
+use Rattle.offline.specs.Life.{closing}
+use Rattle.offline.specs.Turns.{workTurn, Turns}
 use Rattle.offline.specs.CloseGaps.{rank, newPage, gathered, closedTemplates, firstBits, followed, closedUp, tableOf, fitClosing, closeRefusal, closeAs, closeOf}
 
 -- a page of one byte
@@ -66,6 +67,6 @@ vaultOf origin g =
     }
 
 pub example-turn : (table : List ℕ) → length table ≡ 4
-    → Turns (vaultOf 3 (before .guarded)) (closeTurn record { lent = table; refusal = 0; table = 0xffff ∷ 0 ∷ 0xffff ∷ 1 ∷ []; after = vaultOf 1 (after .guarded) } ∷ [])
+    → Turns (vaultOf 3 (before .guarded)) (workTurn record { work = closing table; refusal = 0; written = 0xffff ∷ 0 ∷ 0xffff ∷ 1 ∷ []; after = vaultOf 1 (after .guarded) } ∷ [])
 unfolding transferOf fitMarks fitMark isBuffer originOf fresh four
 example-turn table e = (sym (example table e), tt)

@@ -1,3 +1,4 @@
 pub mod Closing
+pub mod Salvaging
 pub mod Turns
 pub mod Secrets

@@ -1,3 +1,4 @@
+pub mod Work
 pub mod Library
 pub mod Deleted
 pub mod Secrets

@@ -1,3 +1,4 @@
 pub mod Refusals
 pub mod Salvages
 pub mod Again
+pub mod StaysLegal

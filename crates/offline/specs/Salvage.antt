@@ -36,12 +36,12 @@ abbrev pub pageZeroed : ℕ
 pageZeroed = 2
 
 -- has page p no byte but zeros?
-abbrev pub blank : List ℕ → ℕ → Bool
-blank t p = same (part (pageBytes * p) pageBytes t) (zeros pageBytes)
+abbrev pub isBlank : List ℕ → ℕ → Bool
+isBlank t p = same (part (pageBytes * p) pageBytes t) (zeros pageBytes)
 
 -- of a page, and of any bit
 unfoldable pub pageEntry : List ℕ → List ℕ → ℕ → ℕ
-pageEntry t x p = cond (stored x p || blank t p) unchanged pageZeroed
+pageEntry t x p = cond (stored x p || isBlank t p) unchanged pageZeroed
 
 unfoldable pub entryOf : ℕ → List ℕ → List ℕ → ℕ → ℕ
 entryOf c t x q = cond (ltb q c) (pageEntry t x q) (cond (stored x q) bitCleared unchanged)

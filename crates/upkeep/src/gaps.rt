@@ -4,12 +4,12 @@ ghost use mathlib.Core.List.{List};
 ghost use Prim.Native.Nat.{ℕ, _*_, _/_, _≤_, _<_};
 ghost use lib.ListN.{length};
 ghost use Rattle.protocol.specs.Numbers.{pageBytes};
-ghost use Rattle.protocol.specs.Index.{stored};
 ghost use Rattle.protocol.specs.Call.{core};
 ghost use Rattle.protocol.specs.Records.{readerOf};
 ghost use Rattle.offline.specs.CloseGaps.{firstBits, closeOf};
 ghost use Rattle.offline.specs.Records.{closedOf, movedAt};
 ghost use Rattle.upkeep.specs.Gaps.{Shelved, Gathered, movePage, Tidied, followedIn, fitsOf};
+use crate::lent;
 use library::pages;
 use offline::Moved;
 use protocol::Settings;
@@ -29,16 +29,6 @@ fn move_page(templates: &mut [u8], from: usize, to: usize)
     pages::write_page(templates, to, &page);
 }
 
-// Whether a page that the index has a bit for is stored.
-fn is_stored(index: &[u8], p: usize) -> bool
-    requires { ⌜ p / 8 < length (now index) ⌝ }
-    ensures { λ r. ⌜ r ≡ stored (now (index .entry)) p ⌝ }
-{
-    let b = index[p / 8];
-    let v = b >> (p % 8);
-    v & 1 == 1
-}
-
 // One pass over the pages: each stored one goes to the next free place, and the table says where. It returns how many there are.
 fn gather(templates: &mut [u8], index: &[u8], table: &mut [u16]) -> usize
     requires { ⌜ Shelved (now templates) (now index) (now table) ⌝ }
@@ -48,7 +38,7 @@ fn gather(templates: &mut [u8], index: &[u8], table: &mut [u16]) -> usize
     let mut next = 0;
     let mut p = 0;
     while p < end {
-        let there = is_stored(index, p);
+        let there = lent::is_stored(index, p);
         if there {
             table[p] = next as u16;
             if next < p {
@@ -112,20 +102,11 @@ fn followed(table: &[u16], origin: u16) -> u16
 fn is_fit(t: usize, i: usize, n: usize) -> bool
     ensures { λ r. ⌜ r ≡ fitsOf t i n ⌝ }
 {
-    let pages = t / numbers::PAGE;
-    if t != numbers::PAGE * pages {
+    let library = lent::is_library(t, i);
+    if !library {
         return false;
     }
-    if pages < 1 {
-        return false;
-    }
-    if numbers::MOST_PAGES < pages {
-        return false;
-    }
-    if i != numbers::INDEX {
-        return false;
-    }
-    n == pages
+    n == t / numbers::PAGE
 }
 
 fn moved_of(refusal: u8, settings: Settings) -> Moved

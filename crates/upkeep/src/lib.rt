@@ -6,10 +6,13 @@ ghost use Prim.Native.Nat.{ℕ};
 ghost use Rattle.protocol.specs.Call.{core};
 ghost use Rattle.protocol.specs.Records.{readerOf};
 ghost use Rattle.offline.specs.CloseGaps.{closeOf};
-ghost use Rattle.offline.specs.Records.{closedOf, movedAt};
+ghost use Rattle.offline.specs.Salvage.{salvageOf};
+ghost use Rattle.offline.specs.Records.{closedOf, movedAt, salvagedOf};
 use protocol::Settings;
 
 pub mod gaps;
+mod lent;
+pub mod salvage;
 
 // Closes the gaps of a library, on lent settings: the refusal or 0.
 #[no_mangle]
@@ -26,4 +29,13 @@ pub extern "C" fn bystrodol_close_gaps(
     let moved = gaps::close_gaps(*settings, templates, index, table);
     *settings = moved.settings;
     moved.refusal
+}
+
+// Salvages a library, and reports what was done to each page and bit: the refusal or 0.
+#[no_mangle]
+pub extern "C" fn bystrodol_salvage(templates: &mut [u8], index: &mut [u8], report: &mut [u8]) -> u8
+    ensures { λ r. ⌜ salvagedOf r (now (templates .exit)) (now (index .exit)) (now (report .exit))
+        ≡ salvageOf core (now (templates .entry)) (now (index .entry)) (now (report .entry)) ⌝ }
+{
+    salvage::salvage(templates, index, report)
 }

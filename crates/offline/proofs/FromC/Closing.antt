@@ -23,7 +23,8 @@ use Rattle.dialogues.proofs.FromC.Steps.{same-vault}
 use Rattle.dialogues.proofs.FromC.Secrets.{SameOpen, plain-open, mark-bytes}
 use Rattle.offline.specs.CloseGaps.{Closed, closeOf}
 use Rattle.offline.specs.Records.{closedOf, movedAt}
-use Rattle.offline.specs.Turns.{Closing, closeTurn, ByContract, Turns, LineTurns}
+use Rattle.offline.specs.Life.{closing}
+use Rattle.offline.specs.Turns.{workTurn, WentBy, Turns, LineTurns}
 use Rattle.offline.proofs.Gaps.Refusals.{ClosingLengths, closing-mean, CloseEnds, close-refusals, close-is, Passes, passes}
 use Rattle.offline.proofs.Gaps.Closes.{Closes, closes, Followed, goes-down}
 use Rattle.offline.proofs.Gaps.Again.{MovesNothing, sound-closed, moves-nothing}
@@ -33,11 +34,11 @@ use Rattle.offline.proofs.Gaps.Again.{MovesNothing, sound-closed, moves
 pub close-door : (v : Vault) (z : Settings) (refusal : ℕ) (table t i table′ : List ℕ)
     → ((n b d : List ℕ) → closedOf (movedAt z refusal) t i table′ n b d ≡ closeOf core (readerOf (v .settings) (v .memory .templates) (v .memory .index) n b d) table)
     → Turns v
-    (closeTurn
+    (workTurn
     record {
-      lent = table;
+      work = closing table;
       refusal = refusal;
-      table = table′;
+      written = table′;
       after = record { settings = z; memory = record { templates = t; index = i; notepad = v .memory .notepad; buffer1 = v .memory .buffer1; buffer2 = v .memory .buffer2 } };
     }
     ∷ [])
@@ -47,11 +48,11 @@ close-door v z refusal table t i table′ q = (q (v .memory .notepad) (v .memory
 pub line-close-door : (v : LineVault) (z : Settings) (refusal : ℕ) (table t i table′ : List ℕ)
     → ((n b d : List ℕ) → closedOf (movedAt z refusal) t i table′ n b d ≡ closeOf core (readerOf (v .line .settings) (v .memory .templates) (v .memory .index) n b d) table)
     → LineTurns v
-    (closeTurn
+    (workTurn
     record {
-      lent = table;
+      work = closing table;
       refusal = refusal;
-      table = table′;
+      written = table′;
       after = record {
         line = record { settings = z; receiver = v .line .receiver };
         memory = record { templates = t; index = i; notepad = v .memory .notepad; buffer1 = v .memory .buffer1; buffer2 = v .memory .buffer2 };
@@ -66,9 +67,9 @@ abbrev pub closing-lines : Settings → Memory → List ℕ → List Line
 closing-lines s m table = let r = readerAt s m in unless (ClosingLengths (r .guarded) table) 1 ∷ unless (FitRecord s) 3 ∷ unless (Settled r) 3 ∷ []
 
 -- 0 is no refusal; a refused call returns its number, and settings, memory and table lie as they lay, byte for byte
-abbrev pub ClosingEnds : {S : Type 0} → Settings → Memory → Closing S → Settings → Memory → ℕ → Type 0
-ClosingEnds s m y z n zero = y .refusal ≡ 0
-ClosingEnds s m y z n (suc k) = (y .refusal ≡ suc k) × ((y .table ≡ y .lent) × ((z ≡ s) × (n ≡ m)))
+abbrev pub ClosingEnds : Settings → Memory → List ℕ → ℕ → List ℕ → Settings → Memory → ℕ → Type 0
+ClosingEnds s m lent refusal table z n zero = refusal ≡ 0
+ClosingEnds s m lent refusal table z n (suc k) = (refusal ≡ suc k) × ((table ≡ lent) × ((z ≡ s) × (n ≡ m)))
 
 -- a buffer's origin by the table: none stays none, and a page becomes its new page
 pub record FollowsBy (table : List ℕ) (o p : ℕ) : Type 0 where
@@ -87,16 +88,17 @@ pub record LeftAlone (table : List ℕ) (s : Settings) (m : Memory) (z : Setting
   pub buffer1 : n .buffer1 ≡ m .buffer1
   pub buffer2 : n .buffer2 ≡ m .buffer2
 
-module _ {S : Type 0} (s : Settings) (m : Memory) (y : Closing S) (z : Settings) (n : Memory) (q : ByContract s m y z n) where
-  pub closing-refusal : Follows (closing-lines s m (y .lent)) (ClosingEnds s m y z n)
+-- settings and memory before it, the table lent, the refusal and the table after it, and settings and memory then
+module _ (s : Settings) (m : Memory) (lent : List ℕ) (refusal : ℕ) (table : List ℕ) (z : Settings) (n : Memory) (q : WentBy s m (closing lent) refusal table z n) where
+  pub closing-refusal : Follows (closing-lines s m lent) (ClosingEnds s m lent refusal table z n)
   closing-refusal =
-      let c = close-refusals (readerAt s m) (y .lent) in
+      let c = close-refusals (readerAt s m) lent in
       (λ a. (λ k. (λ h. end 0 (c .0 a .0 h), λ f. end 3 (c .0 a .1 f)), λ f. end 3 (c .0 a .1 (λ h. f (fit h)))), λ f. end 1 (c .1 f))
     where
       fit : Settled (readerAt s m) → FitRecord s
       fit = settled-fit s (m .templates) (m .index) (m .notepad) (m .buffer1) (m .buffer2)
 
-      end : (k : ℕ) → CloseEnds (readerAt s m) (y .lent) (closeOf core (readerAt s m) (y .lent)) k → ClosingEnds s m y z n k
+      end : (k : ℕ) → CloseEnds (readerAt s m) lent (closeOf core (readerAt s m) lent) k → ClosingEnds s m lent refusal table z n k
       end zero e = ap (λ (x : Closed). x .refusal) q ∙ e
       end (suc k) e = (
         ap (λ (x : Closed). x .refusal) q ∙ e .0,
@@ -104,14 +106,14 @@ module _ {S : Type 0} (s : Settings) (m : Memory) (y : Closing S) (z : Settings)
       )
 
   -- not refused: what lies in templates, index and table, as `Closes` has it
-  pub closing-closes : y .refusal ≡ 0
+  pub closing-closes : refusal ≡ 0
       → (let r = readerAt s m in
-      Closes r (countBelow (has r) (pages r)) record { refusal = y .refusal; table = y .table; after = readerAt z n })
+      Closes r (countBelow (has r) (pages r)) record { refusal = refusal; table = table; after = readerAt z n })
   closing-closes e =
       let r : Reader = readerAt s m in
-      subst (Closes r (countBelow (has r) (pages r))) (sym q) (closes core core-holds r (y .lent) (sym (ap (λ (x : Closed). x .refusal) q) ∙ e))
+      subst (Closes r (countBelow (has r) (pages r))) (sym q) (closes core core-holds r lent (sym (ap (λ (x : Closed). x .refusal) q) ∙ e))
 
-  pub closing-leaves : y .refusal ≡ 0 → LeftAlone (y .table) s m z n
+  pub closing-leaves : refusal ≡ 0 → LeftAlone table s m z n
   unfolding originOf
   closing-leaves e =
       record {
@@ -119,8 +121,8 @@ module _ {S : Type 0} (s : Settings) (m : Memory) (y : Closing S) (z : Settings)
         filled1 = mark-bytes _ _ (fit′ .marks .filled1) (fit .marks .filled1) (ap (λ (x : Reader). x .guarded .buffer1 .filled) after ∙ c .buffer1 .filled);
         filled2 = mark-bytes _ _ (fit′ .marks .filled2) (fit .marks .filled2) (ap (λ (x : Reader). x .guarded .buffer2 .filled) after ∙ c .buffer2 .filled);
         found = mark-bytes _ _ (fit′ .marks .found) (fit .marks .found) (ap (λ (x : Reader). x .guarded .found) after ∙ c .found);
-        origin1 = follows (s .origin1) (z .origin1) (r .guarded .buffer1) refl (closeOf core r (y .lent) .after .guarded .buffer1) (ap (λ (x : Reader). x .guarded .buffer1 .origin) after) (c .buffer1) (settled .origin1);
-        origin2 = follows (s .origin2) (z .origin2) (r .guarded .buffer2) refl (closeOf core r (y .lent) .after .guarded .buffer2) (ap (λ (x : Reader). x .guarded .buffer2 .origin) after) (c .buffer2) (settled .origin2);
+        origin1 = follows (s .origin1) (z .origin1) (r .guarded .buffer1) refl (closeOf core r lent .after .guarded .buffer1) (ap (λ (x : Reader). x .guarded .buffer1 .origin) after) (c .buffer1) (settled .origin1);
+        origin2 = follows (s .origin2) (z .origin2) (r .guarded .buffer2) refl (closeOf core r lent .after .guarded .buffer2) (ap (λ (x : Reader). x .guarded .buffer2 .origin) after) (c .buffer2) (settled .origin2);
         notepad = ap (λ (x : Reader). x .guarded .notepad) after ∙ c .notepad;
         buffer1 = ap (λ (x : Reader). x .guarded .buffer1 .bytes) after ∙ c .buffer1 .bytes;
         buffer2 = ap (λ (x : Reader). x .guarded .buffer2 .bytes) after ∙ c .buffer2 .bytes;
@@ -129,23 +131,23 @@ module _ {S : Type 0} (s : Settings) (m : Memory) (y : Closing S) (z : Settings)
       r : Reader
       r = readerAt s m
 
-      zero-refusal : closeOf core r (y .lent) .refusal ≡ 0
+      zero-refusal : closeOf core r lent .refusal ≡ 0
       zero-refusal = sym (ap (λ (x : Closed). x .refusal) q) ∙ e
 
-      after : readerAt z n ≡ closeOf core r (y .lent) .after
+      after : readerAt z n ≡ closeOf core r lent .after
       after = ap (λ (x : Closed). x .after) q
 
-      table : y .table ≡ closeOf core r (y .lent) .table
-      table = ap (λ (x : Closed). x .table) q
+      told : table ≡ closeOf core r lent .table
+      told = ap (λ (x : Closed). x .table) q
 
-      c : Closes r (countBelow (has r) (pages r)) (closeOf core r (y .lent))
-      c = closes core core-holds r (y .lent) zero-refusal
+      c : Closes r (countBelow (has r) (pages r)) (closeOf core r lent)
+      c = closes core core-holds r lent zero-refusal
 
-      pass : Passes core r (y .lent)
-      pass = passes core r (y .lent) zero-refusal
+      pass : Passes core r lent
+      pass = passes core r lent zero-refusal
 
-      lengths : ClosingLengths (r .guarded) (y .lent)
-      lengths = closing-mean (r .guarded) (y .lent) .0 (pass .lengths)
+      lengths : ClosingLengths (r .guarded) lent
+      lengths = closing-mean (r .guarded) lent .0 (pass .lengths)
 
       settled : Settled r
       settled = settled-means r (lengths .library .pages) (lengths .library .templates) .0 (pass .settings)
@@ -156,18 +158,18 @@ module _ {S : Type 0} (s : Settings) (m : Memory) (y : Closing S) (z : Settings)
       fit′ : FitRecord z
       fit′ =
           let long = ap (λ (x : Reader). length (x .guarded .templates)) after ∙ c .templates ∙ lengths .library .templates in
-          let sounds = subst (λ (x : Reader). T (sound x)) (sym (after ∙ ap (λ (x : Closed). x .after) (close-is core r (y .lent) (pass .lengths) (pass .settings)))) (sound-closed core core-holds r (y .lent) (pass .lengths) (pass .settings)) in
+          let sounds = subst (λ (x : Reader). T (sound x)) (sym (after ∙ ap (λ (x : Closed). x .after) (close-is core r lent (pass .lengths) (pass .settings)))) (sound-closed core core-holds r lent (pass .lengths) (pass .settings)) in
           settled-fit z (n .templates) (n .index) (n .notepad) (n .buffer1) (n .buffer2) (settled-means (readerAt z n) (lengths .library .pages) long .0 sounds)
 
       -- a buffer b with the origin o before it, and the buffer d with the origin p after it
       follows : (o p : ℕ) (b : Buffer) → b .origin ≡ originOf o → (d : Buffer) → originOf p ≡ d .origin → Followed r b d
-          → ((k : ℕ) → b .origin ≡ fromPage k → LegalOrigin (r .guarded .templates) (r .guarded .index) b k) → FollowsBy (y .table) o p
+          → ((k : ℕ) → b .origin ≡ fromPage k → LegalOrigin (r .guarded .templates) (r .guarded .index) b k) → FollowsBy table o p
       follows o p b before d then f l = record { none = none; page = page }
         where
           none : o ≡ 65535 → p ≡ 65535
           none h = same-origin p 65535 (then ∙ f .none (before ∙ ap originOf h))
 
-          page : o ≢ 65535 → p ≡ getD (y .table) o 0
+          page : o ≢ 65535 → p ≡ getD table o 0
           page h =
               let from : b .origin ≡ fromPage o = before ∙ rw (ne-eqb o 65535 h) refl in
               let legal = l o from in
@@ -177,21 +179,21 @@ module _ {S : Type 0} (s : Settings) (m : Memory) (y : Closing S) (z : Settings)
               let new : ℕ = countBelow (has r) o in
               let low : new ≤ o = goes-down r o in
               let small : new ≢ 65535 = λ k. omega (arith, lengths .library .templates) in
-              same-origin p new (then ∙ f .page o from ∙ rw (ne-eqb new 65535 small) refl) ∙ sym (ap (λ (w : List ℕ). getD w o 0) table ∙ c .moved o below there)
+              same-origin p new (then ∙ f .page o from ∙ rw (ne-eqb new 65535 small) refl) ∙ sym (ap (λ (w : List ℕ). getD w o 0) told ∙ c .moved o below there)
 
 -- called again on what it left, with a table of as many pages: it is not refused, settings and memory lie as they lay, byte for byte, and the table has each stored page's
 -- own number
-pub closing-again : {S : Type 0} (s z z′ : Settings) (m n n′ : Memory) (y w : Closing S) → ByContract s m y z n → ByContract z n w z′ n′ → y .refusal ≡ 0
-    → length (w .lent) ≡ pages (readerAt s m)
-    → ((w .refusal ≡ 0) × ((z′ ≡ z) × (n′ ≡ n)))
-    × ((p : ℕ) → p < pages (readerAt z n) → (has (readerAt z n) p ≡ true → getD (w .table) p 0 ≡ p) × (has (readerAt z n) p ≡ false → getD (w .table) p 0 ≡ 0xffff))
-closing-again s z z′ m n n′ y w p q e l =
+pub closing-again : (s z z′ : Settings) (m n n′ : Memory) (lent next table table′ : List ℕ) (refusal : ℕ) → WentBy s m (closing lent) 0 table z n
+    → WentBy z n (closing next) refusal table′ z′ n′ → length next ≡ pages (readerAt s m)
+    → ((refusal ≡ 0) × ((z′ ≡ z) × (n′ ≡ n)))
+    × ((p : ℕ) → p < pages (readerAt z n) → (has (readerAt z n) p ≡ true → getD table′ p 0 ≡ p) × (has (readerAt z n) p ≡ false → getD table′ p 0 ≡ 0xffff))
+closing-again s z z′ m n n′ lent next table table′ refusal p q l =
     let r : Reader = readerAt s m in
-    let after : closeOf core r (y .lent) .after ≡ readerAt z n = sym (ap (λ (x : Closed). x .after) p) in
-    let k : MovesNothing core (readerAt z n) (w .lent) =
-    subst (λ (t : Reader). MovesNothing core t (w .lent)) after (moves-nothing core core-holds r (y .lent) (sym (ap (λ (x : Closed). x .refusal) p) ∙ e) (w .lent) l)
+    let after : closeOf core r lent .after ≡ readerAt z n = sym (ap (λ (x : Closed). x .after) p) in
+    let k : MovesNothing core (readerAt z n) next =
+    subst (λ (t : Reader). MovesNothing core t next) after (moves-nothing core core-holds r lent (sym (ap (λ (x : Closed). x .refusal) p)) next l)
     in
-    let table = ap (λ (x : Closed). x .table) q in (
+    let told = ap (λ (x : Closed). x .table) q in (
       (ap (λ (x : Closed). x .refusal) q ∙ k .refusal, same-vault z′ z n′ n (ap (λ (x : Closed). x .after) q ∙ k .after)),
-      λ i b. (λ h. ap (λ (t : List ℕ). getD t i 0) table ∙ k .own i b h, λ h. ap (λ (t : List ℕ). getD t i 0) table ∙ k .vacant i b h),
+      λ i b. (λ h. ap (λ (t : List ℕ). getD t i 0) told ∙ k .own i b h, λ h. ap (λ (t : List ℕ). getD t i 0) told ∙ k .vacant i b h),
     )

@@ -1,5 +1,5 @@
 -- Demand 3's second half at the doors for C over turns: "two legal locked readers of equal capacity and, but for the filled marks, equal settings .. answer any sequence of
--- runs alike, line switches among them, up to and including the first accepted password", and closings between them, each caller's own, whatever tables are lent.
+-- runs alike, line switches among them, up to and including the first accepted password", and work between them, each caller's own, whatever is lent for it.
 use mathlib.Core.Bool.{Bool, true}
 use mathlib.Core.Path.{_≡_, refl, sym, ap, ap₂, _∙_, subst}
 use mathlib.Core.Logic.{_≢_}
@@ -30,11 +30,13 @@ use Rattle.dialogues.proofs.FromC.Secrets.{withVerified, remarked, SameOpen, op
 use Rattle.dialogues.proofs.Lines.ReceiverCalls.{as-call, switch-reader}
 use Rattle.dialogues.proofs.Secrets.ReceiverLock.{SameHeld}
 use Rattle.offline.specs.CloseGaps.{Closed, closeOf}
-use Rattle.offline.specs.Life.{PairedDeeds}
-use Rattle.offline.specs.Turns.{Closing, Turn, callTurn, closeTurn, deedsOf, toldTurns, Never, UntilTurn, ByContract, Turns, LineTurns}
+use Rattle.offline.specs.Salvage.{Salvaged}
+use Rattle.offline.specs.Life.{Work, closing, salvaging, afterWork, PairedDeeds}
+use Rattle.offline.specs.Turns.{Worked, Turn, callTurn, workTurn, deedsOf, toldTurns, Never, UntilTurn, WentBy, ByContract, Turns, LineTurns}
 use Rattle.offline.proofs.Gaps.StaysLegal.{closed-legal}
-use Rattle.offline.proofs.Life.Library.{close-length}
-use Rattle.offline.proofs.Life.Secrets.{closed-copy, still-locked, close-plain}
+use Rattle.offline.proofs.Life.Work.{work-legal, work-plain, work-length}
+use Rattle.offline.proofs.Life.Secrets.{closed-copy, still-locked}
+use Rattle.offline.proofs.FromC.Turns.{work-went}
 
 fits : (s : Settings) (m : Memory) → Legal core core-holds (readerAt s m) → FitRecord s
 fits s m l = vault-fit record { settings = s; memory = m } l
@@ -42,23 +44,37 @@ fits s m l = vault-fit record { settings = s; memory = m } l
 markedCopy : Bool → Closed → Closed
 markedCopy b e = record { refusal = e .refusal; table = e .table; after = mark b (e .after) }
 
--- ---- the first half: a vault and "its copy with only the verified mark changed" are told the same by a closing, and are such ones after it
+-- ---- the first half: a vault and "its copy with only the verified mark changed" are told the same by work, and are such ones after it
 
-pub closing-copies : {S : Type 0} (s : Settings) (m : Memory) → Legal core core-holds (readerAt (withVerified 0 s) m) → s .transfer ≡ 0 → (y w : Closing S) (z z′ : Settings) (n n′ : Memory)
-    → y .lent ≡ w .lent → ByContract (withVerified 0 s) m y z n → ByContract (withVerified 1 s) m w z′ n′
-    → ((w .refusal ≡ y .refusal) × (w .table ≡ y .table)) × ((z′ ≡ withVerified 1 z) × (n′ ≡ n))
+pub work-copies : (w : Work) (s : Settings) (m : Memory) → Legal core core-holds (readerAt (withVerified 0 s) m) → s .transfer ≡ 0 → (k k′ : ℕ) (list list′ : List ℕ) (z z′ : Settings) (n n′ : Memory)
+    → WentBy (withVerified 0 s) m w k list z n → WentBy (withVerified 1 s) m w k′ list′ z′ n′
+    → ((k′ ≡ k) × (list′ ≡ list)) × ((z′ ≡ withVerified 1 z) × (n′ ≡ n))
 unfolding markedCopy
-closing-copies s m l none y w z z′ n n′ lent p q =
+work-copies (closing table) s m l none k k′ list list′ z z′ n n′ p q =
     let at : Reader = readerAt (withVerified 0 s) m in
     let fit : FitRecord (withVerified 0 s) = fits (withVerified 0 s) m l in
     let still : at .plain .transfer ≡ closed = rw (none, fit .none none) (words.kept .transfer-none (marksOf (withVerified 0 s)) (fit .marks)) in
-    let copy : closeOf core (readerAt (withVerified 1 s) m) (w .lent) ≡ markedCopy true (closeOf core at (y .lent)) =
-    (λ j. closeOf core (remarked (withVerified 0 s) m fit 1 (omega arith) j) (sym lent j)) ∙ closed-copy core at still true (y .lent)
+    let copy : closeOf core (readerAt (withVerified 1 s) m) table ≡ markedCopy true (closeOf core at table) =
+    (λ j. closeOf core (remarked (withVerified 0 s) m fit 1 (omega arith) j) table) ∙ closed-copy core at still true table
     in
-    let both : record { refusal = w .refusal; table = w .table; after = readerAt z′ n′ } ≡ markedCopy true record { refusal = y .refusal; table = y .table; after = readerAt z n } = q ∙ copy ∙ sym (ap (markedCopy true) p) in
-    let fit′ : FitRecord z = fits z n (subst (λ (e : Closed). Legal core core-holds (e .after)) (sym p) (closed-legal core core-holds at (y .lent) l)) in (
+    let both : record { refusal = k′; table = list′; after = readerAt z′ n′ } ≡ markedCopy true record { refusal = k; table = list; after = readerAt z n } = q ∙ copy ∙ sym (ap (markedCopy true) p) in
+    let fit′ : FitRecord z = fits z n (subst (λ (e : Closed). Legal core core-holds (e .after)) (sym p) (closed-legal core core-holds at table l)) in (
       (ap (λ (e : Closed). e .refusal) both, ap (λ (e : Closed). e .table) both),
       same-vault z′ (withVerified 1 z) n′ n (ap (λ (e : Closed). e .after) both ∙ sym (remarked z n fit′ 1 (omega arith))),
+    )
+work-copies (salvaging report) s m l none k k′ list list′ z z′ n n′ (p, u) (q, v) =
+    let both = q ∙ sym p in (
+      (ap (λ (e : Salvaged). e .refusal) both, ap (λ (e : Salvaged). e .report) both),
+      (
+        v .settings ∙ ap (withVerified 1) (sym (u .settings)),
+        λ j. record {
+          templates = both j .templates;
+          index = both j .index;
+          notepad = (v .notepad ∙ sym (u .notepad)) j;
+          buffer1 = (v .buffer1 ∙ sym (u .buffer1)) j;
+          buffer2 = (v .buffer2 ∙ sym (u .buffer2)) j;
+        },
+      ),
     )
 
 -- ---- the second half: what the two have in common, over settings and memory
@@ -84,46 +100,60 @@ never-until marked [] n = tt
 never-until marked (x ∷ []) n = tt
 never-until marked (x ∷ y ∷ xs) (n, ns) = (n, never-until marked (y ∷ xs) ns)
 
--- a closing of either leaves them so, refused or not
-one-closed : {S : Type 0} (s s′ : Settings) (m m′ : Memory) (z : Settings) (n : Memory) (y : Closing S) → ByContract s m y s′ m′ → Together s m z n → Together s′ m′ z n
-one-closed s s′ m m′ z n y p t =
+-- what work at its door keeps
+module _ {S : Type 0} (s : Settings) (m : Memory) (y : Worked S) (z : Settings) (n : Memory) (p : ByContract s m y z n) where
+  went : readerAt z n ≡ afterWork core (readerAt s m) (y .work)
+  went = work-went (y .work) s m (y .refusal) (y .written) z n p
+
+  legal-worked : Legal core core-holds (readerAt s m) → Legal core core-holds (readerAt z n)
+  legal-worked l = subst (Legal core core-holds) (sym went) (work-legal core core-holds (y .work) (readerAt s m) l)
+
+  plain-worked : readerAt z n .plain ≡ readerAt s m .plain
+  plain-worked = ap (λ (r : Reader). r .plain) went ∙ work-plain core core-holds (y .work) (readerAt s m)
+
+  long-worked : length (n .templates) ≡ length (m .templates)
+  long-worked = ap (λ (r : Reader). length (r .guarded .templates)) went ∙ work-length core core-holds (y .work) (readerAt s m)
+
+-- work on either leaves them so, refused or not
+one-worked : {S : Type 0} (s s′ : Settings) (m m′ : Memory) (z : Settings) (n : Memory) (y : Worked S) → ByContract s m y s′ m′ → Together s m z n → Together s′ m′ z n
+one-worked s s′ m m′ z n y p t =
     record {
       one = one;
       other = t .other;
       key = λ e. t .key (sym (ap (λ (x : Plain). x .password) plain) ∙ e);
       shut = shut-still s s′ m m′ (fits s m (t .one)) (fits s′ m′ one) plain (t .shut);
       same = plain-open s′ z (fits s′ m′ one) (fits z n (t .other)) (plain ∙ open-plain s z (fits s m (t .one)) (fits z n (t .other)) (t .same));
-      pages = ap (λ (e : Closed). length (e .after .guarded .templates)) p ∙ close-length core core-holds (readerAt s m) (y .lent) ∙ t .pages;
+      pages = long-worked s m y s′ m′ p ∙ t .pages;
     }
   where
     one : Legal core core-holds (readerAt s′ m′)
-    one = subst (λ (e : Closed). Legal core core-holds (e .after)) (sym p) (closed-legal core core-holds (readerAt s m) (y .lent) (t .one))
+    one = legal-worked s m y s′ m′ p (t .one)
 
     plain : readerAt s′ m′ .plain ≡ readerAt s m .plain
-    plain = ap (λ (e : Closed). e .after .plain) p ∙ close-plain core core-holds (readerAt s m) (y .lent)
+    plain = plain-worked s m y s′ m′ p
 
-other-closed : {S : Type 0} (s : Settings) (m : Memory) (z z′ : Settings) (n n′ : Memory) (y : Closing S) → ByContract z n y z′ n′ → Together s m z n → Together s m z′ n′
-other-closed s m z z′ n n′ y p t =
+other-worked : {S : Type 0} (s : Settings) (m : Memory) (z z′ : Settings) (n n′ : Memory) (y : Worked S) → ByContract z n y z′ n′ → Together s m z n → Together s m z′ n′
+other-worked s m z z′ n n′ y p t =
     record {
       one = t .one;
       other = other;
       key = t .key;
       shut = t .shut;
       same = plain-open s z′ (fits s m (t .one)) (fits z′ n′ other) (open-plain s z (fits s m (t .one)) (fits z n (t .other)) (t .same) ∙ sym plain);
-      pages = t .pages ∙ sym (ap (λ (e : Closed). length (e .after .guarded .templates)) p ∙ close-length core core-holds (readerAt z n) (y .lent));
+      pages = t .pages ∙ sym (long-worked z n y z′ n′ p);
     }
   where
     other : Legal core core-holds (readerAt z′ n′)
-    other = subst (λ (e : Closed). Legal core core-holds (e .after)) (sym p) (closed-legal core core-holds (readerAt z n) (y .lent) (t .other))
+    other = legal-worked z n y z′ n′ p (t .other)
 
     plain : readerAt z′ n′ .plain ≡ readerAt z n .plain
-    plain = ap (λ (e : Closed). e .after .plain) p ∙ close-plain core core-holds (readerAt z n) (y .lent)
+    plain = plain-worked z n y z′ n′ p
 
--- closings alone tell nothing
+-- work alone tells nothing
 told-nothing : {S : Type 0} (c : ℕ) (us : List (Turn S)) → PairedDeeds c [] (deedsOf us) → [] ≡ toldTurns us
 told-nothing c [] p = refl
 told-nothing c (callTurn xs ∷ us) p = absurd p
-told-nothing c (closeTurn y ∷ us) p = told-nothing c us p
+told-nothing c (workTurn y ∷ us) p = told-nothing c us p
 
 -- calls that told the same leave them so, where the settings of the first stayed
 together-called : (es fs : List Event) (s s′ : Settings) (m m′ : Memory) (z z′ : Settings) (n n′ : Memory) → AlikeFromC es fs s m z n s′ m′ z′ n′ → readerAt s′ m′ .plain ≡ readerAt s m .plain
@@ -153,15 +183,13 @@ never-plain (x ∷ xs) v (p, q) l k (n, u) =
 pub turns-answer-alike : (ts us : List (Turn Vault)) (v w : Vault) → Turns v ts → Turns w us → UntilTurn (λ (u : Vault). u .settings .verified) ts
     → PairedDeeds (length (v .memory .templates) / 512) (deedsOf ts) (deedsOf us) → Together (v .settings) (v .memory) (w .settings) (w .memory) → toldTurns ts ≡ toldTurns us
 turns-answer-alike [] us v w p q u pair t = told-nothing (length (v .memory .templates) / 512) us pair
-turns-answer-alike (closeTurn x ∷ ts) us v w (a, p) q u pair t =
-    let same : length (x .after .memory .templates) ≡ length (v .memory .templates) =
-    ap (λ (e : Closed). length (e .after .guarded .templates)) a ∙ close-length core core-holds (readerIn v) (x .lent)
-    in
+turns-answer-alike (workTurn x ∷ ts) us v w (a, p) q u pair t =
+    let same : length (x .after .memory .templates) ≡ length (v .memory .templates) = long-worked (v .settings) (v .memory) x (x .after .settings) (x .after .memory) a in
     turns-answer-alike ts us (x .after) w p q u (subst (λ (k : ℕ). PairedDeeds (k / 512) (deedsOf ts) (deedsOf us)) (sym same) pair)
-    (one-closed (v .settings) (x .after .settings) (v .memory) (x .after .memory) (w .settings) (w .memory) x a t)
+    (one-worked (v .settings) (x .after .settings) (v .memory) (x .after .memory) (w .settings) (w .memory) x a t)
 turns-answer-alike (callTurn xs ∷ ts) [] v w p q u pair t = absurd pair
-turns-answer-alike (callTurn xs ∷ ts) (closeTurn y ∷ us) v w p (b, q) u pair t =
-    turns-answer-alike (callTurn xs ∷ ts) us v (y .after) p q u pair (other-closed (v .settings) (v .memory) (w .settings) (y .after .settings) (w .memory) (y .after .memory) y b t)
+turns-answer-alike (callTurn xs ∷ ts) (workTurn y ∷ us) v w p (b, q) u pair t =
+    turns-answer-alike (callTurn xs ∷ ts) us v (y .after) p q u pair (other-worked (v .settings) (v .memory) (w .settings) (y .after .settings) (w .memory) (y .after .memory) y b t)
 turns-answer-alike (callTurn xs ∷ []) (callTurn ys ∷ us) v w (a, p) (b, q) u (pair, more) t =
     ap₂ (λ (z : List Told) (rest : List (List Told)). z ∷ rest)
     (vault-second-half v w (t .one) (t .other) (t .key) (t .shut) (t .same) (t .pages) xs ys a b u pair .told) (told-nothing (length (v .memory .templates) / 512) us more)
@@ -202,16 +230,14 @@ pub line-turns-answer-alike : (ts us : List (Turn LineVault)) (v w : LineVault) 
     → PairedDeeds (length (v .memory .templates) / 512) (deedsOf ts) (deedsOf us) → Together (v .line .settings) (v .memory) (w .line .settings) (w .memory)
     → v .line .receiver .count ≤ 267 → w .line .receiver .count ≤ 267 → SameHeld (v .line .receiver) (w .line .receiver) → toldTurns ts ≡ toldTurns us
 line-turns-answer-alike [] us v w p q u pair t f g h = told-nothing (length (v .memory .templates) / 512) us pair
-line-turns-answer-alike (closeTurn x ∷ ts) us v w ((a, c), p) q u pair t f g h =
-    let same : length (x .after .memory .templates) ≡ length (v .memory .templates) =
-    ap (λ (e : Closed). length (e .after .guarded .templates)) a ∙ close-length core core-holds (lineIn v .reader) (x .lent)
-    in
+line-turns-answer-alike (workTurn x ∷ ts) us v w ((a, c), p) q u pair t f g h =
+    let same : length (x .after .memory .templates) ≡ length (v .memory .templates) = long-worked (v .line .settings) (v .memory) x (x .after .line .settings) (x .after .memory) a in
     line-turns-answer-alike ts us (x .after) w p q u (subst (λ (k : ℕ). PairedDeeds (k / 512) (deedsOf ts) (deedsOf us)) (sym same) pair)
-    (one-closed (v .line .settings) (x .after .line .settings) (v .memory) (x .after .memory) (w .line .settings) (w .memory) x a t) (rw c f) g (rw c h)
+    (one-worked (v .line .settings) (x .after .line .settings) (v .memory) (x .after .memory) (w .line .settings) (w .memory) x a t) (rw c f) g (rw c h)
 line-turns-answer-alike (callTurn xs ∷ ts) [] v w p q u pair t f g h = absurd pair
-line-turns-answer-alike (callTurn xs ∷ ts) (closeTurn y ∷ us) v w p ((b, d), q) u pair t f g h =
+line-turns-answer-alike (callTurn xs ∷ ts) (workTurn y ∷ us) v w p ((b, d), q) u pair t f g h =
     line-turns-answer-alike (callTurn xs ∷ ts) us v (y .after) p q u pair
-    (other-closed (v .line .settings) (v .memory) (w .line .settings) (y .after .line .settings) (w .memory) (y .after .memory) y b t) f (rw d g) (rw d h)
+    (other-worked (v .line .settings) (v .memory) (w .line .settings) (y .after .line .settings) (w .memory) (y .after .memory) y b t) f (rw d g) (rw d h)
 line-turns-answer-alike (callTurn xs ∷ []) (callTurn ys ∷ us) v w (a, p) (b, q) u (pair, more) t f g h =
     ap₂ (λ (z : List Told) (rest : List (List Told)). z ∷ rest)
     (line-vault-second-half v w record { reader = t .one; few = f } record { reader = t .other; few = g } (t .key) (t .shut) (t .same) (t .pages) h xs ys a b u pair .told)

@@ -1,10 +1,10 @@
--- Request [5] over any life: a stored page is lost by deletion alone. Whatever the reader, legal or not, it is stored with the same bytes, 512 where it has so many, under
--- the number that the tables tell for it, or it was seen deleted under the number that it had then.
+-- Request [5] over any life: a stored page is lost by deletion alone. Whatever the reader, legal or not, a page below C is stored with the same bytes, 512 where it has so many,
+-- under the number that the tables tell for it, or it was seen deleted under the number that it had then. (A bit at or above C is no page's, and salvage clears it.)
 use mathlib.Core.Bool.{true, true≢false}
 use mathlib.Core.Path.{_≡_, refl, sym, ap, _∙_, subst}
 use mathlib.Core.Logic.{_⊎_, inl, inr, _≢_}
 use mathlib.Core.List.{List, [], _∷_}
-use Prim.Native.Nat.{ℕ, zero, suc, _*_, _≤_, _<_}
+use Prim.Native.Nat.{ℕ, zero, suc, _*_, _/_, _≤_, _<_}
 use native.Mathlib.Omega.{arith}
 use native.Mathlib.Decide.{decLt}
 use lib.ListN.{length, getD}
@@ -12,19 +12,23 @@ use borrow.Author.Tests.{lt-ltb}
 use Rattle.protocol.specs.Bytes.{Bytes}
 use Rattle.protocol.specs.Tests.{countBelow}
 use Rattle.protocol.specs.Index.{bit, stored}
-use Rattle.protocol.specs.Reader.{Reader, capacity}
+use Rattle.protocol.specs.Reader.{Reader, capacity, withLibrary, reader}
 use Rattle.protocol.specs.Call.{Shape}
 use Rattle.protocol.specs.Dialogue.{Event, finally}
 use Rattle.dialogues.specs.History.{exchanges}
 use Rattle.protocol.proofs.Laws.Index.{clear-above, fine-with, fine-span, fine-zeros}
-use Rattle.dialogues.proofs.Laws.History.{Keeps, events-keep}
+use Rattle.dialogues.proofs.Laws.History.{ever-capacity}
 use Rattle.dialogues.proofs.Library.Untouched.{SawDeleted, Untouched, only-by-deletion}
 use Rattle.protocol.proofs.Promises.Words.Told.{pages, page, has}
 use Rattle.offline.specs.CloseGaps.{closedUp, Closed, closeAs, closeOf}
-use Rattle.offline.specs.Life.{Deed, calls, closing, deed, lastly, Sight, exchanged, told, sights, whereIs}
+use Rattle.offline.specs.Salvage.{Salvaged, salvageAs, salvagedIn}
+use Rattle.offline.specs.Life.{closing, salvaging, afterWork, Deed, calls, between, deed, lastly, Sight, exchanged, told, workSeen, sights, whereIs}
 use Rattle.offline.proofs.Laws.Gaps.{fine-closed}
 use Rattle.offline.proofs.Gaps.Refusals.{Able, able, close-kinds, passes}
-use Rattle.offline.proofs.Gaps.Closes.{closes, keeps-order}
+use Rattle.offline.proofs.Gaps.Closes.{closes, keeps-order, goes-down}
+use Rattle.offline.proofs.Laws.Salvage.{page-stays, bits-salvaged}
+use Rattle.offline.proofs.Salvage.Refusals.{salvage-kinds}
+use Rattle.offline.proofs.Life.Work.{calls-bytes, work-bytes, work-length}
 
 -- page q was seen deleted, under the number that it had then
 abbrev pub Lost : ℕ → List Sight → Type 0
@@ -47,38 +51,7 @@ via ss e (inl k) = inl record { bit-set = k .bit-set; bytes = k .bytes ∙ e }
 via ss e (inr k) = inr k
 
 module _ (σ : Shape) (ok : σ .most ≤ 8 * σ .indexed) where
-  -- ---- the index stays one of bytes
-
-  bytes-kept : (m : ℕ) → Keeps m (λ t x acts. Bytes x)
-  bytes-kept m =
-      record {
-        puts = λ t x old k c a p b l e v. fine-with x p record { long = a .wide; bytes = k } .bytes;
-        cuts = λ t x old k c a p n l. fine-span x p n record { long = a .wide; bytes = k } .bytes;
-        clears = λ t x old k. fine-zeros (length x) .bytes;
-      }
-
-  calls-bytes : (r : Reader) → Bytes (r .guarded .index) → (es : List Event) → Bytes (finally σ r es .guarded .index)
-  calls-bytes r y es = events-keep σ ok (λ t x acts. Bytes x) (bytes-kept (σ .indexed)) es r [] y
-
-  closing-bytes : (r : Reader) (table : List ℕ) → Bytes (r .guarded .index) → Bytes (closeOf σ r table .after .guarded .index)
-  unfolding closeAs closedUp
-  closing-bytes r table y =
-      close-kinds σ r table (λ (e : Closed). Bytes (e .after .guarded .index)) (λ k. y)
-      (λ t u.
-      let a = able σ r table t u in
-      let g = r .guarded in
-      fine-closed (σ .indexed) (capacity g) (g .templates) (g .index) (a .long) (a .wide) (omega (arith, a .high)) .bytes)
-
   -- ---- one closing
-
-  -- a stored page of a library that may be closed is below C
-  stored-below : (r : Reader) (table : List ℕ) → Able σ r table → (q : ℕ) → has r q ≡ true → q < pages r
-  unfolding stored bit capacity
-  stored-below r table a q h = go (decLt q (capacity (r .guarded)))
-    where
-      go : Dec (q < capacity (r .guarded)) → q < capacity (r .guarded)
-      go (yes l) = l
-      go (no l) = absurd (true≢false (sym h ∙ clear-above (r .guarded .index) (capacity (r .guarded)) (a .clear) q (omega arith)))
 
   closing-stays : (r : Reader) (table : List ℕ) → closeOf σ r table .refusal ≢ 0 → closeOf σ r table .after ≡ r
   unfolding closeAs
@@ -88,26 +61,40 @@ module _ (σ : Shape) (ok : σ .most ≤ 8 * σ .indexed) where
   pub record MovedTo (r : Reader) (q : ℕ) (e : Closed) : Type 0 where
     pub bit-set : has (e .after) (getD (e .table) q 0) ≡ true
     pub bytes : page (e .after) (getD (e .table) q 0) ≡ page r q
+    pub below : getD (e .table) q 0 < pages (e .after)
 
-  pub closing-goes : (r : Reader) (table : List ℕ) (q : ℕ) → has r q ≡ true → closeOf σ r table .refusal ≡ 0 → MovedTo r q (closeOf σ r table)
-  closing-goes r table q h z =
-      let p = passes σ r table z in
+  pub closing-goes : (r : Reader) (table : List ℕ) (q : ℕ) → q < pages r → has r q ≡ true → closeOf σ r table .refusal ≡ 0 → MovedTo r q (closeOf σ r table)
+  closing-goes r table q l h z =
       let c = closes σ ok r table z in
-      let l : q < pages r = stored-below r table (able σ r table (p .lengths) (p .settings)) q h in
       let k = c .moved q l h in
       record {
         bit-set =
             ap (has (closeOf σ r table .after)) k ∙ c .bits (countBelow (has r) q)
             ∙ lt-ltb (countBelow (has r) q) (countBelow (has r) (pages r)) (keeps-order r q (pages r) l h);
         bytes = ap (page (closeOf σ r table .after)) k ∙ c .bytes q l h;
+        below = omega (arith, k, goes-down r q, c .templates);
       }
+
+  -- ---- one salvage
+
+  salvaging-keeps : (r : Reader) (report : List ℕ) → Bytes (r .guarded .index) → (q : ℕ) → q < pages r → has r q ≡ true → Stands q r q (salvagedIn σ r report)
+  unfolding salvagedIn salvageAs withLibrary stored bit
+  salvaging-keeps r report y q l h =
+      let g = r .guarded in
+      let c : ℕ = length (g .templates) / 512 in
+      salvage-kinds σ (g .templates) (g .index) report (λ (e : Salvaged). Stands q r q (reader (r .plain) (withLibrary (e .templates) (e .index) g)))
+      (λ n. record { bit-set = h; bytes = refl })
+      (λ k. record {
+        bit-set = bits-salvaged (g .index) c record { long = k .wide; bytes = y } (omega (arith, k .high)) q ∙ rw (lt-ltb q c l) h;
+        bytes = page-stays (g .templates) (g .index) c (omega (arith, k .long)) q (λ m. h);
+      })
 
   -- ---- any life
 
-  pub lost-by-deletion : (ds : List Deed) (r : Reader) → Bytes (r .guarded .index) → (q : ℕ) → has r q ≡ true → StandsOrLost q r (sights σ r ds) (lastly σ r ds)
-  unfolding lastly deed sights whereIs
-  lost-by-deletion [] r y q h = inl record { bit-set = h; bytes = refl }
-  lost-by-deletion (calls es ∷ ds) r y q h = go (only-by-deletion σ ok r y q h es) (lost-by-deletion ds t (calls-bytes r y es) q)
+  pub lost-by-deletion : (ds : List Deed) (r : Reader) → Bytes (r .guarded .index) → (q : ℕ) → q < pages r → has r q ≡ true → StandsOrLost q r (sights σ r ds) (lastly σ r ds)
+  unfolding lastly deed afterWork sights workSeen whereIs capacity
+  lost-by-deletion [] r y q l h = inl record { bit-set = h; bytes = refl }
+  lost-by-deletion (calls es ∷ ds) r y q l h = go (only-by-deletion σ ok r y q h es) (lost-by-deletion ds t (calls-bytes σ ok r y es) q (rw (ever-capacity σ ok r es) l))
     where
       t : Reader
       t = finally σ r es
@@ -120,7 +107,7 @@ module _ (σ : Shape) (ok : σ .most ≤ 8 * σ .indexed) where
           → Stands q r (whereIs (sights σ t ds) q) (lastly σ t ds) ⊎ (SawDeleted q (exchanges σ r es) ⊎ Lost q (sights σ t ds))
       go (inl u) ih = ended (via (sights σ t ds) (u .bytes) (ih (u .bit-set)))
       go (inr d) ih = inr (inl d)
-  lost-by-deletion (closing table ∷ ds) r y q h = go (o .refusal) refl (lost-by-deletion ds (o .after) (closing-bytes r table y))
+  lost-by-deletion (between (closing table) ∷ ds) r y q l h = go (o .refusal) refl (lost-by-deletion ds (o .after) (work-bytes σ ok (closing table) r y))
     where
       o : Closed
       o = closeOf σ r table
@@ -128,9 +115,13 @@ module _ (σ : Shape) (ok : σ .most ≤ 8 * σ .indexed) where
       rest : List Sight
       rest = sights σ (o .after) ds
 
-      go : (n : ℕ) → o .refusal ≡ n → ((p : ℕ) → has (o .after) p ≡ true → StandsOrLost p (o .after) rest (lastly σ (o .after) ds))
+      go : (n : ℕ) → o .refusal ≡ n → ((p : ℕ) → p < pages (o .after) → has (o .after) p ≡ true → StandsOrLost p (o .after) rest (lastly σ (o .after) ds))
           → Stands q r (whereIs (told n (o .table) ∷ rest) q) (lastly σ (o .after) ds) ⊎ Lost q (told n (o .table) ∷ rest)
-      go zero z ih = let g = closing-goes r table q h z in via rest (g .bytes) (ih (getD (o .table) q 0) (g .bit-set))
+      go zero z ih = let g = closing-goes r table q l h z in via rest (g .bytes) (ih (getD (o .table) q 0) (g .below) (g .bit-set))
       go (suc n) z ih =
           let same : o .after ≡ r = closing-stays r table (λ k. absurd (omega arith)) in
-          via rest (ap (λ (x : Reader). page x q) same) (ih q (subst (λ (x : Reader). has x q ≡ true) (sym same) h))
+          via rest (ap (λ (x : Reader). page x q) same) (ih q (subst (λ (x : Reader). q < pages x) (sym same) l) (subst (λ (x : Reader). has x q ≡ true) (sym same) h))
+  lost-by-deletion (between (salvaging report) ∷ ds) r y q l h =
+      let k = salvaging-keeps r report y q l h in
+      via (sights σ (salvagedIn σ r report) ds) (k .bytes)
+      (lost-by-deletion ds (salvagedIn σ r report) (work-bytes σ ok (salvaging report) r y) q (rw (work-length σ ok (salvaging report) r) l) (k .bit-set))

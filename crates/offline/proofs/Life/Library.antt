@@ -1,6 +1,6 @@
--- The library over any life: calls, line switches and, between them, closings of its gaps (request [9]). Demand 2: "From an empty library, the valid count always equals
+-- The library over any life: calls, line switches and, between them, closings of its gaps (request [9]) and salvages (request [10]). Demand 2: "From an empty library, the valid count always equals
 -- the pages stored and not deleted since." "In demand 2's valid count a moved page goes on as stored under its new number, and its old number no longer stands for it."
-use mathlib.Core.Bool.{Bool, true, false, _&&_}
+use mathlib.Core.Bool.{Bool, true, false, true≢false, _&&_}
 use mathlib.Core.Path.{_≡_, refl, sym, ap, _∙_}
 use mathlib.Core.List.{List, [], _∷_}
 use Prim.Native.Nat.{ℕ, _*_, _/_, _≤_, _<_}
@@ -9,10 +9,10 @@ use native.Mathlib.Decide.{decLt}
 use lib.Dec.{T, eqb, ltb}
 use lib.ListN.{length, getD}
 use borrow.Author.Tests.{lt-ltb, le-ltb, ne-eqb}
-use Rattle.protocol.specs.Bytes.{zeros}
+use Rattle.protocol.specs.Bytes.{Bytes, zeros}
 use Rattle.protocol.specs.Tests.{some, countBelow}
 use Rattle.protocol.specs.Index.{stored, setBits}
-use Rattle.protocol.specs.Reader.{fromPage, Reader, capacity, locked}
+use Rattle.protocol.specs.Reader.{fromPage, Reader, capacity, locked, withLibrary}
 use Rattle.protocol.specs.Commands.{templeteNum, barred, command}
 use Rattle.protocol.specs.Data.{acknowledge}
 use Rattle.protocol.specs.Step.{order, hear, rested}
@@ -24,14 +24,18 @@ use Rattle.protocol.proofs.Laws.Below.{some-at, some-none, length-listed, at-li
 use Rattle.protocol.proofs.Promises.Words.Told.{Gives, word, buffer}
 use Rattle.protocol.proofs.Promises.Refusals.StaysLegal.{Legal}
 use Rattle.protocol.proofs.Promises.Refusals.StaysLegal as calling
-use Rattle.dialogues.proofs.Laws.History.{ever-capacity}
+use Rattle.protocol.proofs.Laws.Index.{Fine, stored-zeros, fine-with, fine-span, fine-zeros}
+use Rattle.dialogues.proofs.Laws.History.{ever-capacity, Keeps}
 use Rattle.dialogues.proofs.Library.ValidCount.{Tells, tells-none, tells-count, tells-ever, tells-told}
 use Rattle.dialogues.proofs.Library.Faithful.{Faithful, Holds, ever-faithful, stays-faithful}
 use Rattle.offline.specs.CloseGaps.{rank, newPage, closedUp, tableOf, Closed, fitClosing, closeAs, closeOf}
-use Rattle.offline.specs.Life.{Deed, calls, closing, deed, lastly, Sight, sightOf, sights, lifeOf}
+use Rattle.offline.specs.Salvage.{Salvaged, salvageAs, salvagedIn}
+use Rattle.offline.specs.Life.{Work, closing, salvaging, afterWork, Deed, calls, between, deed, lastly, Sight, told, workSeen, sights, lifeOf}
 use Rattle.offline.proofs.Laws.Gaps.{rank-lt, Source, source, length-closed, fine-closed, stored-closed}
 use Rattle.offline.proofs.Gaps.Refusals.{Able, able, close-kinds}
 use Rattle.offline.proofs.Gaps.StaysLegal.{closed-legal, closed-faithful}
+use Rattle.offline.proofs.Salvage.StaysLegal.{salvaged-legal, salvaged-faithful}
+use Rattle.offline.proofs.Life.Work.{work-legal, work-capacity, Below, calls-below, work-below, salvaging-leaves}
 
 -- the pages that were seen stored and not deleted since, under the numbers that the tables told, of an index of m bytes
 abbrev pub livePages : ℕ → List Sight → ℕ
@@ -44,23 +48,13 @@ module _ (σ : Shape) (ok : σ .most ≤ 8 * σ .indexed) where
   unfolding lastly deed
   ever-legal [] r l = l
   ever-legal (calls es ∷ ds) r l = ever-legal ds (finally σ r es) (calling.ever-legal σ ok r l es)
-  ever-legal (closing table ∷ ds) r l = ever-legal ds (closeOf σ r table .after) (closed-legal σ ok r table l)
-
-  pub close-length : (r : Reader) (table : List ℕ) → length (closeOf σ r table .after .guarded .templates) ≡ length (r .guarded .templates)
-  unfolding closeAs closedUp
-  close-length r table =
-      close-kinds σ r table (λ (e : Closed). length (e .after .guarded .templates) ≡ length (r .guarded .templates)) (λ k. refl)
-      (λ t u. length-closed (capacity (r .guarded)) (r .guarded .templates) (r .guarded .index) (able σ r table t u .long))
-
-  pub close-capacity : (r : Reader) (table : List ℕ) → capacity (closeOf σ r table .after .guarded) ≡ capacity (r .guarded)
-  unfolding capacity
-  close-capacity r table = ap (λ (n : ℕ). n / 512) (close-length r table)
+  ever-legal (between w ∷ ds) r l = ever-legal ds (afterWork σ r w) (work-legal σ ok w r l)
 
   pub life-capacity : (ds : List Deed) (r : Reader) → capacity (lastly σ r ds .guarded) ≡ capacity (r .guarded)
   unfolding lastly deed
   life-capacity [] r = refl
   life-capacity (calls es ∷ ds) r = life-capacity ds (finally σ r es) ∙ ever-capacity σ ok r es
-  life-capacity (closing table ∷ ds) r = life-capacity ds (closeOf σ r table .after) ∙ close-capacity r table
+  life-capacity (between w ∷ ds) r = life-capacity ds (afterWork σ r w) ∙ work-capacity σ ok w r
 
   -- ---- the valid count
 
@@ -108,33 +102,42 @@ module _ (σ : Shape) (ok : σ .most ≤ 8 * σ .indexed) where
           rw (long, lt-ltb q (rank x c) l) (some-at (f q) c (d .page) (d .below) (here q (d .page) (d .below) (d .there) (d .new)))
       go q (no l) = rw (long, le-ltb q (rank x c) (omega arith)) (some-none (f q) c (λ p m. there q p m (omega arith) (stored x p) refl))
 
-  pub deeds-tell : (ds : List Deed) (r : Reader) (acts : List Act) → Tells (σ .indexed) (r .guarded .index) acts
+  -- of a library of which no page from C on is stored
+  pub deeds-tell : (ds : List Deed) (r : Reader) (acts : List Act) → Below σ ok (r .guarded .templates) (r .guarded .index) → Tells (σ .indexed) (r .guarded .index) acts
       → Tells (σ .indexed) (lastly σ r ds .guarded .index) (lifeOf (sights σ r ds) acts)
-  unfolding lastly deed sights lifeOf closeAs
-  deeds-tell [] r acts k = k
-  deeds-tell (calls es ∷ ds) r acts k = deeds-tell ds (finally σ r es) _ (tells-ever σ ok r acts k es)
-  deeds-tell (closing table ∷ ds) r acts k =
+  unfolding lastly deed afterWork sights workSeen lifeOf closeAs
+  deeds-tell [] r acts b k = k
+  deeds-tell (calls es ∷ ds) r acts b k = deeds-tell ds (finally σ r es) _ (calls-below σ ok r (k .fine .bytes) b es) (tells-ever σ ok r acts k es)
+  deeds-tell (between (closing table) ∷ ds) r acts b k =
       close-kinds σ r table
-      (λ (e : Closed). Tells (σ .indexed) (lastly σ (e .after) ds .guarded .index) (lifeOf (sightOf e ∷ sights σ (e .after) ds) acts))
-      (λ n. deeds-tell ds r acts k) (λ t u. deeds-tell ds (closeAs r table 0 .after) _ (closing-tells r table acts k t u))
+      (λ (e : Closed). Below σ ok (e .after .guarded .templates) (e .after .guarded .index)
+      → Tells (σ .indexed) (lastly σ (e .after) ds .guarded .index) (lifeOf (told (e .refusal) (e .table) ∷ sights σ (e .after) ds) acts))
+      (λ n h. deeds-tell ds r acts h k) (λ t u h. deeds-tell ds (closeAs r table 0 .after) _ h (closing-tells r table acts k t u)) (work-below σ ok (closing table) r (k .fine .bytes) b)
+  deeds-tell (between (salvaging report) ∷ ds) r acts b k =
+      deeds-tell ds (salvagedIn σ r report) acts (work-below σ ok (salvaging report) r (k .fine .bytes) b) (rw (salvaging-leaves σ ok r report (k .fine .bytes) b) k)
+
+  -- none of an empty library is
+  pub none-below : (r : Reader) → r .guarded .index ≡ zeros (σ .indexed) → Below σ ok (r .guarded .templates) (r .guarded .index)
+  none-below r z q s = absurd (true≢false (sym s ∙ ap (λ (x : List ℕ). stored x q) z ∙ stored-zeros (σ .indexed) q))
 
   pub valid-count : (r : Reader) → r .guarded .index ≡ zeros (σ .indexed) → (ds : List Deed) → setBits (lastly σ r ds .guarded .index) ≡ livePages (σ .indexed) (sights σ r ds)
-  valid-count r z ds = tells-count (σ .indexed) (lastly σ r ds .guarded .index) (lifeOf (sights σ r ds) []) (deeds-tell ds r [] (rw z (tells-none (σ .indexed))))
+  valid-count r z ds = tells-count (σ .indexed) (lastly σ r ds .guarded .index) (lifeOf (sights σ r ds) []) (deeds-tell ds r [] (none-below r z) (rw z (tells-none (σ .indexed))))
 
   -- and TempleteNum answers them, at any time that the reader is not locked
   pub count-told : (r : Reader) → Legal σ ok r → r .guarded .index ≡ zeros (σ .indexed) → (ds : List Deed) (s : List ℕ) (lent : Lent) → T (fitLent (capacity (r .guarded)) lent)
       → locked (lastly σ r ds .plain) ≡ false → hear (lastly σ r ds .plain .address) s ≡ order (command (barred templeteNum))
       → Gives (acknowledge (lastly σ r ds .plain .address) 0x00 (word (livePages (σ .indexed) (sights σ r ds)))) (rested (lastly σ r ds)) s lent (callOf σ (lastly σ r ds) s lent)
   count-told r f z ds s lent u =
-      tells-told σ ok (lastly σ r ds) _ (deeds-tell ds r [] (rw z (tells-none (σ .indexed)))) (ever-legal ds r f .legal) s lent (rw (life-capacity ds r) u)
+      tells-told σ ok (lastly σ r ds) _ (deeds-tell ds r [] (none-below r z) (rw z (tells-none (σ .indexed)))) (ever-legal ds r f .legal) s lent (rw (life-capacity ds r) u)
 
   -- ---- request [7]: a buffer with an origin holds the bytes of the page that its origin names, which is stored
 
   pub deeds-faithful : (ds : List Deed) (r : Reader) → Legal σ ok r → Faithful r → Faithful (lastly σ r ds)
-  unfolding lastly deed
+  unfolding lastly deed afterWork
   deeds-faithful [] r l f = f
   deeds-faithful (calls es ∷ ds) r l f = deeds-faithful ds (finally σ r es) (calling.ever-legal σ ok r l es) (stays-faithful σ ok r l f es)
-  deeds-faithful (closing table ∷ ds) r l f = deeds-faithful ds (closeOf σ r table .after) (closed-legal σ ok r table l) (closed-faithful σ ok r table f)
+  deeds-faithful (between (closing table) ∷ ds) r l f = deeds-faithful ds (closeOf σ r table .after) (closed-legal σ ok r table l) (closed-faithful σ ok r table f)
+  deeds-faithful (between (salvaging report) ∷ ds) r l f = deeds-faithful ds (salvagedIn σ r report) (salvaged-legal σ ok r report l) (salvaged-faithful σ ok r report l f)
 
   pub life-faithful : (r : Reader) → Legal σ ok r → Faithful r → (ds : List Deed) (b p : ℕ) → buffer b (lastly σ r ds .guarded) .origin ≡ fromPage p
       → Holds σ ok (lastly σ r ds) b p

@@ -1,8 +1,8 @@
--- The same with a receiver: over any life of pieces, line switches and closings, by what its host saw and the tables that were told.
+-- The same with a receiver: over any life of pieces, line switches and work between them, by what its host saw and the tables that were told.
 use mathlib.Core.Bool.{true, false}
 use mathlib.Core.Path.{_≡_, refl, sym, ap, _∙_, subst}
 use mathlib.Core.List.{List, [], _∷_}
-use Prim.Native.Nat.{ℕ, _*_, _≤_}
+use Prim.Native.Nat.{ℕ, _*_, _≤_, _<_}
 use lib.Dec.{T}
 use Rattle.protocol.specs.Bytes.{Bytes, zeros}
 use Rattle.protocol.specs.Index.{setBits}
@@ -13,12 +13,11 @@ use Rattle.protocol.specs.Step.{order, hear, rested}
 use Rattle.protocol.specs.Call.{Shape, Lent, fitLent, callOf}
 use Rattle.protocol.specs.Receiver.{Line, line, runOf, receiveOf}
 use Rattle.dialogues.specs.Caller.{finallyOn, runs, seen}
-use Rattle.protocol.proofs.Promises.Words.Told.{Gives, word, has, buffer}
+use Rattle.protocol.proofs.Promises.Words.Told.{Gives, word, pages, has, buffer}
 use Rattle.protocol.proofs.Promises.Refusals.StaysLegal.{Legal}
 use Rattle.dialogues.proofs.Library.Faithful.{Faithful, Holds}
 use Rattle.dialogues.proofs.Lines.ReceiverCalls.{as-calls, ever-few, seen-is, LineGives, line-gives}
-use Rattle.offline.specs.CloseGaps.{closeOf}
-use Rattle.offline.specs.Life.{Deed, calls, closing, deed, lastly, deedOn, lastlyOn, Sight, exchanged, sightOf, sights, sightsOn}
+use Rattle.offline.specs.Life.{afterWork, Deed, calls, between, deed, lastly, deedOn, lastlyOn, Sight, exchanged, workSeen, sights, sightsOn}
 use Rattle.offline.proofs.Life.Library.{livePages, ever-legal, valid-count, count-told, life-faithful}
 use Rattle.offline.proofs.Life.Deleted.{StandsOrLost, lost-by-deletion}
 
@@ -29,20 +28,20 @@ module _ (σ : Shape) where
   unfoldable pub runDeeds : Line → List Deed → List Deed
   runDeeds x [] = []
   runDeeds x (calls es ∷ ds) = calls (runs σ x es) ∷ runDeeds (finallyOn σ x es) ds
-  runDeeds x (closing table ∷ ds) = closing table ∷ runDeeds (line (closeOf σ (x .reader) table .after) (x .receiver)) ds
+  runDeeds x (between w ∷ ds) = between w ∷ runDeeds (line (afterWork σ (x .reader) w) (x .receiver)) ds
 
   pub life-few : (ds : List Deed) (x : Line) → x .receiver .count ≤ 267 → lastlyOn σ x ds .receiver .count ≤ 267
   unfolding lastlyOn deedOn
   life-few [] x few = few
   life-few (calls es ∷ ds) x few = life-few ds (finallyOn σ x es) (ever-few σ es x few)
-  life-few (closing table ∷ ds) x few = life-few ds (line (closeOf σ (x .reader) table .after) (x .receiver)) few
+  life-few (between w ∷ ds) x few = life-few ds (line (afterWork σ (x .reader) w) (x .receiver)) few
 
   pub as-deeds : (ds : List Deed) (x : Line) → x .receiver .count ≤ 267 → lastlyOn σ x ds .reader ≡ lastly σ (x .reader) (runDeeds x ds)
   unfolding lastlyOn deedOn lastly deed runDeeds
   as-deeds [] x few = refl
   as-deeds (calls es ∷ ds) x few =
       as-deeds ds (finallyOn σ x es) (ever-few σ es x few) ∙ ap (λ (r : Reader). lastly σ r (runDeeds (finallyOn σ x es) ds)) (as-calls σ es x few)
-  as-deeds (closing table ∷ ds) x few = as-deeds ds (line (closeOf σ (x .reader) table .after) (x .receiver)) few
+  as-deeds (between w ∷ ds) x few = as-deeds ds (line (afterWork σ (x .reader) w) (x .receiver)) few
 
   pub sights-is : (ds : List Deed) (x : Line) → x .receiver .count ≤ 267 → sights σ (x .reader) (runDeeds x ds) ≡ sightsOn σ x ds
   unfolding sightsOn deedOn sights runDeeds
@@ -51,8 +50,7 @@ module _ (σ : Shape) where
       let y : Line = finallyOn σ x es in
       (λ j. exchanged (seen-is σ es x few j) ∷ sights σ (sym (as-calls σ es x few) j) (runDeeds y ds))
       ∙ ap (λ (ss : List Sight). exchanged (seen σ x es) ∷ ss) (sights-is ds y (ever-few σ es x few))
-  sights-is (closing table ∷ ds) x few =
-      ap (λ (ss : List Sight). sightOf (closeOf σ (x .reader) table) ∷ ss) (sights-is ds (line (closeOf σ (x .reader) table .after) (x .receiver)) few)
+  sights-is (between w ∷ ds) x few = ap (workSeen σ (x .reader) w) (sights-is ds (line (afterWork σ (x .reader) w) (x .receiver)) few)
 
 -- ---- the promises
 
@@ -82,10 +80,10 @@ module _ (σ : Shape) (ok : σ .most ≤ 8 * σ .indexed) (x : Line) (few : x .r
       line-gives σ y (life-few σ ds x few) piece lent _ _ told
 
   -- request [5]'s stored pages
-  pub line-lost-by-deletion : Bytes (x .reader .guarded .index) → (q : ℕ) → has (x .reader) q ≡ true → StandsOrLost q (x .reader) (sightsOn σ x ds) (y .reader)
-  line-lost-by-deletion b q h =
+  pub line-lost-by-deletion : Bytes (x .reader .guarded .index) → (q : ℕ) → q < pages (x .reader) → has (x .reader) q ≡ true → StandsOrLost q (x .reader) (sightsOn σ x ds) (y .reader)
+  line-lost-by-deletion b q l h =
       subst (λ (a : Reader × List Sight). StandsOrLost q (x .reader) (a .1) (a .0)) (λ j. (sym (as-deeds σ ds x few) j, sights-is σ ds x few j))
-      (lost-by-deletion σ ok (runDeeds σ x ds) (x .reader) b q h)
+      (lost-by-deletion σ ok (runDeeds σ x ds) (x .reader) b q l h)
 
   -- request [7]'s buffers
   pub line-faithful : Legal σ ok (x .reader) → Faithful (x .reader) → (b p : ℕ) → buffer b (y .reader .guarded) .origin ≡ fromPage p → Holds σ ok (y .reader) b p

@@ -1,6 +1,6 @@
--- Demand 3 over any life: no host learns more because gaps were closed between its runs, nor whether they were. "two legal locked readers of equal capacity and, but for the filled marks,
+-- Demand 3 over any life: no host learns more because gaps were closed or a library was salvaged between its runs, nor whether that was done. "two legal locked readers of equal capacity and, but for the filled marks,
 -- equal settings, whose templates, index, notepad, buffers and filled marks differ at will, answer any sequence of runs alike, line switches among them, up to and
--- including the first accepted password": with closings between them, each reader's own, with any tables, refused or not.
+-- including the first accepted password": with work between them, each reader's own, whatever is lent for it, refused or not.
 use mathlib.Core.Bool.{Bool, true, false, _&&_, cond}
 use mathlib.Core.Path.{_≡_, refl, sym, ap, ap₂, _∙_, subst}
 use mathlib.Core.List.{List, [], _∷_}
@@ -17,12 +17,11 @@ use Rattle.protocol.proofs.Promises.Refusals.StaysLegal.{Legal, stays-legal, ev
 use Rattle.protocol.proofs.Promises.Secrets.Lock.{mark, Blind, second-half}
 use Rattle.dialogues.proofs.Laws.History.{ever-capacity}
 use Rattle.offline.specs.CloseGaps.{Closed, fitClosing, closeRefusal, closeAs, closeOf}
-use Rattle.offline.specs.Life.{Deed, calls, closing, deed, lastly, answers, keptOver, Unopened, NeverOpened, PairedDeeds}
-use Rattle.offline.proofs.Gaps.Refusals.{close-kinds}
-use Rattle.offline.proofs.Gaps.StaysLegal.{closed-legal}
-use Rattle.offline.proofs.Life.Library.{close-capacity}
+use Rattle.offline.specs.Salvage.{salvagedIn}
+use Rattle.offline.specs.Life.{afterWork, Deed, calls, between, deed, lastly, answers, keptOver, Unopened, NeverOpened, PairedDeeds}
+use Rattle.offline.proofs.Life.Work.{work-legal, work-plain, work-capacity}
 
--- ---- the first half: "its copy with only the verified mark changed" is one after a closing, too
+-- ---- the first half: "its copy with only the verified mark changed" is one after a closing and after a salvage, too
 
 -- without a transfer the marks make no difference
 same-transfer : (p q : Plain) (g : Guarded) (t : Transfer) → t ≡ closed → fitTransfer p g t ≡ fitTransfer q g t
@@ -44,6 +43,10 @@ closed-copy σ r z b table = ap (closeAs (mark b r) table) (same-refusal σ r z 
     go : (n : ℕ) → closeAs (mark b r) table n ≡ (let e = closeAs r table n in record { refusal = e .refusal; table = e .table; after = mark b (e .after) })
     go zero = refl
     go (suc n) = refl
+
+pub salvaged-copy : (σ : Shape) (r : Reader) (b : Bool) (report : List ℕ) → salvagedIn σ (mark b r) report ≡ mark b (salvagedIn σ r report)
+unfolding salvagedIn
+salvaged-copy σ r b report = refl
 
 -- ---- the second half
 
@@ -101,23 +104,19 @@ module _ (σ : Shape) (ok : σ .most ≤ 8 * σ .indexed) where
           let i = ih (subst (λ (x : Plain). T (locked x)) (sym p) k) in
           record { legally = i .legally; pages = i .pages ∙ same; settings = λ w. i .settings w ∙ p }
 
-  pub close-plain : (r : Reader) (table : List ℕ) → closeOf σ r table .after .plain ≡ r .plain
-  unfolding closeAs
-  close-plain r table = close-kinds σ r table (λ (e : Closed). e .after .plain ≡ r .plain) (λ n. refl) (λ t u. refl)
-
   pub answer-alike : (ds gs : List Deed) (r t : Reader) → PairedDeeds (capacity (r .guarded)) ds gs → Legal σ ok r → Legal σ ok t → T (locked (r .plain)) → r .plain ≡ t .plain
       → capacity (r .guarded) ≡ capacity (t .guarded) → answers σ r ds ≡ answers σ t gs
   unfolding answers
   answer-alike [] [] r t q l m k e c = refl
   answer-alike [] (calls fs ∷ gs) r t q l m k e c = absurd q
-  answer-alike [] (closing u ∷ gs) r t q l m k e c =
-      answer-alike [] gs r (closeOf σ t u .after) q l (closed-legal σ ok t u m) k (e ∙ sym (close-plain t u)) (c ∙ sym (close-capacity σ ok t u))
+  answer-alike [] (between u ∷ gs) r t q l m k e c =
+      answer-alike [] gs r (afterWork σ t u) q l (work-legal σ ok u t m) k (e ∙ sym (work-plain σ ok u t)) (c ∙ sym (work-capacity σ ok u t))
   answer-alike (calls es ∷ ds) [] r t q l m k e c = absurd q
-  answer-alike (calls es ∷ ds) (closing u ∷ gs) r t q l m k e c =
-      answer-alike (calls es ∷ ds) gs r (closeOf σ t u .after) q l (closed-legal σ ok t u m) k (e ∙ sym (close-plain t u)) (c ∙ sym (close-capacity σ ok t u))
-  answer-alike (closing u ∷ ds) gs r t q l m k e c =
-      answer-alike ds gs (closeOf σ r u .after) t (subst (λ (n : ℕ). PairedDeeds n ds gs) (sym (close-capacity σ ok r u)) q) (closed-legal σ ok r u l) m
-      (subst (λ (p : Plain). T (locked p)) (sym (close-plain r u)) k) (close-plain r u ∙ e) (close-capacity σ ok r u ∙ c)
+  answer-alike (calls es ∷ ds) (between u ∷ gs) r t q l m k e c =
+      answer-alike (calls es ∷ ds) gs r (afterWork σ t u) q l (work-legal σ ok u t m) k (e ∙ sym (work-plain σ ok u t)) (c ∙ sym (work-capacity σ ok u t))
+  answer-alike (between u ∷ ds) gs r t q l m k e c =
+      answer-alike ds gs (afterWork σ r u) t (subst (λ (n : ℕ). PairedDeeds n ds gs) (sym (work-capacity σ ok u r)) q) (work-legal σ ok u r l) m
+      (subst (λ (p : Plain). T (locked p)) (sym (work-plain σ ok u r)) k) (work-plain σ ok u r ∙ e) (work-capacity σ ok u r ∙ c)
   answer-alike (calls es ∷ ds) (calls fs ∷ gs) r t (p, q) l m k e c =
       ap₂ (λ (a : List Told) (b : List (List Told)). a ∷ b) (blind .told)
       (go (x .last .plain .verified) (y .last .plain .verified) refl (sym (ap (λ (p : Plain). p .verified) (blind .settings)))
@@ -146,8 +145,8 @@ module _ (σ : Shape) (ok : σ .most ≤ 8 * σ .indexed) where
           rw w
           (ih (subst (λ (p : Plain). T (locked p)) (sym (one .settings v)) k) (blind .settings) (one .pages ∙ c ∙ sym (other .pages)))
 
-  -- ---- "Until then these contents stay as they were, save that a line switch wipes the two buffers and clears their filled marks": runs change nothing, and closings what
-  -- they change
+  -- ---- "Until then these contents stay as they were, save that a line switch wipes the two buffers and clears their filled marks": runs change nothing, and work what
+  -- it changes
 
   pub contents-stay : (ds : List Deed) (r : Reader) → Legal σ ok r → T (locked (r .plain)) → NeverOpened σ r ds → lastly σ r ds ≡ reader (r .plain) (keptOver σ (r .plain) (r .guarded) ds)
   unfolding lastly deed keptOver
@@ -156,7 +155,7 @@ module _ (σ : Shape) (ok : σ .most ≤ 8 * σ .indexed) where
       let same : finally σ r es ≡ reader (r .plain) (kept (r .guarded) es) = events-stay es r l k n in
       contents-stay ds (finally σ r es) (ever-legal σ ok r l es) (subst (λ (x : Reader). T (locked (x .plain))) (sym same) k) u
       ∙ ap (λ (x : Reader). reader (x .plain) (keptOver σ (x .plain) (x .guarded) ds)) same
-  contents-stay (closing table ∷ ds) r l k u =
-      let t : Reader = closeOf σ r table .after in
-      contents-stay ds t (closed-legal σ ok r table l) (subst (λ (p : Plain). T (locked p)) (sym (close-plain r table)) k) u
-      ∙ ap (λ (p : Plain). reader p (keptOver σ p (t .guarded) ds)) (close-plain r table)
+  contents-stay (between w ∷ ds) r l k u =
+      let t : Reader = afterWork σ r w in
+      contents-stay ds t (work-legal σ ok w r l) (subst (λ (p : Plain). T (locked p)) (sym (work-plain σ ok w r)) k) u
+      ∙ ap (λ (p : Plain). reader p (keptOver σ p (t .guarded) ds)) (work-plain σ ok w r)

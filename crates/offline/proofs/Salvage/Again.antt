@@ -16,15 +16,15 @@ use Rattle.protocol.proofs.Laws.Index.{Fine}
 use Rattle.offline.specs.Salvage.{salvagedIndex, salvagedPages, Salvaged, salvageAs, salvageOf}
 use Rattle.offline.proofs.Laws.Salvage.{part-blank, all-zero, same-pages, fine-salvaged, bits-salvaged, same-index}
 use Rattle.offline.proofs.Salvage.Refusals.{SalvageLengths, salvage-means, salvage-is}
-use Rattle.offline.proofs.Salvage.Salvages.{isSet, pageOf, Salvages, salvages}
+use Rattle.offline.proofs.Salvage.Salvages.{hasBit, pageOf, Salvages, salvages}
 
 -- templates u and an index z that have the stored pages of t and x, of c pages, whatever lies in vacant pages and at bits from c on
 pub record SameStored (c : ℕ) (t x u z : List ℕ) : Type 0 where
   pub templates : length u ≡ length t
   pub index : length z ≡ length x
   pub index-bytes : (i : ℕ) → getD z i 0 < 256
-  pub bits : (q : ℕ) → q < c → isSet z q ≡ isSet x q
-  pub bytes : (j : ℕ) → j < 512 * c → isSet x (j / 512) ≡ true → getD u j 0 ≡ getD t j 0
+  pub bits : (q : ℕ) → q < c → hasBit z q ≡ hasBit x q
+  pub bytes : (j : ℕ) → j < 512 * c → hasBit x (j / 512) ≡ true → getD u j 0 ≡ getD t j 0
 
 -- nothing changes, and the report is all zero
 pub record CleanAlready (t x : List ℕ) (e : Salvaged) : Type 0 where
@@ -102,10 +102,10 @@ module _ (t x report : List ℕ) (m : SalvageLengths t x report) (y : Bytes x) w
       again = salvages (e .templates) (e .index) next (fits (e .templates) (e .index) next left-stored l) (s .index-bytes)
 
       -- a vacant page was zeroed by the first run
-      blank : (q : ℕ) → q < c → isSet (e .index) q ≡ false → pageOf (e .templates) q ≡ zeros 512
+      blank : (q : ℕ) → q < c → hasBit (e .index) q ≡ false → pageOf (e .templates) q ≡ zeros 512
       blank q a v =
           part-blank (e .templates) (512 * q) 512 (omega (arith, s .templates))
-          (λ j b d. let at : j / 512 ≡ q = omega arith in s .zeroed j (omega arith) (ap (isSet x) at ∙ sym (s .bits q a) ∙ v))
+          (λ j b d. let at : j / 512 ≡ q = omega arith in s .zeroed j (omega arith) (ap (hasBit x) at ∙ sym (s .bits q a) ∙ v))
 
       none : (q : ℕ) → q < 1024 → (n : ℕ) → getD (salvageOf core (e .templates) (e .index) next .report) q 0 ≡ n → getD (salvageOf core (e .templates) (e .index) next .report) q 0 ≡ 0
       none q a zero f = f

@@ -58,3 +58,12 @@ module _ (σ : Shape) (t x report : List ℕ) where
       go : (n : ℕ) → salvageRefusal σ t x report ≡ n → P (salvageAs t x report n)
       go zero e = let y = verdict-passed ((fitSalvage σ t x report, 1) ∷ []) tt e in h (sized σ t x (search (and-l)))
       go (suc n) e = f n
+
+  -- a call that is not refused had fit lengths
+  pub salvage-passes : salvageOf σ t x report .refusal ≡ 0 → T (fitSalvage σ t x report)
+  unfolding salvageOf salvageAs salvageRefusal
+  salvage-passes e = go (salvageRefusal σ t x report) refl e
+    where
+      go : (n : ℕ) → salvageRefusal σ t x report ≡ n → salvageAs t x report n .refusal ≡ 0 → T (fitSalvage σ t x report)
+      go zero e z = let y = verdict-passed ((fitSalvage σ t x report, 1) ∷ []) tt e in search (and-l)
+      go (suc n) e z = absurd (omega arith)

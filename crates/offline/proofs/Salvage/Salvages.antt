@@ -22,8 +22,8 @@ use Rattle.offline.proofs.Laws.Salvage.{length-salvaged, byte-zeroed, b
 use Rattle.offline.proofs.Salvage.Refusals.{SalvageLengths, salvage-means, salvage-is}
 
 -- page q's bit, that of weight 2^(q mod 8) in byte q / 8; and its 512 bytes, from 512 × q on
-abbrev pub isSet : List ℕ → ℕ → Bool
-isSet x q = eqb (getD x (q / 8) 0 / 2 ^ (q % 8) % 2) 1
+abbrev pub hasBit : List ℕ → ℕ → Bool
+hasBit x q = eqb (getD x (q / 8) 0 / 2 ^ (q % 8) % 2) 1
 
 abbrev pub pageOf : List ℕ → ℕ → List ℕ
 pageOf t q = take 512 (drop (512 * q) t)
@@ -32,21 +32,21 @@ pageOf t q = take 512 (drop (512 * q) t)
 pub record Salvages (t x : List ℕ) (c : ℕ) (e : Salvaged) : Type 0 where
   pub refusal : e .refusal ≡ 0
   -- "clear bits at or above C"
-  pub cleared : (q : ℕ) → c ≤ q → isSet (e .index) q ≡ false
+  pub cleared : (q : ℕ) → c ≤ q → hasBit (e .index) q ≡ false
   -- "zero the bytes of vacant pages"
-  pub zeroed : (j : ℕ) → j < 512 * c → isSet x (j / 512) ≡ false → getD (e .templates) j 0 ≡ 0
+  pub zeroed : (j : ℕ) → j < 512 * c → hasBit x (j / 512) ≡ false → getD (e .templates) j 0 ≡ 0
   -- "and touch nothing else"
-  pub bits : (q : ℕ) → q < c → isSet (e .index) q ≡ isSet x q
-  pub bytes : (j : ℕ) → j < 512 * c → isSet x (j / 512) ≡ true → getD (e .templates) j 0 ≡ getD t j 0
+  pub bits : (q : ℕ) → q < c → hasBit (e .index) q ≡ hasBit x q
+  pub bytes : (j : ℕ) → j < 512 * c → hasBit x (j / 512) ≡ true → getD (e .templates) j 0 ≡ getD t j 0
   pub templates : length (e .templates) ≡ 512 * c
   pub index : length (e .index) ≡ 128
   pub index-bytes : (i : ℕ) → getD (e .index) i 0 < 256
   -- "A report of 1024 bytes, one per index bit, says 0 for unchanged, 1 for bit cleared, 2 for non-zero bytes zeroed."
   pub entries : length (e .report) ≡ 1024
   pub says : (q : ℕ) → q < 1024 → getD (e .report) q 0 ≤ 2
-  pub says-0 : (q : ℕ) → q < 1024 → (getD (e .report) q 0 ≡ 0) ↔ ((isSet (e .index) q ≡ isSet x q) × (pageOf (e .templates) q ≡ pageOf t q))
-  pub says-1 : (q : ℕ) → q < 1024 → (getD (e .report) q 0 ≡ 1) ↔ ((c ≤ q) × (isSet x q ≡ true))
-  pub says-2 : (q : ℕ) → q < 1024 → (getD (e .report) q 0 ≡ 2) ↔ ((q < c) × ((isSet x q ≡ false) × (pageOf t q ≢ replicate 512 0)))
+  pub says-0 : (q : ℕ) → q < 1024 → (getD (e .report) q 0 ≡ 0) ↔ ((hasBit (e .index) q ≡ hasBit x q) × (pageOf (e .templates) q ≡ pageOf t q))
+  pub says-1 : (q : ℕ) → q < 1024 → (getD (e .report) q 0 ≡ 1) ↔ ((c ≤ q) × (hasBit x q ≡ true))
+  pub says-2 : (q : ℕ) → q < 1024 → (getD (e .report) q 0 ≡ 2) ↔ ((q < c) × ((hasBit x q ≡ false) × (pageOf t q ≢ replicate 512 0)))
   -- "What it leaves passes refusal 3's index test."
   pub passes : T (clearFrom (e .index) c)
   -- the set bits are fewer by those that are reported 1

@@ -8,8 +8,8 @@ use borrow.Author.Needs.{needs}
 use Rattle.protocol.specs.Bytes.{byteAt}
 use Rattle.protocol.specs.Index.{stored}
 use Rattle.protocol.proofs.Laws.Bits.{shift-bit}
-use Rattle.upkeep.proofs.gaps.is_stored.Statement.{statement}
-use Rattle.upkeep.proofs.gaps.is_stored.Tie as tie
+use Rattle.upkeep.proofs.lent.is_stored.Statement.{statement}
+use Rattle.upkeep.proofs.lent.is_stored.Tie as tie
 
 masked : (x : List ℕ) (p : ℕ) → eqb (bitAnd (byteAt x (p / 8) / 2 ^ (p % 8)) 1) 1 ≡ stored x p
 unfolding stored
