@@ -132,7 +132,7 @@ all-bits : (b : ℕ) → b < 256 → eqb b 0 ≡ every (λ j. not (eqb (bit b j)
 unfolding every bit
 all-bits b h = ap (λ (n : ℕ). eqb n 0) (sym (div-one b)) ∙ high-bits b 0 h (lit< tt)
 
-or-none : (a b : ℕ) → eqb (bitOr a b) 0 ≡ (eqb a 0 && eqb b 0)
+pub or-none : (a b : ℕ) → eqb (bitOr a b) 0 ≡ (eqb a 0 && eqb b 0)
 or-none a b = go (eqb a 0) (eqb b 0) refl refl
   where
     go : (s t : Bool) → eqb a 0 ≡ s → eqb b 0 ≡ t → eqb (bitOr a b) 0 ≡ (s && t)

@@ -1,3 +1,5 @@
+pub mod Lengths
 pub mod Gathering
 pub mod FirstBits
 pub mod Closing
+pub mod Salvaging

@@ -1,5 +1,5 @@
 -- Salvage: what its functions need and leave.
-use mathlib.Core.Bool.{Bool, cond}
+use mathlib.Core.Bool.{Bool, true, cond}
 use mathlib.Core.Logic.{_≢_}
 use mathlib.Core.List.{List}
 use mathlib.Core.Path.{_≡_}
@@ -36,6 +36,7 @@ pub record Passed (t x v : List ℕ) (p r : ℕ) (u w : List ℕ) : Type 0 where
 -- all pages: the templates u, and the report w, in which no other bit has an entry
 pub record PagesSalvaged (t x u w : List ℕ) : Type 0 where
   pub pages : u ≡ salvagedPages t x (length t / pageBytes)
+  pub same : length u ≡ length t
   pub entries : length w ≡ 8 * length x
   pub reported : (j : ℕ) → j < length t / pageBytes → getD w j 0 ≡ pageEntry t x j
   pub none : (j : ℕ) → length t / pageBytes ≤ j → getD w j 0 ≡ unchanged

@@ -1,7 +1,7 @@
 -- bystrodol_salvage at the door for C: over the bytes that lie in a caller's memory and report before it and after it.
 use mathlib.Core.Path.{_≡_, refl, sym, ap, _∙_, subst}
 use mathlib.Core.List.{List, [], _∷_}
-use Prim.Native.Nat.{ℕ, zero, suc, _/_}
+use Prim.Native.Nat.{ℕ, zero, suc}
 use lib.ListN.{length, replicate}
 use Rattle.protocol.specs.declared.Settings.{Settings}
 use Rattle.protocol.specs.Bytes.{Bytes}

@@ -23,7 +23,7 @@ use Rattle.dialogues.proofs.Library.Faithful.{Faithful, Holds}
 use Rattle.dialogues.proofs.FromC.Steps.{steps-end, steps-saw, LegalVault, count-of, HeldPages, pages-held}
 use Rattle.dialogues.proofs.FromC.Lines.{receives-end, receives-saw, LegalLine}
 use Rattle.offline.specs.CloseGaps.{Closed}
-use Rattle.offline.specs.Salvage.{Salvaged, salvagedIn}
+use Rattle.offline.specs.Salvage.{salvagedIn}
 use Rattle.offline.specs.Life.{Work, closing, salvaging, afterWork, deed, lastly, deedOn, lastlyOn, Sight, exchanged, told, workSeen, sights, sightsOn, lifeOf}
 use Rattle.offline.specs.Turns.{Turn, callTurn, workTurn, lastTurn, deedsOf, WentBy, workSaw, sawWork, Turns, sawTurns, LineTurns, sawLineTurns}
 use Rattle.offline.proofs.Life.Library.{ever-legal, deeds-tell, none-below, life-faithful}

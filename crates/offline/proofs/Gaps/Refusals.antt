@@ -4,7 +4,7 @@ use mathlib.Core.Logic.{_↔_}
 use mathlib.Core.List.{List, [], _∷_}
 use Prim.Native.Nat.{ℕ, zero, suc, _*_, _≤_}
 use native.Mathlib.Omega.{arith}
-use lib.Dec.{T, eqb→eq, leb→le, le→leb}
+use lib.Dec.{T, eqb→eq, leb→le}
 use lib.ListN.{length}
 use Rattle.protocol.specs.Tests.{within}
 use Rattle.protocol.specs.Index.{clearFrom}

@@ -1,6 +1,6 @@
 -- Salvage place by place: which byte of the templates is zeroed and which bit of the index is cleared, and what neither depends on.
 use mathlib.Core.Bool.{Bool, true, false, true≢false, _&&_, not, cond}
-use mathlib.Core.Path.{_≡_, refl, sym, ap, ap₂, _∙_}
+use mathlib.Core.Path.{_≡_, refl, sym, ap, _∙_}
 use mathlib.Core.List.{List}
 use Prim.Native.Nat.{ℕ, zero, suc, _+_, _-_, _*_, _/_, _%_, _^_, _≤_, _<_}
 use native.Mathlib.Nat.{div-one, pow-succ', div-div-eq-div-mul}

@@ -1,12 +1,11 @@
 -- Request [5] over any life: a stored page is lost by deletion alone. Whatever the reader, legal or not, a page below C is stored with the same bytes, 512 where it has so many,
 -- under the number that the tables tell for it, or it was seen deleted under the number that it had then. (A bit at or above C is no page's, and salvage clears it.)
-use mathlib.Core.Bool.{true, true≢false}
+use mathlib.Core.Bool.{true}
 use mathlib.Core.Path.{_≡_, refl, sym, ap, _∙_, subst}
 use mathlib.Core.Logic.{_⊎_, inl, inr, _≢_}
 use mathlib.Core.List.{List, [], _∷_}
 use Prim.Native.Nat.{ℕ, zero, suc, _*_, _/_, _≤_, _<_}
 use native.Mathlib.Omega.{arith}
-use native.Mathlib.Decide.{decLt}
 use lib.ListN.{length, getD}
 use borrow.Author.Tests.{lt-ltb}
 use Rattle.protocol.specs.Bytes.{Bytes}
@@ -14,17 +13,15 @@ use Rattle.protocol.specs.Tests.{countBelow}
 use Rattle.protocol.specs.Index.{bit, stored}
 use Rattle.protocol.specs.Reader.{Reader, capacity, withLibrary, reader}
 use Rattle.protocol.specs.Call.{Shape}
-use Rattle.protocol.specs.Dialogue.{Event, finally}
+use Rattle.protocol.specs.Dialogue.{finally}
 use Rattle.dialogues.specs.History.{exchanges}
-use Rattle.protocol.proofs.Laws.Index.{clear-above, fine-with, fine-span, fine-zeros}
 use Rattle.dialogues.proofs.Laws.History.{ever-capacity}
 use Rattle.dialogues.proofs.Library.Untouched.{SawDeleted, Untouched, only-by-deletion}
 use Rattle.protocol.proofs.Promises.Words.Told.{pages, page, has}
-use Rattle.offline.specs.CloseGaps.{closedUp, Closed, closeAs, closeOf}
+use Rattle.offline.specs.CloseGaps.{Closed, closeAs, closeOf}
 use Rattle.offline.specs.Salvage.{Salvaged, salvageAs, salvagedIn}
 use Rattle.offline.specs.Life.{closing, salvaging, afterWork, Deed, calls, between, deed, lastly, Sight, exchanged, told, workSeen, sights, whereIs}
-use Rattle.offline.proofs.Laws.Gaps.{fine-closed}
-use Rattle.offline.proofs.Gaps.Refusals.{Able, able, close-kinds, passes}
+use Rattle.offline.proofs.Gaps.Refusals.{close-kinds}
 use Rattle.offline.proofs.Gaps.Closes.{closes, keeps-order, goes-down}
 use Rattle.offline.proofs.Laws.Salvage.{page-stays, bits-salvaged}
 use Rattle.offline.proofs.Salvage.Refusals.{salvage-kinds}

@@ -3,16 +3,16 @@
 use mathlib.Core.Bool.{Bool, true, false, true≢false, _&&_}
 use mathlib.Core.Path.{_≡_, refl, sym, ap, _∙_}
 use mathlib.Core.List.{List, [], _∷_}
-use Prim.Native.Nat.{ℕ, _*_, _/_, _≤_, _<_}
+use Prim.Native.Nat.{ℕ, _*_, _≤_, _<_}
 use native.Mathlib.Omega.{arith}
 use native.Mathlib.Decide.{decLt}
 use lib.Dec.{T, eqb, ltb}
 use lib.ListN.{length, getD}
 use borrow.Author.Tests.{lt-ltb, le-ltb, ne-eqb}
-use Rattle.protocol.specs.Bytes.{Bytes, zeros}
+use Rattle.protocol.specs.Bytes.{zeros}
 use Rattle.protocol.specs.Tests.{some, countBelow}
 use Rattle.protocol.specs.Index.{stored, setBits}
-use Rattle.protocol.specs.Reader.{fromPage, Reader, capacity, locked, withLibrary}
+use Rattle.protocol.specs.Reader.{fromPage, Reader, capacity, locked}
 use Rattle.protocol.specs.Commands.{templeteNum, barred, command}
 use Rattle.protocol.specs.Data.{acknowledge}
 use Rattle.protocol.specs.Step.{order, hear, rested}
@@ -24,14 +24,14 @@ use Rattle.protocol.proofs.Laws.Below.{some-at, some-none, length-listed, at-li
 use Rattle.protocol.proofs.Promises.Words.Told.{Gives, word, buffer}
 use Rattle.protocol.proofs.Promises.Refusals.StaysLegal.{Legal}
 use Rattle.protocol.proofs.Promises.Refusals.StaysLegal as calling
-use Rattle.protocol.proofs.Laws.Index.{Fine, stored-zeros, fine-with, fine-span, fine-zeros}
-use Rattle.dialogues.proofs.Laws.History.{ever-capacity, Keeps}
+use Rattle.protocol.proofs.Laws.Index.{stored-zeros}
+use Rattle.dialogues.proofs.Laws.History.{ever-capacity}
 use Rattle.dialogues.proofs.Library.ValidCount.{Tells, tells-none, tells-count, tells-ever, tells-told}
 use Rattle.dialogues.proofs.Library.Faithful.{Faithful, Holds, ever-faithful, stays-faithful}
 use Rattle.offline.specs.CloseGaps.{rank, newPage, closedUp, tableOf, Closed, fitClosing, closeAs, closeOf}
-use Rattle.offline.specs.Salvage.{Salvaged, salvageAs, salvagedIn}
-use Rattle.offline.specs.Life.{Work, closing, salvaging, afterWork, Deed, calls, between, deed, lastly, Sight, told, workSeen, sights, lifeOf}
-use Rattle.offline.proofs.Laws.Gaps.{rank-lt, Source, source, length-closed, fine-closed, stored-closed}
+use Rattle.offline.specs.Salvage.{salvagedIn}
+use Rattle.offline.specs.Life.{closing, salvaging, afterWork, Deed, calls, between, deed, lastly, Sight, told, workSeen, sights, lifeOf}
+use Rattle.offline.proofs.Laws.Gaps.{rank-lt, Source, source, fine-closed, stored-closed}
 use Rattle.offline.proofs.Gaps.Refusals.{Able, able, close-kinds}
 use Rattle.offline.proofs.Gaps.StaysLegal.{closed-legal, closed-faithful}
 use Rattle.offline.proofs.Salvage.StaysLegal.{salvaged-legal, salvaged-faithful}

@@ -16,7 +16,7 @@ use Rattle.protocol.proofs.Laws.Locked.{veiled, shut-of, locked-call, plain-or,
 use Rattle.protocol.proofs.Promises.Refusals.StaysLegal.{Legal, stays-legal, ever-legal}
 use Rattle.protocol.proofs.Promises.Secrets.Lock.{mark, Blind, second-half}
 use Rattle.dialogues.proofs.Laws.History.{ever-capacity}
-use Rattle.offline.specs.CloseGaps.{Closed, fitClosing, closeRefusal, closeAs, closeOf}
+use Rattle.offline.specs.CloseGaps.{fitClosing, closeRefusal, closeAs, closeOf}
 use Rattle.offline.specs.Salvage.{salvagedIn}
 use Rattle.offline.specs.Life.{afterWork, Deed, calls, between, deed, lastly, answers, keptOver, Unopened, NeverOpened, PairedDeeds}
 use Rattle.offline.proofs.Life.Work.{work-legal, work-plain, work-capacity}

@@ -4,26 +4,25 @@ use mathlib.Core.Path.{_≡_, refl, sym, ap, _∙_}
 use mathlib.Core.List.{List, []}
 use Prim.Native.Nat.{ℕ, _*_, _/_, _≤_, _<_}
 use native.Mathlib.Omega.{arith}
-use native.Mathlib.Decide.{ℕ-discrete, decLt}
+use native.Mathlib.Decide.{ℕ-discrete}
 use lib.Dec.{T, eqb, ltb, ltb→lt}
 use lib.ListN.{length, length-replicate}
-use borrow.Author.Tests.{le-ltb, ne-eqb}
+use borrow.Author.Tests.{ne-eqb}
 use Rattle.protocol.specs.Bytes.{Bytes, zeros, lay}
 use Rattle.protocol.specs.Tests.{among}
 use Rattle.protocol.specs.Index.{stored, setBit, clearBits}
 use Rattle.protocol.specs.Reader.{Reader, capacity, withLibrary}
 use Rattle.protocol.specs.Call.{Shape}
 use Rattle.protocol.specs.Dialogue.{Event, finally}
-use Rattle.protocol.proofs.Laws.Logic.{and-false}
 use Rattle.protocol.proofs.Laws.Lists.{length-lay}
 use Rattle.protocol.proofs.Laws.Index.{Fine, stored-with, stored-span, stored-zeros, fine-with, fine-span, fine-zeros}
 use Rattle.protocol.proofs.Promises.Refusals.StaysLegal.{Legal}
 use Rattle.dialogues.proofs.Laws.History.{Keeps, events-keep}
-use Rattle.offline.specs.CloseGaps.{rank, closedUp, Closed, closeAs, closeOf}
+use Rattle.offline.specs.CloseGaps.{rank, closedUp, Closed, closeAs}
 use Rattle.offline.specs.Salvage.{Salvaged, salvageAs, salvagedIn}
 use Rattle.offline.specs.Life.{Work, closing, salvaging, afterWork}
 use Rattle.offline.proofs.Laws.Gaps.{rank-le, length-closed, fine-closed, stored-closed}
-use Rattle.offline.proofs.Laws.Salvage.{length-salvaged, fine-salvaged, bits-salvaged}
+use Rattle.offline.proofs.Laws.Salvage.{length-salvaged, fine-salvaged}
 use Rattle.offline.proofs.Gaps.Refusals.{able, close-kinds}
 use Rattle.offline.proofs.Gaps.StaysLegal.{closed-legal}
 use Rattle.offline.proofs.Salvage.Refusals.{salvage-kinds}
@@ -95,7 +94,7 @@ module _ (σ : Shape) (ok : σ .most ≤ 8 * σ .indexed) where
             λ t x old k c a p b l e v. (
               fine-with x p record { long = a .wide; bytes = k .0 } .bytes,
               below-laid t b (setBit x p) (512 * p) (length-lay (512 * p) b t (omega (arith, a .long, e)))
-              (λ q s. one t x c p q (a .long) l (k .1 q) (ℕ-discrete p q) (sym (stored-with x (k .0) p (omega (arith, a .wide, a .small)) q) ∙ s)),
+                  (λ q s. one t x c p q (a .long) l (k .1 q) (ℕ-discrete p q) (sym (stored-with x (k .0) p (omega (arith, a .wide, a .small)) q) ∙ s)),
             );
         cuts =
             λ t x old k c a p n l.
@@ -103,7 +102,7 @@ module _ (σ : Shape) (ok : σ .most ≤ 8 * σ .indexed) where
             let many : length (zeros (512 * n)) ≡ 512 * n = length-replicate (512 * n) 0 in (
               fine-span x p n f .bytes,
               below-laid t (zeros (512 * n)) (clearBits x p n) (512 * p) (length-lay (512 * p) (zeros (512 * n)) t (omega (arith, a .long)))
-              (λ q s. k .1 q (both (not (among p n q)) (stored x q) (sym (stored-span x p n f (omega (arith, a .small)) q) ∙ s))),
+                  (λ q s. k .1 q (both (not (among p n q)) (stored x q) (sym (stored-span x p n f (omega (arith, a .small)) q) ∙ s))),
             );
         clears = λ t x old k. (fine-zeros (length x) .bytes, λ q s. absurd (true≢false (sym s ∙ stored-zeros (length x) q)));
       }

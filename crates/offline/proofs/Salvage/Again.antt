@@ -1,7 +1,7 @@
 -- Document 02, request [10]: "Run again, the report is all zero." And run again after any part of its writes, or of their saving, it comes to the same: what it leaves depends on
 -- the bits below C and the bytes of stored pages alone, and it changes neither.
-use mathlib.Core.Bool.{Bool, true, false, true≢false, _&&_}
-use mathlib.Core.Path.{_≡_, refl, sym, ap, ap₂, _∙_}
+use mathlib.Core.Bool.{true, false, true≢false, _&&_}
+use mathlib.Core.Path.{_≡_, refl, sym, ap, _∙_}
 use mathlib.Core.List.{List}
 use Prim.Native.Nat.{ℕ, zero, suc, _*_, _/_, _≤_, _<_}
 use native.Mathlib.Omega.{arith}
@@ -13,7 +13,7 @@ use Rattle.protocol.specs.Bytes.{Bytes, zeros}
 use Rattle.protocol.specs.Index.{bit, stored}
 use Rattle.protocol.specs.Call.{core}
 use Rattle.protocol.proofs.Laws.Index.{Fine}
-use Rattle.offline.specs.Salvage.{salvagedIndex, salvagedPages, Salvaged, salvageAs, salvageOf}
+use Rattle.offline.specs.Salvage.{salvagedIndex, Salvaged, salvageAs, salvageOf}
 use Rattle.offline.proofs.Laws.Salvage.{part-blank, all-zero, same-pages, fine-salvaged, bits-salvaged, same-index}
 use Rattle.offline.proofs.Salvage.Refusals.{SalvageLengths, salvage-means, salvage-is}
 use Rattle.offline.proofs.Salvage.Salvages.{hasBit, pageOf, Salvages, salvages}
@@ -65,7 +65,7 @@ module _ (t x report : List ℕ) (m : SalvageLengths t x report) (y : Bytes x) w
         rw (salvage-is core t x report (salvage-means t x report .1 m), salvage-is core u z next (salvage-means u z next .1 fits), one, other) (
           same-pages t u x z c (sym (m .library .templates)) (k .templates) (k .bits) (λ j a s. k .bytes j (omega arith) s),
           same-index (salvagedIndex c z) (salvagedIndex c x) (fine-salvaged z c fz small) (fine-salvaged x c fx small)
-          (λ q. bits-salvaged z c fz small q ∙ alike q (decLt q c) ∙ sym (bits-salvaged x c fx small q)),
+              (λ q. bits-salvaged z c fz small q ∙ alike q (decLt q c) ∙ sym (bits-salvaged x c fx small q)),
         )
       where
         alike : (q : ℕ) → Dec (q < c) → (ltb q c && stored z q) ≡ (ltb q c && stored x q)

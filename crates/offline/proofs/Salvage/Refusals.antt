@@ -6,7 +6,6 @@ use Prim.Native.Nat.{ℕ, zero, suc}
 use native.Mathlib.Omega.{arith}
 use lib.Dec.{T, eqb→eq}
 use lib.ListN.{length}
-use Rattle.protocol.specs.Reader.{capacity}
 use Rattle.protocol.specs.Call.{Shape, core}
 use Rattle.protocol.proofs.Laws.Logic.{and-l, and-r, and-i, eq→eqb, verdict-passed, passed-verdict}
 use Rattle.protocol.proofs.Laws.Lines.{Line, unless, Follows, follows}

@@ -1,7 +1,7 @@
 -- Document 02, request [10]: "clear bits at or above C, zero the bytes of vacant pages, and touch nothing else. A report of 1024 bytes, one per index bit, says 0 for
 -- unchanged, 1 for bit cleared, 2 for non-zero bytes zeroed. What it leaves passes refusal 3's index test."
 use mathlib.Core.Bool.{Bool, true, false, true≢false, _&&_, _||_, cond}
-use mathlib.Core.Path.{_≡_, refl, sym, ap, ap₂, _∙_}
+use mathlib.Core.Path.{_≡_, refl, sym, ap, _∙_}
 use mathlib.Core.Logic.{_↔_, _≢_}
 use mathlib.Core.List.{List}
 use Prim.Native.Nat.{ℕ, zero, suc, _+_, _*_, _/_, _%_, _^_, _≤_, _<_}
@@ -14,7 +14,7 @@ use Rattle.protocol.specs.Bytes.{Bytes, part, zeros, same}
 use Rattle.protocol.specs.Tests.{countBelow, listed}
 use Rattle.protocol.specs.Index.{bit, stored, bits, setBits, clearFrom}
 use Rattle.protocol.specs.Call.{core}
-use Rattle.protocol.proofs.Laws.Lists.{same-refl, same-no, same-eq}
+use Rattle.protocol.proofs.Laws.Lists.{same-refl, same-eq}
 use Rattle.protocol.proofs.Laws.Below.{length-listed, at-listed}
 use Rattle.protocol.proofs.Laws.Index.{Fine}
 use Rattle.offline.specs.Salvage.{salvagedIndex, salvagedPages, pageEntry, entryOf, Salvaged, salvageAs, salvageOf}

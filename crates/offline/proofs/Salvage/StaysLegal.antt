@@ -10,8 +10,8 @@ use lib.Dec.{T, ltb}
 use borrow.Author.Tests.{lt-ltb, le-ltb}
 use lib.ListN.{length}
 use Rattle.protocol.specs.Bytes.{Bytes}
-use Rattle.protocol.specs.Index.{stored, setBits, clearFrom}
-use Rattle.protocol.specs.Reader.{Transfer, closed, opened, unfit, fromPage, Plain, Buffer, Guarded, Reader, capacity, bufferOf, withLibrary, reader}
+use Rattle.protocol.specs.Index.{stored, clearFrom}
+use Rattle.protocol.specs.Reader.{Transfer, closed, opened, unfit, Buffer, Guarded, Reader, capacity, bufferOf, withLibrary, reader}
 use Rattle.protocol.specs.Call.{Shape, fitBuffers, fitTransfer, legal}
 use Rattle.protocol.proofs.Laws.Index.{Fine, clear-above}
 use Rattle.protocol.proofs.Laws.Origins.{Rooted}
