@@ -92,7 +92,8 @@
  *     has one more.
  *     Versions 0.1 to 0.10 could not close gaps, and versions 0.1 to 0.11 could not salvage. Today's other functions, structs and all that
  *     is stored are those of 0.10.
- *     A firmware that is not of these versions may have left bytes in vacant pages and index bits past the end: bystrodol_salvage.
+ *     An old firmware that is none of these versions may have left bytes in vacant pages and index bits past the end: call
+ *     bystrodol_salvage once.
  */
 #ifndef BYSTRODOL_H
 #define BYSTRODOL_H
@@ -497,7 +498,7 @@ uint8_t bystrodol_close_gaps(struct bystrodol_settings *settings, uint8_t *templ
                              uint8_t *index, size_t index_length, uint16_t *table, size_t table_length);
 
 /*
- * Cleans up a library of another firmware, which left bytes in vacant pages or index bits past the end: every index bit at or above the
+ * Cleans up a library of an old firmware, which left bytes in vacant pages or index bits past the end: every index bit at or above the
  * capacity is cleared, and every vacant page is zeroed. Nothing else changes, no bit below the capacity and no byte of a stored page. The
  * report gets a byte for each index bit, which says what was done: one of the three below. Called again, it changes nothing, and the
  * report is all 0. No settings are lent. It works on a locked reader, too, and no host can start it by a packet.
@@ -509,11 +510,12 @@ uint8_t bystrodol_close_gaps(struct bystrodol_settings *settings, uint8_t *templ
  * reader a host sees no change: LoadChar of a vacant page is 0Ch whatever lies there, Search passes it over, and Store writes the whole
  * page. The report tells which pages are vacant and had bytes, which a locked reader keeps to itself: give it to nobody who may not know.
  *
- * When. Once, after an upgrade from such a firmware; where its index has 32 bytes, bystrodol_bring_over has the order. And where power-on
- * is refused with 3: the line switch comes first, as ever, then this, then the piece of 0 bytes again. If it is refused with 3 still, a
- * setting is at fault, and not the index. Lend as many pages as the library has, since those that are left out lose their bits. Bytes of a
- * vacant page are gone for good: where a sum of yours tells that the index was damaged, do not call this, since a page whose bit was lost
- * is vacant.
+ * When. Once, after an upgrade from such a firmware; where its index has 32 bytes, bystrodol_bring_over has the order. Where power-on is
+ * refused with 3: the line switch comes first, as ever, then this, then the piece of 0 bytes again; if that is refused with 3 still, a
+ * setting is at fault, and not the index. And at any time between two calls: power that failed after DeletChar or Empty, when the index
+ * was saved and the templates were not, left bytes in vacant pages, too. Lend as many pages as the library has, since those that are left
+ * out lose their bits. The bytes of a vacant page are gone for good: where a sum of yours tells that the index was damaged, do not call
+ * this, since a page whose bit was lost is vacant.
  *
  * Saving: the index, and of the templates the pages that the report has BYSTRODOL_PAGE_ZEROED for, in any order. What it leaves depends on
  * the bits below the capacity and the bytes of stored pages alone, and it changes neither. So power may fail anywhere, in the call or while
@@ -554,7 +556,7 @@ uint8_t bystrodol_salvage(uint8_t *templates, size_t templates_length, uint8_t *
  *   3. Try the vault as at power-on, with as many pages as before: the line switch, and a piece of 0 bytes. If that is refused, a setting
  *      is at fault: the vault was damaged before. Go no further; it has its old index and every stored page.
  *   4. If there are to be more pages, up to 1000: zero them where they are kept, behind the old ones, which keep their places.
- *   5. Save the new index at a place of its own, with your sum over it; and your sum over the templates, which need not hold before.
+ *   5. Save the new index at a place of its own, with your sum over it. Save your sum over the templates anew; since step 2 it may not hold.
  *   6. Save the mark, so that it is there wholly or not at all.
  * From the mark on load the new index, and do none of this again, nor zero any page. Power that fails before the mark: begin with 0. The old
  * index lies where it was, and every stored page too; vacant and new pages may be zeroed or half zeroed, and all comes to the same. A

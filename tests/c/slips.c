@@ -216,7 +216,7 @@ static uint8_t templates_was[BYSTRODOL_PAGES_MOST][BYSTRODOL_PAGE_BYTES], report
 static void slip_at_page(uint8_t (*pages)[BYSTRODOL_PAGE_BYTES], size_t page, size_t last, uint8_t *told) {
     const uint8_t *const bytes = templates_was[page];
     size_t from = 0, to = 0;
-    if (slip("salvage: a vacant page left")) to = page == last ? sizeof *pages : 0;
+    if (slip("salvage: a vacant page left")) to = sizeof *pages;
     if (slip("salvage: the last page left out") && page == last) to = sizeof *pages, *told = 0;
     if (slip("salvage: pages in 8 bits") && page > 0xFF) to = sizeof *pages, *told = 0;
     if (slip("salvage: half of a page zeroed")) from = sizeof *pages / 2, to = sizeof *pages;
