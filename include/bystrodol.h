@@ -512,10 +512,10 @@ uint8_t bystrodol_close_gaps(struct bystrodol_settings *settings, uint8_t *templ
  *
  * When. Once, after an upgrade from such a firmware; where its index has 32 bytes, bystrodol_bring_over has the order. Where power-on is
  * refused with 3: the line switch comes first, as ever, then this, then the piece of 0 bytes again; if that is refused with 3 still, a
- * setting is at fault, and not the index. And at any time between two calls: power that failed after DeletChar or Empty, when the index
- * was saved and the templates were not, left bytes in vacant pages, too. Lend as many pages as the library has, since those that are left
- * out lose their bits. The bytes of a vacant page are gone for good: where a sum of yours tells that the index was damaged, do not call
- * this, since a page whose bit was lost is vacant.
+ * setting is at fault, and not the index. And at any time between two calls: power that failed while Store, DeletChar or Empty was saved
+ * may have left bytes in vacant pages, too. Lend as many pages as the library has, since those that are left out lose their bits. The
+ * bytes of a vacant page are gone for good: where a sum of yours tells that the index was damaged, do not call this, since a page whose
+ * bit was lost is vacant.
  *
  * Saving: the index, and of the templates the pages that the report has BYSTRODOL_PAGE_ZEROED for, in any order. What it leaves depends on
  * the bits below the capacity and the bytes of stored pages alone, and it changes neither. So power may fail anywhere, in the call or while
