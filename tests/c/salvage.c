@@ -162,9 +162,7 @@ enum { FEW = 4, MORE = 6 };
 
 /* What the board keeps: also the index of an older version, the sum over the index, and the mark that the vault is brought over. */
 static struct kept {
-    uint8_t pages[MORE][BYSTRODOL_PAGE_BYTES], index[BYSTRODOL_INDEX_BYTES], old_index[BYSTRODOL_OLD_INDEX_BYTES];
-    uint16_t sum;
-    uint8_t mark;
+    uint8_t pages[MORE][BYSTRODOL_PAGE_BYTES], index[BYSTRODOL_INDEX_BYTES], old_index[BYSTRODOL_OLD_INDEX_BYTES], sum[2], mark;
 } kept, before, after;
 
 static void load(size_t pages) {
@@ -239,15 +237,16 @@ static void upgrade(size_t pages) {
     is_switched("step 3", pages), is_taken_if(1, "step 3", pages);
     for (size_t page = pages; page < MORE; page++) keep(kept.pages[page], zeros, sizeof zeros);
     const uint16_t sum = bystrodol_sum(LENT(INDEX));
-    keep(kept.index, parts[INDEX], sizeof kept.index), keep(&kept.sum, &sum, sizeof sum);
+    keep(kept.index, parts[INDEX], sizeof kept.index), keep(kept.sum, CONTENT(TWO(sum)));
     keep_byte(&kept.mark, 1);
 }
 
 /* At every power-on the vault is brought over, unless the mark is there. Then it is larger, and has the pages that it had. */
 static void power_fails_upgrading(size_t pages, size_t which) {
     const size_t most = 2 * (MORE + 3);
+    uint8_t count = 0;
     memset(after.pages[pages], 0, (MORE - pages) * BYSTRODOL_PAGE_BYTES);
-    after.sum = after.index[0], after.mark = 1;
+    after.sum[0] = 0, after.sum[1] = after.index[0], after.mark = 1;
     for (size_t first = 0; first <= most; first++)
         for (size_t second = pages < FEW ? 0 : most; second <= most; second++) {
             kept = before, memset(kept.index, 0xA5, sizeof kept.index);
@@ -259,7 +258,8 @@ static void power_fails_upgrading(size_t pages, size_t which) {
             is_kept("power failed while upgrading", which << 16 | first << 8 | second);
         }
     load(MORE), is_switched("the larger vault", which), is_taken_if(1, "the larger vault", which);
-    check_of("the larger vault", which, "count", bystrodol_count(LENT(INDEX)), bystrodol_count(after.index, sizeof after.index));
+    for (size_t page = 0; page < pages; page++) count += (uint8_t)is_set(before.index, page);
+    COMMAND(BYSTRODOL_COMMAND_TEMPLETE_NUM), is_told("the larger vault", which, CONTENT(BYSTRODOL_CODE_DONE, 0, count));
 }
 
 /* Bits past the end: none, those of the first pages that are new, the last of an old index, and some of each byte. */
