@@ -6,7 +6,7 @@
 
 enum { ROWS_MOST = 48, CAPACITIES = 6, LIBRARIES = 2, PIECES = 4, COLUMNS_MOST = CAPACITIES };
 
-/* A call is measured at these capacities, closing the gaps at those of a library, a run in pieces of these lengths, a service once. */
+/* A call is measured at these capacities, closing the gaps and salvage at those of a library, a run in pieces of these lengths, a service once. */
 static const size_t capacities[CAPACITIES] = {1, 64, 256, 257, 999, 1000};
 static const size_t libraries[LIBRARIES] = {64, 1000};
 static const size_t piece_lengths[PIECES] = {1, 16, 60, BYSTRODOL_HELD_MOST};
@@ -16,7 +16,7 @@ static const size_t piece_lengths[PIECES] = {1, 16, 60, BYSTRODOL_HELD_MOST};
 struct row {
     const char *name, *trouble;
     size_t bytes; /* of the run, where the counts are told by the byte; else 0 */
-    int is_bound[COLUMNS_MOST]; /* by request [4], [6], [8] or [9]: at most 1.1 times plain C */
+    int is_bound[COLUMNS_MOST]; /* by request [4], [6], [8], [9] or [10]: at most 1.1 times plain C */
     int may_grow;               /* with the pages; by request [6] no other row may */
     size_t carried;             /* calls that were not refused, in each column */
     size_t ours[COLUMNS_MOST], plain[COLUMNS_MOST];
@@ -27,7 +27,7 @@ struct table {
     size_t length;
 };
 
-static struct table calls, gaps, received, services;
+static struct table calls, gaps, salvages, received, services;
 static struct row *row;
 static size_t column;
 
@@ -54,7 +54,7 @@ static int is_same(const struct reader *a, const struct reader *b) {
            first->receiver.count == second->receiver.count &&
            memcmp(first->receiver.held, second->receiver.held, sizeof first->receiver.held) == 0 &&
            memcmp(&a->memory, &b->memory, sizeof a->memory) == 0 && memcmp(a->reply, b->reply, sizeof a->reply) == 0 &&
-           memcmp(a->table, b->table, sizeof a->table) == 0;
+           memcmp(a->table, b->table, sizeof a->table) == 0 && memcmp(a->report, b->report, sizeof a->report) == 0;
 }
 
 /* A measurement: start, our call, turn, the plain call, finish. Both start from the same reader. */
@@ -265,22 +265,28 @@ static void measure_calls(size_t capacity) {
     refusal_rows(capacity);
 }
 
-/* ---- the rows of closing the gaps */
+/* ---- the rows of closing the gaps, and of salvage */
 
-static void measure_gaps(uint8_t expected) {
-    start();
-    const uint8_t ours = close_gaps_stepped(bystrodol_close_gaps);
-    turn(step_count);
-    const uint8_t plain = close_gaps_stepped(plain_close_gaps);
-    finish(step_count, ours == plain);
-    expect(plain == expected);
-    expect((plain == BYSTRODOL_ACCEPTED) == (memcmp(before.table, reader.table, sizeof before.table) != 0));
-}
+/* A call over a library. It writes table or report, unless it is refused. */
+#define MEASURE_LIBRARY(service, written, expected)                                                                        \
+    do {                                                                                                                   \
+        start();                                                                                                           \
+        const uint8_t ours = service##_stepped(bystrodol_##service);                                                       \
+        turn(step_count);                                                                                                  \
+        const uint8_t plain = service##_stepped(plain_##service);                                                          \
+        finish(step_count, ours == plain);                                                                                 \
+        expect(plain == expected);                                                                                         \
+        expect((plain == BYSTRODOL_ACCEPTED) == (memcmp(before.written, reader.written, sizeof before.written) != 0));     \
+    } while (0)
+
+static void measure_gaps(uint8_t expected) { MEASURE_LIBRARY(close_gaps, table, expected); }
+
+static void measure_salvage(uint8_t expected) { MEASURE_LIBRARY(salvage, report, expected); }
 
 /* A new row of a library whose stored pages are those from the first on, so far apart; from the capacity on there are none. The buffers come
- * from the first and the last of them. */
-static void begin_gaps(const char *name, size_t capacity, size_t first, size_t apart) {
-    begin(&gaps, name, capacity);
+ * from the first and the last of them. All pages have bytes. */
+static void begin_library(struct table *table, const char *name, size_t capacity, size_t first, size_t apart) {
+    begin(table, name, capacity);
     for (size_t page = 0; page < pages; page++) clear_stored(&reader.memory, page);
     for (size_t page = first; page < pages; page += apart) {
         set_stored(&reader.memory, page);
@@ -290,25 +296,47 @@ static void begin_gaps(const char *name, size_t capacity, size_t first, size_t a
 }
 
 /* The same, and bound. */
-static void bound_gaps_row(const char *name, size_t capacity, size_t first, size_t apart) {
-    begin_gaps(name, capacity, first, apart);
+static void begin_bound(struct table *table, const char *name, size_t capacity, size_t first, size_t apart) {
+    begin_library(table, name, capacity, first, apart);
     row->is_bound[column] = 1;
+}
+
+static void gaps_rows(size_t capacity) {
+    begin_bound(&gaps, "no gap, all stored", capacity, 0, 1);
     measure_gaps(BYSTRODOL_ACCEPTED);
+    begin_bound(&gaps, "one gap, page 0", capacity, 1, 1);
+    measure_gaps(BYSTRODOL_ACCEPTED);
+    begin_bound(&gaps, "every second page stored", capacity, 1, 2);
+    measure_gaps(BYSTRODOL_ACCEPTED);
+    begin_library(&gaps, "none stored", capacity, capacity, 1);
+    measure_gaps(BYSTRODOL_ACCEPTED);
+    begin_library(&gaps, "gaps: refusal 1, the table", capacity, 1, 2);
+    table_length--;
+    measure_gaps(BYSTRODOL_BAD_LENGTH);
+    begin_library(&gaps, "gaps: refusal 3, a setting", capacity, 1, 2);
+    reader.line.settings.level = 6;
+    measure_gaps(BYSTRODOL_BAD_SETTING);
+}
+
+static void salvage_rows(size_t capacity) {
+    begin_bound(&salvages, "none vacant", capacity, 0, 1);
+    measure_salvage(BYSTRODOL_ACCEPTED);
+    begin_bound(&salvages, "all vacant, clean", capacity, capacity, 1);
+    memset(reader.memory.templates, 0, BYSTRODOL_PAGE_BYTES * capacity);
+    measure_salvage(BYSTRODOL_ACCEPTED);
+    begin_bound(&salvages, "all vacant, dirty", capacity, capacity, 1);
+    measure_salvage(BYSTRODOL_ACCEPTED);
+    begin_library(&salvages, "every second vacant, dirty", capacity, 1, 2);
+    measure_salvage(BYSTRODOL_ACCEPTED);
+    begin_library(&salvages, "salvage: refusal 1, report", capacity, 1, 2);
+    report_length--;
+    measure_salvage(BYSTRODOL_BAD_LENGTH);
 }
 
 static void measure_libraries(size_t capacity) {
-    gaps.length = 0;
-    bound_gaps_row("no gap, all stored", capacity, 0, 1);
-    bound_gaps_row("one gap, page 0", capacity, 1, 1);
-    bound_gaps_row("every second page stored", capacity, 1, 2);
-    begin_gaps("none stored", capacity, capacity, 1);
-    measure_gaps(BYSTRODOL_ACCEPTED);
-    begin_gaps("gaps: refusal 1, the table", capacity, 1, 2);
-    table_length--;
-    measure_gaps(BYSTRODOL_BAD_LENGTH);
-    begin_gaps("gaps: refusal 3, a setting", capacity, 1, 2);
-    reader.line.settings.level = 6;
-    measure_gaps(BYSTRODOL_BAD_SETTING);
+    gaps.length = salvages.length = 0;
+    gaps_rows(capacity);
+    salvage_rows(capacity);
 }
 
 /* ---- the rows of received bytes: a run that comes in pieces */
@@ -585,6 +613,9 @@ int print_counts(void) {
     put_table("| closing the gaps, 64, 1000   | 64: ours |    64: C | ratio |1000:ours |  1000: C | ratio |\n"
               "|---|---:|---:|---:|---:|---:|---:|\n",
               &gaps, 0, LIBRARIES, &summary);
+    put_table("| salvage, 64, 1000 pages      | 64: ours |    64: C | ratio |1000:ours |  1000: C | ratio |\n"
+              "|---|---:|---:|---:|---:|---:|---:|\n",
+              &salvages, 0, LIBRARIES, &summary);
     put_table("| a received byte, in pieces   |  1: ours |     1: C | ratio | 16: ours |    16: C | ratio "
               "| 60: ours |    60: C | ratio |267: ours |   267: C | ratio |\n"
               "|---|---:|---:|---:|---:|---:|---:|---:|---:|---:|---:|---:|---:|\n",

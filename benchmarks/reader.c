@@ -3,7 +3,7 @@
 #include "system.h"
 
 struct reader reader;
-size_t pages, reply_length, table_length;
+size_t pages, reply_length, table_length, report_length;
 uint8_t run[RUN_MOST];
 size_t run_length;
 
@@ -40,12 +40,14 @@ void fill_memory(struct memory *memory) { fill_random(memory, sizeof *memory - u
 void make_reader(size_t capacity) {
     pages = table_length = capacity;
     reply_length = BYSTRODOL_REPLY_BYTES;
+    report_length = BYSTRODOL_REPORT_BYTES;
     reader.line.settings = bystrodol_fresh();
     memset(reader.line.receiver.held, 0xEF, sizeof reader.line.receiver.held);
     reader.line.receiver.count = 0;
     fill_memory(&reader.memory);
     fill_random(reader.reply, sizeof reader.reply);
     fill_random(reader.table, sizeof reader.table);
+    fill_random(reader.report, sizeof reader.report);
     make_index_legal(&reader.memory);
 }
 
@@ -112,6 +114,10 @@ uint8_t line_switch_stepped(__typeof__(bystrodol_line_switch) *line_switch) {
 
 uint8_t close_gaps_stepped(__typeof__(bystrodol_close_gaps) *close_gaps) {
     return STEPPED(close_gaps, close_gaps(&reader.line.settings, LIBRARY, reader.table, table_length));
+}
+
+uint8_t salvage_stepped(__typeof__(bystrodol_salvage) *salvage) {
+    return STEPPED(salvage, salvage(LIBRARY, reader.report, report_length));
 }
 
 struct bystrodol_received receive_stepped(__typeof__(bystrodol_receive) *receive, const uint8_t *piece, size_t n) {

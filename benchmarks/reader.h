@@ -21,11 +21,12 @@ struct reader {
     struct bystrodol_line line;
     uint8_t reply[REPLY_ROOM];
     uint16_t table[BYSTRODOL_PAGES_MOST];
+    uint8_t report[BYSTRODOL_REPORT_BYTES];
     struct memory memory;
 };
 
 extern struct reader reader;
-extern size_t pages, reply_length, table_length;
+extern size_t pages, reply_length, table_length, report_length;
 
 /* Copies a reader, but for the templates behind the pages in use. */
 void copy_reader(struct reader *to, const struct reader *from);
@@ -80,6 +81,7 @@ void fresh_stepped(__typeof__(bystrodol_fresh) *fresh);
 struct bystrodol_answer call_stepped(__typeof__(bystrodol_step) *step);
 uint8_t line_switch_stepped(__typeof__(bystrodol_line_switch) *line_switch);
 uint8_t close_gaps_stepped(__typeof__(bystrodol_close_gaps) *close_gaps);
+uint8_t salvage_stepped(__typeof__(bystrodol_salvage) *salvage);
 
 /* ---- the same of its receiver */
 

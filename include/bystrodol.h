@@ -1,13 +1,13 @@
 /*
- * bystrodol.h: the EF01 reader core for C99 and C++: the whole reader, four plain services, closing the gaps of a library, and bringing
- * over an older index.
+ * bystrodol.h: the EF01 reader core for C99 and C++: the whole reader, four plain services, closing the gaps of a library, cleaning one
+ * up, and bringing over an older index.
  *
  * There are three archives, for x86-64 Linux. bystrodol_step and bystrodol_line_switch are in target/staticlib/libstep.a, which
- * `rt staticlib step` writes; bystrodol_close_gaps is in target/staticlib/libupkeep.a, which `rt staticlib upkeep` writes; all else is in
- * target/staticlib/libboard.a, which `rt staticlib board` writes. Link those whose functions you call, in any order, behind your own
- * files. None needs another. Of the C library each needs memcpy and memset, libupkeep.a also memmove, and nothing else. Each function is
- * a section of its own: with --gc-sections the linker drops those that are not called, and a firmware that links libstep.a and libboard.a
- * should use it, since each of these has a reader.
+ * `rt staticlib step` writes; bystrodol_close_gaps and bystrodol_salvage are in target/staticlib/libupkeep.a, which `rt staticlib upkeep`
+ * writes; all else is in target/staticlib/libboard.a, which `rt staticlib board` writes. Link those whose functions you call, in any
+ * order, behind your own files. None needs another. Of the C library each needs memcpy and memset, libupkeep.a also memmove, and nothing
+ * else. Each function is a section of its own: with --gc-sections the linker drops those that are not called, and a firmware that links
+ * libstep.a and libboard.a should use it, since each of these has a reader.
  *
  * Nothing is kept between calls: each answer depends on the arguments and the memory that they lead to, and calls on
  * different memory may run at the same time.
@@ -26,12 +26,12 @@
  *
  * How a firmware uses it. The reader is a struct bystrodol_line, its settings and its receiver, and the memory that is lent. With
  * the memory go the sensor chip's scores, which Search goes by.
- *   Power-on. Load settings and memory from where they are kept, or start with bystrodol_fresh and zeroed memory. The receiver
- *     starts as zeros: so it holds nothing. Then, first of all, bystrodol_receiver_switch: what was stored may say that a
- *     password was given. It takes any bytes. Then one bystrodol_receive with a piece of 0 bytes: it changes nothing, and its
- *     refusal tells whether the stored settings and index are legal. Any password and any address are, so keep a sum of your
- *     own over what is stored. Fresh settings have no password: do not fall back to them where the memory has templates. And save
- *     them at once: so such a memory always has its settings, and a later version's fresh settings never take their place.
+ *   Power-on. Load settings and memory from where they are kept, or start with bystrodol_fresh and zeroed memory. The receiver starts
+ *     as zeros: so it holds nothing. Then, first of all, bystrodol_receiver_switch: what was stored may say that a password was given.
+ *     It takes any bytes. Then one bystrodol_receive with a piece of 0 bytes: it changes nothing, and its refusal tells whether the
+ *     stored settings and index are legal; bystrodol_salvage says what to do if they are not. Any password and any address are, so keep
+ *     a sum of your own over what is stored. Fresh settings have no password: do not fall back to them where the memory has templates.
+ *     And save them at once: so such a memory always has its settings, and a later version's fresh settings never take their place.
  *   A loop. Read what the port has, a piece of any length, and offer it until a call takes nothing and leaves the held count:
  *     then, if it was not refused, all is taken, nothing was answered, and there is nothing left to do. How the bytes were cut
  *     makes no difference, if every call that deals with a Search lends the same scores and thresholds. MEMORY stands for the
@@ -61,11 +61,11 @@
  *     as the last one left it, open and with its buffers. Drop also what is left of a piece and what the port has not handed
  *     over yet, which are the last host's bytes, and let no reply to it go on to the next. Do not call bystrodol_line_switch,
  *     which knows of no receiver: bytes of the last host would stay held, before those of the next.
- *   Your own writes, between two calls. A buffer that you fill gets filled mark 1 and origin BYSTRODOL_NO_PAGE, or, if you copied a
- *     stored page, that page, so that the copy goes with it. A buffer whose filled mark you clear gets no origin. If a transfer is open,
- *     close it first: transfer and got 0, its buffer zeroed. After you have written templates or index, call bystrodol_receiver_switch,
- *     as for another host; bystrodol_close_gaps needs none of this. What is not done here shows later: every call is refused with 3, or a
- *     buffer is wiped with a page that it has nothing to do with, or not wiped with its own.
+ *   Your own writes, between two calls. A buffer that you fill gets filled mark 1 and origin BYSTRODOL_NO_PAGE, or, if you copied a stored
+ *     page, that page, so that the copy goes with it. A buffer whose filled mark you clear gets no origin. If a transfer is open, close it
+ *     first: transfer and got 0, its buffer zeroed. After you have written templates or index, call bystrodol_receiver_switch, as for
+ *     another host; bystrodol_close_gaps and bystrodol_salvage need none of this. What is not done here shows later: every call is refused
+ *     with 3, or a buffer is wiped with a page that it has nothing to do with, or not wiped with its own.
  *   Saving. The table of commands below says what each one changes.
  *   Upgrade. Templates and notepad stay as they are.
  *     Versions 0.1 to 0.5 had an index of 32 bytes. Where such a one is stored, and not yet brought over, do that before all else of
@@ -90,7 +90,10 @@
  *     In versions 0.1 to 0.9 the byte at offset 267 of a receiver was padding; today it is the field spare. Sizes, offsets and functions
  *     are those of 0.9, and any byte may lie there, so nothing is brought over. An initialiser that lists a receiver's fields in order
  *     has one more.
- *     Versions 0.1 to 0.10 could not close gaps. Today's other functions, structs and all that is stored are those of 0.10.
+ *     Versions 0.1 to 0.10 could not close gaps, and versions 0.1 to 0.11 could not salvage. Today's other functions, structs and all that
+ *     is stored are those of 0.10.
+ *     An old firmware that is none of these versions may have left bytes in vacant pages and index bits past the end: call
+ *     bystrodol_salvage once.
  */
 #ifndef BYSTRODOL_H
 #define BYSTRODOL_H
@@ -101,9 +104,9 @@
 /* The version of this header and of the archives. Another major number, or, while that is 0, another minor one, may need a
  * change of the caller. */
 #define BYSTRODOL_VERSION_MAJOR 0
-#define BYSTRODOL_VERSION_MINOR 11
+#define BYSTRODOL_VERSION_MINOR 12
 #define BYSTRODOL_VERSION_PATCH 0
-#define BYSTRODOL_VERSION "0.11.0"
+#define BYSTRODOL_VERSION "0.12.0"
 
 /* ---- lengths, in bytes */
 
@@ -114,6 +117,9 @@
 /* The index, of every reader; and one that version 0.5 or an older one stored. */
 #define BYSTRODOL_INDEX_BYTES 128u
 #define BYSTRODOL_OLD_INDEX_BYTES 32u
+
+/* The report of a salvage: one for each bit of the index. */
+#define BYSTRODOL_REPORT_BYTES 1024u
 
 /* The settings that version 0.6 or an older one stored. */
 #define BYSTRODOL_OLD_SETTINGS_BYTES 20u
@@ -431,7 +437,7 @@ uint16_t bystrodol_count(const uint8_t *index, size_t index_length);
 
 #define BYSTRODOL_NO_COUNT 0xFFFFu
 
-/* ---- offline, between two calls; it is in libupkeep.a */
+/* ---- offline, between two calls; these two are in libupkeep.a */
 
 /*
  * Closes the gaps of a library: the stored templates go to pages 0, 1, 2 and up, in their old order. Every other page is zeroed, whatever
@@ -491,6 +497,47 @@ uint16_t bystrodol_count(const uint8_t *index, size_t index_length);
 uint8_t bystrodol_close_gaps(struct bystrodol_settings *settings, uint8_t *templates, size_t templates_length,
                              uint8_t *index, size_t index_length, uint16_t *table, size_t table_length);
 
+/*
+ * Cleans up a library of an old firmware, which left bytes in vacant pages or index bits past the end: every index bit at or above the
+ * capacity is cleared, and every vacant page is zeroed. Nothing else changes, no bit below the capacity and no byte of a stored page. The
+ * report gets a byte for each index bit, which says what was done: one of the three below. Called again, it changes nothing, and the
+ * report is all 0. No settings are lent. It works on a locked reader, too, and no host can start it by a packet.
+ *
+ * Returns 0, or BYSTRODOL_BAD_LENGTH if a length is not as below; then nothing changes, and the report is not written. It is never refused
+ * with 3: any bytes may lie in the index.
+ *
+ * What it leaves has no bit past the end. Settings that were legal but for such a bit are legal with it, their origins too. Of a legal
+ * reader a host sees no change: LoadChar of a vacant page is 0Ch whatever lies there, Search passes it over, and Store writes the whole
+ * page. The report tells which pages are vacant and had bytes, which a locked reader keeps to itself: give it to nobody who may not know.
+ *
+ * When. Once, after an upgrade from such a firmware; where its index has 32 bytes, bystrodol_bring_over has the order. Where power-on is
+ * refused with 3: the line switch comes first, as ever, then this, then the piece of 0 bytes again; if that is refused with 3 still, a
+ * setting is at fault, and not the index. And at any time between two calls: power that failed while Store, DeletChar or Empty was saved
+ * may have left bytes in vacant pages, too. Lend as many pages as the library has, since those that are left out lose their bits. The
+ * bytes of a vacant page are gone for good: where a sum of yours tells that the index was damaged, do not call this, since a page whose
+ * bit was lost is vacant.
+ *
+ * Saving: the index, and of the templates the pages that the report has BYSTRODOL_PAGE_ZEROED for, in any order. What it leaves depends on
+ * the bits below the capacity and the bytes of stored pages alone, and it changes neither. So power may fail anywhere, in the call or while
+ * you save: call it again with what is kept then, and it comes to the same templates and index. So, unlike bystrodol_close_gaps, it may be
+ * lent the memory that keeps its bytes over power-off. A write that fails may spoil the vacant page that it writes, but no stored page, and
+ * must leave each byte of the index old or new. If yours erases larger blocks, write to a second area, and switch over by one sign.
+ *   If you keep a sum over them, save a sign before the first write, and behind the last one the new sum; then take the sign away. If it is
+ *   there at power-on, call this first, whatever the sum tells.
+ *   The report is that of the last call alone. A board that must know all lends a copy, saves the report before the rest, and joins it with
+ *   that of a later call by |.
+ *
+ *   templates, templates_length    512 bytes for each page, 1 to 1000 pages
+ *   index, index_length            128 bytes
+ *   report, report_length          1024 bytes. What lay there does not matter
+ */
+uint8_t bystrodol_salvage(uint8_t *templates, size_t templates_length, uint8_t *index, size_t index_length,
+                          uint8_t *report, size_t report_length);
+
+#define BYSTRODOL_UNCHANGED 0u
+#define BYSTRODOL_BIT_CLEARED 1u /* at or above the capacity: the bit was set */
+#define BYSTRODOL_PAGE_ZEROED 2u /* below the capacity: the page is vacant, and had a byte that was not 0 */
+
 /* ---- an index that version 0.5 or an older one stored */
 
 /*
@@ -503,14 +550,17 @@ uint8_t bystrodol_close_gaps(struct bystrodol_settings *settings, uint8_t *templ
  * of its own, and goes in this order, each step ended before the next, and no other call made before the mark is there:
  *   0. Load the old index, BYSTRODOL_OLD_INDEX_BYTES, from where it was stored. BYSTRODOL_INDEX_BYTES was 32 then: a struct that was
  *      stored with it has another layout now. If the 32 bytes lie where the 128 are to be, copy them away first.
- *   1. Bring over, and try the vault as at power-on, with as many pages as before: the line switch, and a piece of 0 bytes. If that
- *      is refused, the vault was damaged before, and stays as it is. With more pages a stray bit above the old ones would pass for
- *      a stored page.
- *   2. If there are to be more pages, up to 1000: zero them where they are kept, behind the old ones, which keep their places.
- *   3. Save the new index at a place of its own, with your sum over it.
- *   4. Save the mark, so that it is there wholly or not at all.
- * From the mark on load the new index, and do none of this again, nor zero any page. Power that fails before the mark leaves the
- * old vault as it was: begin with 0. A board that starts fresh with this version saves the mark before its settings.
+ *   1. Bring over.
+ *   2. Call bystrodol_salvage with the new index and as many pages as before: with more a stray bit above the old ones would pass for a
+ *      stored page. Lend it the templates where they are kept, or a copy, of which you save the pages that were zeroed.
+ *   3. Try the vault as at power-on, with as many pages as before: the line switch, and a piece of 0 bytes. If that is refused, a setting
+ *      is at fault: the vault was damaged before. Go no further; it has its old index and every stored page.
+ *   4. If there are to be more pages, up to 1000: zero them where they are kept, behind the old ones, which keep their places.
+ *   5. Save the new index at a place of its own, with your sum over it. Save your sum over the templates anew; since step 2 it may not hold.
+ *   6. Save the mark, so that it is there wholly or not at all.
+ * From the mark on load the new index, and do none of this again, nor zero any page. Power that fails before the mark: begin with 0. The old
+ * index lies where it was, and every stored page too; vacant and new pages may be zeroed or half zeroed, and all comes to the same. A
+ * board that starts fresh with this version saves the mark before its settings.
  * To go back to an older version, take the mark away, and give it the first 32 bytes of the index and at most 256 pages: those
  * above are lost to it.
  *

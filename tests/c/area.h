@@ -1,20 +1,29 @@
 /*
  * A reader in an area of memory: its line, and each part that is lent, with guard bytes around it. Memory of bytes begins at odd addresses; what has length 0 is
- * lent as NULL. The table is that of closing the gaps. The reader is called through three doors: a receiver that is offered the whole run, one that already holds
- * half of it, and none.
+ * lent as NULL. The table is that of closing the gaps, the report that of a salvage. The reader is called through three doors: a receiver that is offered the whole
+ * run, one that already holds half of it, and none.
  * What a call may change is changed in a copy of the area as it was, and then every byte of the two is compared.
  */
+#ifndef AREA_H
+#define AREA_H
+
 #include "bystrodol.h"
 #include "check.h"
 
+/* ---- an index */
+
+static inline int is_set(const uint8_t *index, size_t bit) { return index[bit / 8] >> bit % 8 & 1; }
+
+static inline void set_bit(uint8_t *index, size_t bit) { index[bit / 8] |= (uint8_t)(1u << bit % 8); }
+
 /* ---- the area */
 
-enum { TABLE, SCORES, THRESHOLDS, INDEX, NOTEPAD, BUFFER1, BUFFER2, RUN, REPLY, TEMPLATES, PARTS };
+enum { TABLE, SCORES, THRESHOLDS, INDEX, NOTEPAD, BUFFER1, BUFFER2, RUN, REPLY, REPORT, TEMPLATES, PARTS };
 enum { GUARD = 64, MOST = 1025 * BYSTRODOL_PAGE_BYTES };
 
 /* The room for each part, more than is right. Table, scores and thresholds are numbers of two bytes. */
-static const size_t rooms[PARTS] = {1026, 1026, 11, 386, 514, 514, 514, 268, 702, MOST};
-static const char *const names[PARTS] = {"table", "scores", "thresholds", "index", "notepad", "buffer 1", "buffer 2", "run", "reply room", "templates"};
+static const size_t rooms[PARTS] = {1026, 1026, 11, 386, 514, 514, 514, 268, 702, 1026, MOST};
+static const char *const names[PARTS] = {"table", "scores", "thresholds", "index", "notepad", "buffer 1", "buffer 2", "run", "reply room", "report", "templates"};
 
 static struct area {
     uint8_t before_line[GUARD];
@@ -25,7 +34,7 @@ static struct area {
     uint16_t scores[1026];
     uint8_t before_thresholds[GUARD];
     uint16_t thresholds[11];
-    uint8_t bytes[1 + 386 + 3 * 514 + 268 + 702 + MOST + 8 * GUARD];
+    uint8_t bytes[1 + 386 + 3 * 514 + 268 + 702 + 1026 + MOST + 9 * GUARD];
 } area, was, pattern;
 
 static uint8_t *parts[PARTS];
@@ -54,7 +63,7 @@ static inline void save(void) { memcpy(&was, &area, extent()); }
 static inline void set_up_bytes(size_t templates) {
     const size_t pages = templates / BYSTRODOL_PAGE_BYTES;
     const size_t right[PARTS] = {pages, pages, BYSTRODOL_THRESHOLDS, BYSTRODOL_INDEX_BYTES, BYSTRODOL_PAGE_BYTES, BYSTRODOL_PAGE_BYTES, BYSTRODOL_PAGE_BYTES, 0,
-                                 BYSTRODOL_REPLY_BYTES, templates};
+                                 BYSTRODOL_REPLY_BYTES, BYSTRODOL_REPORT_BYTES, templates};
     memcpy(lengths, right, sizeof right);
     parts[TABLE] = (uint8_t *)area.table, parts[SCORES] = (uint8_t *)area.scores, parts[THRESHOLDS] = (uint8_t *)area.thresholds;
     for (size_t i = INDEX, at = GUARD + 1; i < PARTS; at += rooms[i++] + GUARD) parts[i] = area.bytes + at;
@@ -71,7 +80,7 @@ static inline void set_up(size_t pages) { set_up_bytes(pages * BYSTRODOL_PAGE_BY
 static inline void set_up_stored(size_t pages) {
     set_up(pages);
     area.line.settings.filled1 = area.line.settings.filled2 = 1;
-    for (size_t page = 0; page < pages; page++) parts[INDEX][page / 8] |= (uint8_t)(1u << page % 8);
+    for (size_t page = 0; page < pages; page++) set_bit(parts[INDEX], page);
 }
 
 static inline void fill_pattern(void) {
@@ -244,3 +253,5 @@ static inline size_t random_below(size_t limit) {
     random_state = random_state * 1664525 + 1013904223;
     return (random_state >> 8) % limit;
 }
+
+#endif

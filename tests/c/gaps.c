@@ -3,6 +3,7 @@
  * refusal leaves every byte alone. A board saves what a call left, in the header's order, and its power fails at every moment.
  * tests/c/run builds and runs it. It writes one line, 'gaps: N checks passed', and ends with 0; or names each failed check and ends with 1.
  */
+#include "library.h"
 #include "settings.h"
 
 /* ---- a call, and what it must leave */
@@ -12,11 +13,9 @@ static uint8_t close_gaps(void) {
     return bystrodol_close_gaps(&area.line.settings, LENT(TEMPLATES), LENT(INDEX), LENT(TABLE));
 }
 
-static int is_set(const uint8_t *index, size_t page) { return index[page / 8] >> page % 8 & 1; }
-
 static void set_first(uint8_t *index, size_t count) {
     memset(index, 0, BYSTRODOL_INDEX_BYTES);
-    for (size_t page = 0; page < count; page++) index[page / 8] |= (uint8_t)(1u << page % 8);
+    for (size_t page = 0; page < count; page++) set_bit(index, page);
 }
 
 static uint8_t collected[BYSTRODOL_PAGES_MOST][BYSTRODOL_PAGE_BYTES];
@@ -82,38 +81,16 @@ static void small_libraries(void) {
                 }
 }
 
-/* Whether a page of so many is stored, in a library of one of the kinds; the last are by chance, from few to nearly all. */
-enum { KINDS = 24 };
-
-static int is_stored_in(size_t kind, size_t page, size_t pages) {
-    switch (kind) {
-    case 0: return 0;
-    case 1: return 1;
-    case 2: return page == 0;
-    case 3: return page == pages - 1;
-    case 4: return page != 0;
-    case 5: return page != pages - 1;
-    case 6: return page % 2 == 0;
-    case 7: return page % 2 == 1;
-    case 8: return page < pages / 2;
-    case 9: return page >= pages / 2;
-    case 10: return page / 8 % 2 == 0;
-    case 11: return page / 8 % 2 == 1;
-    default: return random_below(KINDS - 11) < kind - 11;
-    }
-}
-
 /* The buffers come from the first and the last template, and from none where there is none. */
 static void libraries(void) {
-    static const size_t capacities[] = {9, 64, 255, 256, 257, 999, BYSTRODOL_PAGES_MOST};
-    for (size_t i = 0; i < sizeof capacities / sizeof *capacities; i++)
+    for (size_t i = 0; i < SIZES; i++)
         for (size_t kind = 0; kind < KINDS; kind++) {
-            const size_t pages = capacities[i];
+            const size_t pages = sizes[i];
             struct bystrodol_settings *const s = &area.line.settings;
             set_up(pages), s->filled1 = s->filled2 = 1;
             for (size_t page = 0; page < pages; page++) {
                 if (!is_stored_in(kind, page, pages)) continue;
-                parts[INDEX][page / 8] |= (uint8_t)(1u << page % 8);
+                set_bit(parts[INDEX], page);
                 if (s->origin1 == BYSTRODOL_NO_PAGE) s->origin1 = (uint16_t)page;
                 s->origin2 = (uint16_t)page;
             }
@@ -161,7 +138,7 @@ static int any_reader(const char *name, size_t which, const struct bystrodol_set
 static void every_bit(size_t pages, size_t from) {
     for (size_t page = from; page < 8 * BYSTRODOL_INDEX_BYTES; page++) {
         set_up(pages), set_first(parts[INDEX], pages - 1), memset(parts[INDEX], 0, (pages - 1) / 8);
-        parts[INDEX][page / 8] |= (uint8_t)(1u << page % 8);
+        set_bit(parts[INDEX], page);
         if (page < pages) closes("an index bit", page);
         else stays("an index bit", page, BYSTRODOL_BAD_SETTING);
     }
@@ -217,7 +194,7 @@ static void afterwards(void) {
 
 /* ---- power that fails while a board saves */
 
-enum { FEW = 8, PLENTY = 1000, SIGN_WRITES = 3 };
+enum { FEW = 8, SIGN_WRITES = 3 };
 
 /* What the board keeps. The sign is the byte is_moving, written behind table and next. next is a byte, too, and so saved wholly or not at all; told is the table
  * for the hosts. */
@@ -231,20 +208,8 @@ static struct {
 static struct library old_library;
 static uint8_t (*const pages_kept)[BYSTRODOL_PAGE_BYTES] = kept.library.pages;
 
-/* There is power for so many halves of a write. A write that it fails in leaves the second half erased, but a byte as it was; those behind it are not made. */
-static size_t power;
-
-static void keep(void *to, const void *from, size_t length) {
-    if (power == 1 && length > 1) memset(to, 0xFF, length), memcpy(to, from, length / 2);
-    if (power > 1) memcpy(to, from, length);
-    power -= power > 2 ? 2 : power;
-}
-
-static void keep_byte(uint8_t *to, uint8_t byte) { keep(to, &byte, 1); }
-
 /* Steps 2 to 4, from the start or going on at power-on. */
 static void move(size_t pages) {
-    static const uint8_t zeros[BYSTRODOL_PAGE_BYTES];
     uint8_t index[BYSTRODOL_INDEX_BYTES];
     size_t count = 0;
     for (size_t old = 0; old < pages; old++) {

@@ -214,6 +214,7 @@ static void power_on(void) {
     set_up(4), to = 0xFFFFFFFF;
     memset(parts[INDEX], 0xFF, BYSTRODOL_INDEX_BYTES);
     check("upgrade, the index", bystrodol_bring_over(old_index, sizeof old_index, LENT(INDEX)), BYSTRODOL_ACCEPTED);
+    check("upgrade, a salvage", bystrodol_salvage(LENT(TEMPLATES), LENT(INDEX), LENT(REPORT)), BYSTRODOL_ACCEPTED);
     memcpy(s, stored, BYSTRODOL_OLD_SETTINGS_BYTES);
     s->origin1 = s->origin2 = BYSTRODOL_NO_PAGE;
     memset(&area.line.receiver, 0, sizeof area.line.receiver);

@@ -5,13 +5,13 @@
 #include "area.h"
 
 /* Pages 0, 1, 3, 4, 5, 6 and 9 of ten are stored. */
-static void set_up_some(void) { set_up(10), parts[INDEX][0] = 0x7B, parts[INDEX][1] = 0x02; }
+static inline void set_up_some(void) { set_up(10), parts[INDEX][0] = 0x7B, parts[INDEX][1] = 0x02; }
 
-static int is_origin(uint16_t origin, uint8_t filled) {
-    return origin == BYSTRODOL_NO_PAGE || (origin < capacity() && (parts[INDEX][origin / 8] >> origin % 8 & 1) && filled == 1);
+static inline int is_origin(uint16_t origin, uint8_t filled) {
+    return origin == BYSTRODOL_NO_PAGE || (origin < capacity() && is_set(parts[INDEX], origin) && filled == 1);
 }
 
-static int is_legal(const struct bystrodol_settings *s) {
+static inline int is_legal(const struct bystrodol_settings *s) {
     const int is_open = s->verified || !(s->password[0] | s->password[1] | s->password[2] | s->password[3]);
     if (s->verified > 1 || s->filled1 > 1 || s->filled2 > 1 || s->found > 1) return 0;
     if (!is_origin(s->origin1, s->filled1) || !is_origin(s->origin2, s->filled2)) return 0;
@@ -21,7 +21,7 @@ static int is_legal(const struct bystrodol_settings *s) {
 }
 
 /* Legal settings in twelve ways: each buffer filled from a page or not; without a password, locked, and open; with a transfer where there can be one. */
-static struct bystrodol_settings legal_settings(size_t way) {
+static inline struct bystrodol_settings legal_settings(size_t way) {
     const uint8_t filled1 = way & 1, filled2 = way >> 1 & 1, lock = (uint8_t)(way / 4), transfer = lock == 1 || (filled1 && filled2) ? 0 : filled1 ? 2 : 1;
     return (struct bystrodol_settings){{0, 0, 0, lock ? 7 : 0}, {1, 2, 3, 4}, 4, 1, 11, transfer, 0x1234, transfer ? 192 : 0, lock == 2, filled1, filled2, found,
                                        filled1 ? 3 : BYSTRODOL_NO_PAGE, filled2 ? 9 : BYSTRODOL_NO_PAGE};
@@ -30,7 +30,7 @@ static struct bystrodol_settings legal_settings(size_t way) {
 typedef int any_settings(const char *name, size_t which, const struct bystrodol_settings *s);
 
 /* Every byte of the settings takes every value, the marks among them. */
-static void every_byte(any_settings *any) {
+static inline void every_byte(any_settings *any) {
     static const char *const fields[] = {"password", "address", "level, size code, baud factor and transfer", "sensor type and bytes got", "marks", "origins"};
     for (size_t way = 0; way < 12; way++)
         for (size_t at = 0; at < sizeof(struct bystrodol_settings); at++)
@@ -42,7 +42,7 @@ static void every_byte(any_settings *any) {
 }
 
 /* The bytes got of a transfer, at each size. */
-static void every_got(any_settings *any) {
+static inline void every_got(any_settings *any) {
     for (unsigned which = 0; which < 8 * 1025; which++) {
         struct bystrodol_settings s = bystrodol_fresh();
         s.transfer = 1 + which % 2, s.size = which / 2 % 4, s.got = (uint16_t)(which / 8);
@@ -51,7 +51,7 @@ static void every_got(any_settings *any) {
 }
 
 /* Numbers so far apart as the origin of a buffer that is filled, the other one not. */
-static void every_origin(any_settings *any, unsigned apart) {
+static inline void every_origin(any_settings *any, unsigned apart) {
     for (unsigned n = 0; n <= 0xFFFF; n += apart)
         for (size_t way = 1; way <= 2; way++) {
             struct bystrodol_settings s = legal_settings(way);
@@ -61,7 +61,7 @@ static void every_origin(any_settings *any, unsigned apart) {
 }
 
 /* Legal settings with up to four random bytes, and settings that are all random. */
-static void random_settings(any_settings *any) {
+static inline void random_settings(any_settings *any) {
     size_t legal = 0;
     for (size_t which = 0; which < 12 * 1024; which++) {
         struct bystrodol_settings s = legal_settings(which % 12);

@@ -208,6 +208,68 @@ uint8_t slipped_close_gaps(struct bystrodol_settings *settings, uint8_t *templat
     return refusal;
 }
 
+/* ---- in salvage */
+
+static uint8_t templates_was[BYSTRODOL_PAGES_MOST][BYSTRODOL_PAGE_BYTES], report_was[BYSTRODOL_REPORT_BYTES];
+
+/* A page that was zeroed: some of its bytes are as they were, or it is told as something else. */
+static void slip_at_page(uint8_t (*pages)[BYSTRODOL_PAGE_BYTES], size_t page, size_t last, uint8_t *told) {
+    const uint8_t *const bytes = templates_was[page];
+    size_t from = 0, to = 0;
+    if (slip("salvage: a vacant page left")) to = sizeof *pages;
+    if (slip("salvage: the last page left out") && page == last) to = sizeof *pages, *told = 0;
+    if (slip("salvage: pages in 8 bits") && page > 0xFF) to = sizeof *pages, *told = 0;
+    if (slip("salvage: half of a page zeroed")) from = sizeof *pages / 2, to = sizeof *pages;
+    if (slip("salvage: the last byte left")) from = sizeof *pages - 1, to = sizeof *pages;
+    if (slip("salvage: only the first byte looked at") && !bytes[0]) to = sizeof *pages, *told = 0;
+    if (slip("salvage: the last byte not looked at") && !memcmp(bytes, pages[page], sizeof *pages - 1)) to = sizeof *pages, *told = 0;
+    if (slip("salvage: a page with a byte of 0 is clean") && memchr(bytes, 0, sizeof *pages)) to = sizeof *pages, *told = 0;
+    if (slip("salvage: 1 below the capacity")) *told = BYSTRODOL_BIT_CLEARED;
+    if (slip("salvage: 0 for a page zeroed")) *told = BYSTRODOL_UNCHANGED;
+    memcpy(pages[page] + from, bytes + from, to - from);
+}
+
+uint8_t slipped_salvage(uint8_t *templates, size_t templates_length, uint8_t *index, size_t index_length, uint8_t *report, size_t report_length) {
+    uint8_t(*const pages)[BYSTRODOL_PAGE_BYTES] = (uint8_t(*)[BYSTRODOL_PAGE_BYTES])templates;
+    const size_t capacity = templates_length / sizeof *pages, last = capacity - 1;
+    if (slip("salvage: the index's length in 16 bits")) index_length &= 0xFFFF;
+    if (slip("salvage: the report's length in 16 bits")) report_length &= 0xFFFF;
+    if (slip("salvage: a part of a page passed over")) templates_length = capacity * sizeof *pages;
+    if (slip("salvage: 1000 pages refused") && capacity == BYSTRODOL_PAGES_MOST) return BYSTRODOL_BAD_LENGTH;
+    if (templates_length <= sizeof templates_was) memcpy(templates_was, templates, templates_length);
+    if (index_length == sizeof index_was) memcpy(index_was, index, sizeof index_was);
+    if (report_length == sizeof report_was) memcpy(report_was, report, sizeof report_was);
+    uint8_t refusal = bystrodol_salvage(templates, templates_length, index, index_length, report, report_length);
+    if (refusal) {
+        if (slip("salvage: refused, the report written") && report_length) report[0] = 0;
+        if (slip("salvage: refused, a bit cleared") && index_length) index[index_length - 1] &= 0x7F;
+        return refusal;
+    }
+    const int is_stray = memchr(report, BYSTRODOL_BIT_CLEARED, report_length) != NULL;
+    if (slip("salvage: 3 for a bit past the end") && is_stray) return BYSTRODOL_BAD_SETTING;
+    for (size_t page = 0; page < capacity; page++) {
+        const int is_stored = index[page / 8] >> page % 8 & 1;
+        if (report[page] == BYSTRODOL_PAGE_ZEROED) slip_at_page(pages, page, last, &report[page]);
+        if (slip("salvage: 2 for a page of zeros") && !is_stored) report[page] = BYSTRODOL_PAGE_ZEROED;
+        if (slip("salvage: a stored page zeroed") && is_stored && page == last) memset(pages[page], 0, sizeof *pages);
+        if (slip("salvage: a page of zeros is vacant") && is_stored && !pages[page][0] && !memcmp(pages[page], pages[page] + 1, sizeof *pages - 1))
+            index[page / 8] ^= (uint8_t)(1u << page % 8);
+        if (slip("salvage: a page with bytes is stored") && report[page] == BYSTRODOL_PAGE_ZEROED) index[page / 8] |= (uint8_t)(1u << page % 8);
+    }
+    if (slip("salvage: the first bit left")) index[capacity / 8] |= index_was[capacity / 8] & (uint8_t)(1u << capacity % 8);
+    if (slip("salvage: the last bit left")) index[127] = index_was[127] & 0x80;
+    if (slip("salvage: bits left where pages are")) index[capacity / 8] = index_was[capacity / 8];
+    if (slip("salvage: bits told and left")) memcpy(index, index_was, sizeof index_was);
+    if (slip("salvage: a whole byte cleared") && memchr(report + capacity, BYSTRODOL_BIT_CLEARED, 8 - capacity % 8)) index[capacity / 8] = 0;
+    for (size_t bit = capacity; slip("salvage: 2 for a bit cleared") && bit < report_length; bit++) report[bit] *= 2;
+    if (slip("salvage: the report up to the capacity")) memcpy(report + capacity, report_was + capacity, report_length - capacity);
+    for (size_t bit = 0; slip("salvage: old bytes of the report stay") && bit < report_length; bit++) report[bit] |= report[bit] ? 0 : report_was[bit];
+    if (slip("salvage: a byte before the index")) index[-1] ^= 1;
+    if (slip("salvage: a byte behind the templates")) templates[templates_length] ^= 1;
+    if (slip("salvage: a byte behind the report")) report[report_length] ^= 1;
+    return refusal;
+}
+
 int main(int count, char **words) {
     chosen = count > 1 ? words[1] : "";
     while (*f->name && !slip(f->name)) f++;

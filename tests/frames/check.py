@@ -61,11 +61,11 @@ def answer_to(pages, refusal, used, reply):
     return struct.pack(">BII", refusal, used, len(reply)) + FRESH + bytes(memory) + reply.ljust(700, b"\0")
 
 
-def gaps(stored, room):
-    """Closing the gaps of pages that are stored or not, with a table in a room of so many bytes, which are not zero."""
+def library(op, stored, room, past=0):
+    """A call over pages that are stored or not, all with bytes, and this number for the index bits past them; with a room of so many bytes that are not zero."""
     lengths = {**RIGHT, "templates": 512 * len(stored), "reply room": room}
-    templates = b"".join(page(old) for old in range(len(stored)))
-    return head(6, lengths) + templates + index_of(stored) + bytes_of(PARTS[2:8], lengths) + b"\xa5" * room
+    templates = b"".join(map(page, range(len(stored))))
+    return head(op, lengths) + templates + index_of(stored, past) + bytes_of(PARTS[2:8], lengths) + b"\xa5" * room
 
 
 def page(number):
@@ -73,21 +73,28 @@ def page(number):
     return struct.pack(">H", number + 1) * 256
 
 
-def index_of(stored):
-    return sum(1 << old for old, is_stored in enumerate(stored) if is_stored).to_bytes(128, "little")
+def index_of(stored, past=0):
+    return (past << len(stored) | sum(1 << old for old, is_stored in enumerate(stored) if is_stored)).to_bytes(128, "little")
 
 
 def closed(stored, room):
-    """What comes back of it: the table high byte first, and the last byte of an odd room as it was."""
+    """What comes back of closing the gaps: the table high byte first, and the last byte of an odd room as it was."""
     pages = [old for old, is_stored in enumerate(stored) if is_stored]
     table = b"".join(struct.pack(">H", pages.index(old) if is_stored else 0xffff) for old, is_stored in enumerate(stored))
     templates = b"".join(map(page, pages)).ljust(512 * len(stored), b"\0")
     return ACCEPTED + templates + index_of([True] * len(pages)) + bytes_of(PARTS[2:5], RIGHT) + table.ljust(room, b"\xa5")
 
 
-def kept(stored, room):
-    """What comes back where it is refused for the table's length: everything as it was."""
-    given = gaps(stored, room)[len(head(6, RIGHT)):]
+def salvaged(stored, past):
+    """What comes back of a salvage: the report is the reply room."""
+    templates = b"".join(page(old) if is_stored else bytes(512) for old, is_stored in enumerate(stored))
+    report = bytes(0 if is_stored else 2 for is_stored in stored) + bytes(past >> bit & 1 for bit in range(1024 - len(stored)))
+    return ACCEPTED + templates + index_of(stored) + bytes_of(PARTS[2:5], RIGHT) + report
+
+
+def kept(stored, room, past=0):
+    """What comes back where such a call is refused for the room: everything as it was."""
+    given = library(0, stored, room, past)[len(head(0, RIGHT)):]
     not_back = len(bytes_of(NOT_BACK, RIGHT))
     return struct.pack(">BII", 1, 0, 0) + FRESH + given[:-room - not_back] + given[len(given) - room:]
 
@@ -103,7 +110,7 @@ def more_than(name):
 
 
 INSIDE = "probe: the input ends inside a frame\n"
-NO_SUCH = "probe: a frame starts with 0, 1, 2, 3, 4, 5 or 6\n"
+NO_SUCH = "probe: a frame starts with 0 to 7\n"
 
 # Libraries with gaps: of three pages, of nine, and of as many as there can be.
 LIBRARIES = [[False, True, True], [True, False] * 4 + [True], [old % 3 != 1 for old in range(1000)]]
@@ -116,7 +123,7 @@ ROWS = [
     ("1000 pages twice", 2 * handshake(1000), 2 * answer_to(1000, 0, 12, DONE), ""),
     ("a frame, and one of 1002 pages", handshake(1) + head(0, {**RIGHT, "templates": 512 * 1002}), answer_to(1, 0, 12, DONE), more_than("templates")),
     ("a head cut short", head(0, RIGHT)[:-1], b"", INSIDE),
-    ("the front of a head of no such call", head(7, RIGHT)[:-1], b"", INSIDE),
+    ("the front of a head of no such call", head(8, RIGHT)[:-1], b"", INSIDE),
     ("a frame cut short", handshake(1000)[:-1], b"", INSIDE),
     ("a receiver's frame cut short", frame(2)[:-1], b"", INSIDE),
 ]
@@ -126,12 +133,16 @@ ROWS += [(f"{thresholds} thresholds, which the reader refuses", handshake(8, thr
          for thresholds in (0, 4, 6, 10)]
 ROWS += [(f"the most of {name}", frame(5, name), length_out(5, name), "") for name in PARTS]
 ROWS += [(f"more of {name}", past(name), b"", more_than(name)) for name in PARTS]
-ROWS += [(f"gaps of {len(stored)} pages, in a room of {room} bytes", gaps(stored, room), closed(stored, room), "")
+ROWS += [(f"gaps of {len(stored)} pages, in a room of {room} bytes", library(6, stored, room), closed(stored, room), "")
          for stored in LIBRARIES for room in (2 * len(stored), 2 * len(stored) + 1)]
-ROWS += [(f"gaps of {len(stored)} pages, in a room of {room} bytes, which is refused", gaps(stored, room), kept(stored, room), "")
+ROWS += [(f"gaps of {len(stored)} pages, in a room of {room} bytes, which is refused", library(6, stored, room), kept(stored, room), "")
          for stored in LIBRARIES for room in (0, 1, 2 * len(stored) - 1, 2 * len(stored) + 2, MOST["reply room"])]
-ROWS += [(f"call {op}", frame(op), length_out(op), "") for op in range(7)]
-ROWS += [(f"call {op}, which there is none of", head(op, RIGHT), b"", NO_SUCH) for op in range(7, 256)]
+ROWS += [(f"salvage of {len(stored)} pages, {past:x}h past them", library(7, stored, 1024, past), salvaged(stored, past), "")
+         for stored in LIBRARIES for past in (0, 1, 1 << 1023 - len(stored), 0xa5a5a5)]
+ROWS += [(f"salvage of {len(stored)} pages, with a report of {room} bytes, which is refused", library(7, stored, room, 5), kept(stored, room, 5), "")
+         for stored in LIBRARIES for room in (0, len(stored), 1023, 1025, MOST["reply room"])]
+ROWS += [(f"call {op}", frame(op), length_out(op), "") for op in range(8)]
+ROWS += [(f"call {op}, which there is none of", head(op, RIGHT), b"", NO_SUCH) for op in range(8, 256)]
 
 
 def failures_of(command):

@@ -9,7 +9,7 @@
 #include <unistd.h>
 
 enum { TEMPLATES, INDEX, NOTEPAD, BUFFER1, BUFFER2, SCORES, THRESHOLDS, RUN, REPLY, PARTS };
-enum { CALL, LINE_SWITCH, RECEIVE, RECEIVER_SWITCH, FRESH, BRING_OVER, CLOSE_GAPS, CALLS };
+enum { CALL, LINE_SWITCH, RECEIVE, RECEIVER_SWITCH, FRESH, BRING_OVER, CLOSE_GAPS, SALVAGE, CALLS };
 enum { MOST_TEMPLATES = 1001 * 512, MOST_WORDS = 1001, MOST_ROOM = 4096, SETTINGS = 24, HEAD = 1 + SETTINGS + 4 * PARTS };
 
 /* The most of each part, and its name; scores and thresholds are numbers of two bytes. */
@@ -135,6 +135,7 @@ static struct bystrodol_answer call(int which, struct bystrodol_line *line) {
     case FRESH: line->settings = bystrodol_fresh(); break;
     case BRING_OVER: a.refusal = bystrodol_bring_over(PART(RUN), PART(INDEX)); break;
     case CLOSE_GAPS: a.refusal = close_gaps(&line->settings); break;
+    case SALVAGE: a.refusal = bystrodol_salvage(PART(TEMPLATES), PART(INDEX), PART(REPLY)); break;
     }
     return a;
 }
@@ -146,7 +147,7 @@ static int frame(void) {
     size_t got = take(head, HEAD);
     if (got == 0) return 0;
     if (got < HEAD) return dprintf(STDERR_FILENO, "probe: the input ends inside a frame\n"), 0;
-    if (head[0] >= CALLS) return dprintf(STDERR_FILENO, "probe: a frame starts with 0, 1, 2, 3, 4, 5 or 6\n"), 0;
+    if (head[0] >= CALLS) return dprintf(STDERR_FILENO, "probe: a frame starts with 0 to 7\n"), 0;
     int has_receiver = head[0] == RECEIVE || head[0] == RECEIVER_SWITCH;
     line.settings = read_settings(head + 1);
     if (!read_lengths(head + 1 + SETTINGS)) return 0;
