@@ -1,6 +1,7 @@
 //! The comparer: puts the examples and the cases to another implementation of the papers, and demands every byte that the
 //! independent reader gives.
 
+pub mod fit;
 pub mod frame;
 pub mod probe;
 pub mod report;

@@ -1,34 +1,11 @@
 //! Counts what the closings of document 02's request [9] met and brought about.
 
+use crate::compare::fit::*;
 use crate::compare::frame::{Outcome, Request};
 use crate::reader::*;
 use crate::tally::kinds::*;
 use crate::tally::origins::with_origin;
 use crate::tally::{Met, Tally};
-
-/// A change of a request that makes a part of it fit.
-type Mend = fn(&mut Request);
-
-const MEND_TEMPLATES: Mend = |request| {
-    let pages = request.reader.capacity().clamp(1, MOST_PAGES);
-    request.reader.templates.resize(PAGE * pages, 0);
-    request.reader.index.iter_mut().skip(MOST_PAGES / 8).for_each(|byte| *byte = 0);
-    MEND_TABLE(request);
-};
-const MEND_INDEX: Mend = |request| request.reader.index.resize(INDEX, 0);
-const MEND_TABLE: Mend = |request| request.room.resize(2 * request.reader.capacity(), 0);
-
-/// The settings one by one; an origin that hangs on a filled mark goes with it.
-const MEND_SETTINGS: [Mend; 8] = [
-    |request| request.reader.settings.level = 3,
-    |request| request.reader.settings.size_code = 2,
-    |request| request.reader.settings.baud_factor = 6,
-    |request| request.reader.settings.verified = CLEAR,
-    |request| request.reader.settings.filled = [CLEAR; 2],
-    |request| request.reader.settings.found = CLEAR,
-    |request| (request.reader.settings.transfer, request.reader.settings.got) = (0, 0),
-    |request| request.reader.settings.origins = [NONE; 2],
-];
 
 impl Tally {
     pub fn add_closing(&mut self, request: &Request, outcome: &Outcome) {
@@ -63,15 +40,14 @@ impl Tally {
             count == 0,
         ];
         (0..gaps.len()).filter(|&gap| gaps[gap]).for_each(|gap| self.count(CLOSINGS_BY_GAP, gap));
-        let zero = |page: usize| old.template(page).iter().all(|&byte| byte == 0);
         for page in (0..capacity).filter(|&page| !old.stored(page)) {
-            self.count(CLOSINGS_BY_PAGE, usize::from(!zero(page)));
+            self.count(CLOSINGS_BY_PAGE, usize::from(old.has_bytes(page)));
         }
         for (new, &page) in stored.iter().enumerate() {
             self.count(CLOSINGS_BY_PAGE, 2 + (page - new).min(2));
             if page != new {
                 self.count(PAGES_MOVED_FROM, page);
-                if zero(page) {
+                if !old.has_bytes(page) {
                     self.count(CLOSINGS_BY_PAGE, 5_usize);
                 }
             }
@@ -118,8 +94,8 @@ impl Tally {
         let Reader { templates, index, .. } = &request.reader;
         let (capacity, table) = (request.reader.capacity(), request.room.len() / 2);
         let whole_pages = templates.len() % PAGE == 0 && (1..=MOST_PAGES).contains(&capacity);
-        for (place, mend) in [MEND_TEMPLATES, MEND_INDEX, MEND_TABLE].into_iter().enumerate() {
-            match (place, refusal_with(mend, request)) {
+        for (place, fit) in [FIT_TEMPLATES, FIT_INDEX, FIT_ROOM].into_iter().enumerate() {
+            match (place, refusal_with(fit, request)) {
                 (0, _) if whole_pages => {}
                 (_, 3) => self.count(LENGTHS_BEFORE_SETTINGS, place),
                 (0, 0) if templates.len() % PAGE == 0 => self.count(TEMPLATES_REFUSED, capacity),
@@ -137,13 +113,13 @@ impl Tally {
     /// A closing with refusal 3, by what it alone was refused for.
     fn add_closing_refused_for_settings(&mut self, request: &Request) {
         let (settings, capacity) = (&request.reader.settings, request.reader.capacity());
-        for (place, mend) in MEND_SETTINGS.into_iter().enumerate() {
-            if refusal_with(mend, request) == 0 {
+        for (place, fit) in FIT_SETTINGS.into_iter().enumerate() {
+            if refusal_with(fit, request) == 0 {
                 self.count(SETTINGS_REFUSED, place);
             }
         }
-        if let Some(page) = request.reader.bit_beyond() {
-            if refusal_with(|request| clear_beyond(&mut request.reader), request) == 0 {
+        if let Some(page) = request.reader.bits_beyond().next() {
+            if refusal_with(FIT_BITS, request) == 0 {
                 self.count(BITS_REFUSED_CLOSED, page / 8 / INDEX_PAGE);
             }
         }
@@ -176,16 +152,9 @@ impl Tally {
     }
 }
 
-/// The refusal that a closing would get with this change, or 0.
-fn refusal_with(mend: Mend, request: &Request) -> u8 {
+/// The refusal that a request would get with this change, or 0.
+pub fn refusal_with(fit: Fit, request: &Request) -> u8 {
     let mut asked = request.clone();
-    mend(&mut asked);
+    fit(&mut asked);
     asked.carried_out().answer.refusal
-}
-
-/// Clears the bits at or above C.
-fn clear_beyond(reader: &mut Reader) {
-    while let Some(page) = reader.bit_beyond() {
-        reader.index[page / 8] &= !bit(page);
-    }
 }

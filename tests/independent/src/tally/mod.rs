@@ -103,7 +103,7 @@ impl Tally {
             self.count(CAPACITIES_REFUSED, capacity);
         }
         if refused_for(|reader| reader.index = vec![0; INDEX], request) {
-            match request.reader.bit_beyond() {
+            match request.reader.bits_beyond().next() {
                 Some(page) if index.len() == INDEX => self.count(BITS_REFUSED, page / 8 / INDEX_PAGE),
                 _ => self.count(INDEX_LENGTHS_REFUSED, index.len()),
             }
@@ -200,7 +200,7 @@ impl Tally {
             }
         } else {
             self.count(STORES_VACANT, code);
-            if template.iter().any(|&byte| byte != 0) {
+            if before.has_bytes(page) {
                 self.count(STORES_VACANT_BYTES, code);
             }
         }

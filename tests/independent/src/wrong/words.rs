@@ -1,6 +1,7 @@
 //! The words that rows are made of: how a case is picked, and what becomes of it.
 
 pub use super::{Row, Rows};
+pub use crate::compare::fit::*;
 pub use crate::compare::frame::{Kind, Outcome, Request};
 pub use crate::reader::receiver::{Receiver, HOLDS};
 pub use crate::reader::*;
@@ -223,6 +224,19 @@ impl Row<'_> {
         self.also(such, move |case| {
             case.ask(&change);
             mend(&mut case.outcome.reader, case.old);
+        });
+    }
+
+    /// Such a case is taken for what this makes of it, as far as the lent lengths go; what lies past that stays.
+    pub fn takes_for(self, such: impl Such, fit: Fit) {
+        self.also(such, move |case| {
+            case.ask(fit);
+            let Outcome { reader: Reader { templates, index, .. }, room, .. } = &mut case.outcome;
+            let old = [&case.old.templates, &case.old.index, &case.request.room];
+            for (now, old) in [templates, index, room].into_iter().zip(old) {
+                now.truncate(old.len());
+                now.extend(&old[now.len()..]);
+            }
         });
     }
 
