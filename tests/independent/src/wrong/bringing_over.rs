@@ -52,13 +52,7 @@ pub fn add(rows: &mut Rows) {
     });
     // What else is done.
     rows.over("clears-bits-beyond").leaves(DONE, |now, _| clear_beyond(now));
-    rows.over("zeroes-vacant-pages").leaves(DONE, |now, _| {
-        for page in 0..now.capacity().min(MOST_PAGES) {
-            if !now.stored(page) {
-                now.template_mut(page).fill(0);
-            }
-        }
-    });
+    rows.over("zeroes-vacant-pages").leaves(DONE, |now, _| zero_vacant(now));
     rows.over("lays-fresh-settings").sets(DONE, |now, _| *now = Settings::fresh());
     rows.over("makes-marks-legal").sets(DONE, |now, _| set_marks(now));
     rows.over("switches-line-too").leaves(DONE, |now, _| drop(line_switch(now)));

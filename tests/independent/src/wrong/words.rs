@@ -228,9 +228,9 @@ impl Row<'_> {
     }
 
     /// Such a case is taken for what this makes of it, as far as the lent lengths go; what lies past that stays.
-    pub fn takes_for(self, such: impl Such, fit: Fit) {
+    pub fn takes_for(self, such: impl Such, fit: impl Fn(&mut Request) + 'static) {
         self.also(such, move |case| {
-            case.ask(fit);
+            case.ask(&fit);
             let Outcome { reader: Reader { templates, index, .. }, room, .. } = &mut case.outcome;
             let old = [&case.old.templates, &case.old.index, &case.request.room];
             for (now, old) in [templates, index, room].into_iter().zip(old) {
@@ -310,6 +310,15 @@ pub fn refused_with(refusal: u8, request: &Request) -> Outcome {
 pub fn pages(content: &[u8]) -> Range<usize> {
     let (page, count) = (number(&content[1..3]), number(&content[3..]));
     page..page + count
+}
+
+/// Zeroes the vacant pages, as far as the index tells of them.
+pub fn zero_vacant(reader: &mut Reader) {
+    for page in 0..reader.capacity().min(8 * reader.index.len()) {
+        if !reader.stored(page) {
+            reader.template_mut(page).fill(0);
+        }
+    }
 }
 
 /// How many bits are set.
