@@ -68,13 +68,22 @@ fn of_bits() -> Vec<Frames> {
     ]
 }
 
-/// Settings that are not looked at: of a locked reader, in a transfer, and none of them legal.
+/// Settings that are not looked at: of a locked reader, in a transfer, none of them legal, and one of them not.
 fn of_settings() -> Vec<Frames> {
     let settings = [
         "00000005 A 03 02 06 00 0000 0000 00 01 01 01 0002 0000",
         "00000005 A 03 02 06 01 0000 0180 01 00 01 00 FFFF 0002",
         "00000000 A 00 04 0D 03 0000 0040 02 80 FF 02 0001 FFFE",
         "01234567 89ABCDEF 06 FF 00 01 1234 0200 FF 01 00 03 0003 0001",
+        "00000000 A 00 02 06 00 0000 0000 00 01 01 00 FFFF FFFF",
+        "00000000 A 03 04 06 00 0000 0000 00 01 01 00 FFFF FFFF",
+        "00000000 A 03 02 0D 00 0000 0000 00 01 01 00 FFFF FFFF",
+        "00000000 A 03 02 06 01 0000 0040 00 00 01 00 FFFF FFFF",
+        "00000000 A 03 02 06 00 0000 0000 02 01 01 00 FFFF FFFF",
+        "00000000 A 03 02 06 00 0000 0000 00 01 FF 00 FFFF FFFF",
+        "00000000 A 03 02 06 00 0000 0000 00 01 01 02 FFFF FFFF",
+        "00000000 A 03 02 06 00 0000 0000 00 01 01 00 0003 FFFF",
+        "00000000 A 03 02 06 00 0000 0000 00 01 01 00 FFFF 0001",
     ];
     let [before, after] = [filled(&LEFT), filled(&SALVAGED)];
     let both: [(&[u8], Ends); 2] = [(&before, LEFT_INDEX), (&after, SALVAGED_INDEX)];

@@ -30,7 +30,8 @@ pub fn add(rows: &mut Rows) {
         .takes_for(|case| case.old.templates.len() % PAGE != 0, FIT_TEMPLATES);
     // What is refused.
     for (name, fit) in SETTINGS.into_iter().zip(FIT_SETTINGS) {
-        rows.salvaging(format!("salvage-refuses-unfit-{name}")).refuses(3, move |case| unfit_for(case, fit));
+        rows.salvaging(format!("salvage-refuses-unfit-{name}"))
+            .refuses(3, move |case| DONE(case) && unfit_for(case, fit));
     }
     rows.salvaging("salvage-refuses-bits").refuses(3, |case| DONE(case) && case.old.bits_beyond().next().is_some());
     rows.salvaging("salvage-asks-lock").refuses(3, |case| DONE(case) && case.locked());
@@ -90,13 +91,13 @@ pub fn add(rows: &mut Rows) {
     });
 }
 
-/// Whether a call of what a salvage leaves gets refusal 3, and none with this change.
+/// Whether settings get refusal 3, by a closing of what the salvage leaves, and do not with this change.
 fn unfit_for(case: &Case, fit: Fit) -> bool {
-    let mut asked = case.request.clone();
-    clear_beyond(&mut asked.reader);
-    let refusal = asked.reader.refusal(ROOM);
+    let mut asked = Request { kind: Kind::CloseGaps, reader: case.outcome.reader.clone(), ..case.request.clone() };
+    FIT_ROOM(&mut asked);
+    let refusal = asked.carried_out().answer.refusal;
     fit(&mut asked);
-    DONE(case) && refusal == 3 && asked.reader.refusal(ROOM) == 0
+    refusal == 3 && asked.carried_out().answer.refusal == 0
 }
 
 /// What comes of a case with this change.
