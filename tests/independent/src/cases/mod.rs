@@ -92,8 +92,8 @@ impl Dialogue {
     }
 }
 
-/// One call or line switch of a reader that is legal or spoiled, or fresh settings, an index brought over, the gaps closed
-/// or a salvage for it.
+/// One call or line switch of a reader that is legal or spoiled, or fresh settings, an index brought over, the gaps
+/// closed or a salvage for it.
 pub fn single(mut chance: Chance) -> Request {
     let (reader, room) = spoiled_reader(&mut chance);
     let run = Author { chance: &mut chance, reader: &reader }.run();

@@ -16,7 +16,7 @@ pub const CAPACITIES: [usize; 10] = [1, 7, 8, 9, 64, 255, 256, 257, 999, MOST_PA
 pub const FIRST: usize = 0;
 pub const MIDDLE: usize = PAGE / 2;
 pub const LAST: usize = PAGE - 1;
-pub const VALUES: [u8; 3] = [0x01, 0x80, 0xFF];
+const VALUES: [u8; 3] = [0x01, 0x80, 0xFF];
 
 /// How a page stands: whether it is stored, and a byte that stands at a place and at every so many-th behind it.
 type Stand = (bool, usize, usize, u8);
@@ -41,21 +41,25 @@ const DIRTY: [Stand; 11] = [
 const STANDS: usize = 3 + DIRTY.len();
 const SMALL: [(usize, usize); 2] = [(2, STANDS), (5, 3)];
 
-/// Bits at or above C, by C.
-const STRAYS: [fn(usize, usize) -> bool; 11] = [
+/// Such bits at or above C are set, by C and the bit.
+type Strays = fn(usize, usize) -> bool;
+const AT_C: Strays = |capacity, bit| bit == capacity;
+const IN_BYTE_OF_C: Strays = |capacity, bit| bit / 8 == capacity / 8;
+const LAST_BIT: Strays = |_, bit| bit == REPORT - 1;
+const ALL: Strays = |_, _| true;
+const STRAYS: [Strays; 11] = [
     |_, _| false,
-    |capacity, bit| bit == capacity,
+    AT_C,
     |capacity, bit| bit == capacity + 1,
-    |capacity, bit| bit / 8 == capacity / 8,
+    IN_BYTE_OF_C,
     |capacity, bit| bit == capacity / 8 * 8 + 7,
     |capacity, bit| bit == capacity / 8 * 8 + 8,
     |_, bit| bit == REPORT - 8,
-    |_, bit| bit == REPORT - 1,
+    LAST_BIT,
     |_, bit| bit % 2 == 0,
     |_, bit| bit % 3 == 0 || bit % 8 == 7,
-    |_, _| true,
+    ALL,
 ];
-const ALL: fn(usize, usize) -> bool = STRAYS[10];
 
 /// Libraries salvaged by C, pages and bits, salvages that are refused, and calls of what is left.
 pub fn all() -> impl Iterator<Item = Request> {
@@ -90,8 +94,8 @@ fn twice(reader: Reader) -> [Request; 2] {
 }
 
 /// A reader of which each page stands so, with such bits at or above C.
-fn library(capacity: usize, stand: impl Fn(usize) -> Stand, stray: fn(usize, usize) -> bool) -> Reader {
-    let index = index_of(REPORT, |bit| if bit < capacity { stand(bit).0 } else { stray(capacity, bit) });
+fn library(capacity: usize, stand: impl Fn(usize) -> Stand, strays: Strays) -> Reader {
+    let index = index_of(REPORT, |bit| if bit < capacity { stand(bit).0 } else { strays(capacity, bit) });
     let mut reader = numbered_reader(PAGE * capacity, index);
     (0..capacity).for_each(|page| lay(reader.template_mut(page), stand(page)));
     reader
@@ -103,7 +107,7 @@ fn lay(template: &mut [u8], (_, first, step, byte): Stand) {
     template[first..].iter_mut().step_by(step).for_each(|place| *place = byte);
 }
 
-/// The stands by number: stored, clean, dirty in each way, and stored with zeroes alone.
+/// The stands by number: stored, clean, stored with zeroes alone, and dirty in each way.
 fn stand(number: usize) -> Stand {
     match number % STANDS {
         0 => STORED,
@@ -136,7 +140,7 @@ fn capacities() -> Vec<Request> {
     all.flat_map(|(capacity, stray)| twice(library(capacity, |page| stand(page + stray), STRAYS[stray]))).collect()
 }
 
-/// At each C all pages stored, clean and dirty; one dirty at an end among stored ones and one stored there among dirty ones.
+/// At each C all pages stored, clean and dirty; one dirty at an end among stored ones, and the other way round.
 fn ends() -> Vec<Request> {
     let stands: [fn(usize, usize) -> Stand; 7] = [
         |_, _| STORED,
@@ -176,15 +180,11 @@ fn lengths() -> Vec<Request> {
     requests
 }
 
-/// Settings of all kinds, legal and not, without bits at or above C and with some; then those that are not legal beside
-/// a report that does not fit.
+/// Settings that are not legal beside a report that does not fit; then settings of all kinds, without bits at or above C
+/// and with some.
 fn settings() -> Vec<Request> {
     let unfit = unfit::settings(&few().settings).into_iter().map(|settings| Reader { settings, ..few() });
-    let mut requests: Vec<Request> = unfit
-        .clone()
-        .map(|reader| salvaging_with(reader, REPORT - 1))
-        .chain(stands().into_iter().map(salvaging))
-        .collect();
+    let mut requests: Vec<Request> = unfit.clone().map(|reader| salvaging_with(reader, REPORT - 1)).collect();
     for reader in unfit.chain(stands()) {
         let mut beyond = reader.clone();
         [FEW, REPORT - 1].iter().for_each(|bit_set| beyond.index[bit_set / 8] |= bit(*bit_set));
@@ -213,8 +213,8 @@ fn brought_over() -> Vec<Request> {
 /// Calls of a reader with a bit at or above C, which is all that is wrong with it, before and after it is salvaged.
 fn calls_of_what_is_left() -> Vec<Request> {
     let mut requests = Vec::new();
-    for (capacity, stray) in [(FEW, STRAYS[1]), (64, STRAYS[7]), (257, STRAYS[3]), (MOST_PAGES, ALL)] {
-        let library = library(capacity, stand, stray);
+    for (capacity, strays) in [(FEW, AT_C), (64, LAST_BIT), (257, IN_BYTE_OF_C), (MOST_PAGES, ALL)] {
+        let library = library(capacity, stand, strays);
         let mut commands = vec![vec![TEMPLETE_NUM], vec![SEARCH, 1, 0, 0, 0xFF, 0xFF], vec![EMPTY]];
         commands.extend([0, 1, 2, 3].map(|page| vec![READ_INDEX_TABLE, page]));
         for page in [0, 1, 3, 8, capacity - 1] {
@@ -251,8 +251,8 @@ pub fn left_by_old_program(chance: &mut Chance, mut reader: Reader) -> Reader {
             lay(reader.template_mut(page), chance.pick(&[CLEAN, dirty, any]));
         }
     }
-    let (stray, capacity) = (chance.pick(&STRAYS), reader.capacity());
-    for page in (capacity..bits).filter(|&page| stray(capacity, page)) {
+    let (strays, capacity) = (chance.pick(&STRAYS), reader.capacity());
+    for page in (capacity..bits).filter(|&page| strays(capacity, page)) {
         reader.index[page / 8] |= bit(page);
     }
     reader

@@ -52,7 +52,7 @@ impl Tally {
             FRESH_MARKS
         } else if request.kind == frame::Kind::BringOver {
             self.add_bringing_over(request, refusal);
-            self.brought_over = Some(outcome.reader.index.clone());
+            self.brought_over = Some(outcome.reader.index.clone()).filter(|_| refusal == 0);
             MARKS_BROUGHT_OVER
         } else if request.kind == frame::Kind::CloseGaps {
             self.add_closing(request, outcome);

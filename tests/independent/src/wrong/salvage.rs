@@ -98,67 +98,41 @@ fn add_bits_and_pages(rows: &mut Rows) {
     rows.salvaging("ends-at-a-byte").ends_at(|capacity| capacity / 8 * 8);
 }
 
-/// What the report says, by the case, what it has to say, and the bit.
+/// What the report says in place of the right, by the case, the right report and the bit.
 fn add_reports(rows: &mut Rows) {
-    rows.salvaging("salvages-but-says-nothing").says(|case, _, bit| case.request.room[bit]);
-    rows.salvaging("salvages-but-says-0").says(|_, _, _| UNCHANGED);
     rows.salvaging("says-but-does-not-salvage").leaves(DONE, |now, old| *now = old.clone());
-    rows.salvaging("says-2-for-every-vacant-page")
-        .says(|case, said, bit| if vacant(case.old, bit) { BYTES_ZEROED } else { said[bit] });
-    rows.salvaging("says-2-for-last-page-of-zeroes").says(|case, said, bit| {
-        if vacant(case.old, bit) && bit + 1 == case.old.capacity() {
-            BYTES_ZEROED
-        } else {
-            said[bit]
-        }
-    });
-    rows.salvaging("says-2-for-every-page-with-bytes").says(|case, said, bit| {
-        if bit < case.old.capacity() && case.old.has_bytes(bit) {
-            BYTES_ZEROED
-        } else {
-            said[bit]
-        }
-    });
-    rows.salvaging("says-1-for-every-vacant-page")
-        .says(|case, said, bit| if vacant(case.old, bit) { BIT_CLEARED } else { said[bit] });
-    rows.salvaging("says-1-for-every-bit-above-C").says(|case, said, bit| {
-        if bit >= case.old.capacity() {
-            BIT_CLEARED
-        } else {
-            said[bit]
-        }
-    });
-    rows.salvaging("says-1-for-zeroed").says(|_, said, bit| said[bit].min(BIT_CLEARED));
-    rows.salvaging("says-2-for-cleared")
-        .says(|_, said, bit| [UNCHANGED, BYTES_ZEROED, BYTES_ZEROED][usize::from(said[bit])]);
+    rows.salvaging("salvages-but-says-nothing").says(|case, _, bit| Some(case.request.room[bit]));
+    rows.salvaging("salvages-but-says-0").says(|_, _, _| Some(UNCHANGED));
+    rows.salvaging("says-2-for-every-vacant-page").says(|case, _, bit| vacant(case.old, bit).then_some(BYTES_ZEROED));
+    rows.salvaging("says-2-for-last-page-of-zeroes")
+        .says(|case, _, bit| (vacant(case.old, bit) && bit + 1 == case.old.capacity()).then_some(BYTES_ZEROED));
+    rows.salvaging("says-2-for-every-page-with-bytes")
+        .says(|case, _, bit| (bit < case.old.capacity() && case.old.has_bytes(bit)).then_some(BYTES_ZEROED));
+    rows.salvaging("says-1-for-every-vacant-page").says(|case, _, bit| vacant(case.old, bit).then_some(BIT_CLEARED));
+    rows.salvaging("says-1-for-every-bit-above-C")
+        .says(|case, _, bit| (bit >= case.old.capacity()).then_some(BIT_CLEARED));
+    rows.salvaging("says-1-for-zeroed").says(|_, said, bit| (said[bit] == BYTES_ZEROED).then_some(BIT_CLEARED));
+    rows.salvaging("says-2-for-cleared").says(|_, said, bit| (said[bit] == BIT_CLEARED).then_some(BYTES_ZEROED));
     rows.salvaging("exchanges-1-and-2")
-        .says(|_, said, bit| [UNCHANGED, BYTES_ZEROED, BIT_CLEARED][usize::from(said[bit])]);
-    rows.salvaging("says-FF-for-unchanged").says(|_, said, bit| if said[bit] == UNCHANGED { 0xFF } else { said[bit] });
+        .says(|_, said, bit| (said[bit] != UNCHANGED).then_some(BIT_CLEARED + BYTES_ZEROED - said[bit]));
+    rows.salvaging("says-FF-for-unchanged").says(|_, said, bit| (said[bit] == UNCHANGED).then_some(0xFF));
     rows.salvaging("says-changes-alone")
-        .says(|case, said, bit| if said[bit] == UNCHANGED { case.request.room[bit] } else { said[bit] });
-    rows.salvaging("adds-to-old-report").says(|case, said, bit| case.request.room[bit] | said[bit]);
+        .says(|case, said, bit| (said[bit] == UNCHANGED).then_some(case.request.room[bit]));
+    rows.salvaging("adds-to-old-report").says(|case, said, bit| Some(case.request.room[bit] | said[bit]));
     for (name, first) in [("C", None), ("256", Some(256)), ("1000", Some(MOST_PAGES))] {
         let past = move |case: &Case, bit| bit >= first.unwrap_or(case.old.capacity());
-        rows.salvaging(format!("says-nothing-past-{name}")).says(move |case, said, bit| {
-            if past(case, bit) {
-                case.request.room[bit]
-            } else {
-                said[bit]
-            }
-        });
-        rows.salvaging(format!("says-0-past-{name}"))
-            .says(move |case, said, bit| if past(case, bit) { UNCHANGED } else { said[bit] });
+        rows.salvaging(format!("says-nothing-past-{name}"))
+            .says(move |case, _, bit| past(case, bit).then_some(case.request.room[bit]));
+        rows.salvaging(format!("says-0-past-{name}")).says(move |case, _, bit| past(case, bit).then_some(UNCHANGED));
     }
-    rows.salvaging("says-0-at-C")
-        .says(|case, said, bit| if bit == case.old.capacity() { UNCHANGED } else { said[bit] });
-    rows.salvaging("says-0-before-C")
-        .says(|case, said, bit| if bit + 1 == case.old.capacity() { UNCHANGED } else { said[bit] });
+    rows.salvaging("says-0-at-C").says(|case, _, bit| (bit == case.old.capacity()).then_some(UNCHANGED));
+    rows.salvaging("says-0-before-C").says(|case, _, bit| (bit + 1 == case.old.capacity()).then_some(UNCHANGED));
     rows.salvaging("says-nothing-of-last-bit")
-        .says(|case, said, bit| if bit + 1 == REPORT { case.request.room[bit] } else { said[bit] });
-    rows.salvaging("says-one-late").says(|_, said, bit| if bit == 0 { UNCHANGED } else { said[bit - 1] });
-    rows.salvaging("says-one-early").says(|_, said, bit| said.get(bit + 1).copied().unwrap_or(UNCHANGED));
-    rows.salvaging("says-bits-of-a-byte-turned").says(|_, said, bit| said[bit / 8 * 8 + 7 - bit % 8]);
-    rows.salvaging("says-bits-after").says(|case, _, bit| case.outcome.reader.stored(bit).into());
+        .says(|case, _, bit| (bit + 1 == REPORT).then_some(case.request.room[bit]));
+    rows.salvaging("says-one-late").says(|_, said, bit| Some(if bit == 0 { UNCHANGED } else { said[bit - 1] }));
+    rows.salvaging("says-one-early").says(|_, said, bit| Some(said.get(bit + 1).copied().unwrap_or(UNCHANGED)));
+    rows.salvaging("says-bits-of-a-byte-turned").says(|_, said, bit| Some(said[bit / 8 * 8 + 7 - bit % 8]));
+    rows.salvaging("says-bits-after").says(|case, _, bit| Some(case.outcome.reader.stored(bit).into()));
 }
 
 impl Row<'_> {
@@ -216,11 +190,11 @@ impl Row<'_> {
         );
     }
 
-    /// The report says this, by the case, by what it has to say, and by the bit.
-    fn says(self, said: impl Fn(&Case, &[u8], usize) -> u8 + 'static) {
+    /// The report says this of a bit, if there is something, by the case, the right report and the bit.
+    fn says(self, other: impl Fn(&Case, &[u8], usize) -> Option<u8> + 'static) {
         self.also(DONE, move |case| {
             let right = case.outcome.room.clone();
-            case.outcome.room = (0..REPORT).map(|bit| said(case, &right, bit)).collect();
+            case.outcome.room = (0..REPORT).map(|bit| other(case, &right, bit).unwrap_or(right[bit])).collect();
         });
     }
 }
