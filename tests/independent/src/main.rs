@@ -1,4 +1,4 @@
-//! Pits a reader and a receiver, written from document 01 and document 02's requests [1] to [3], [5] to [9] and [13]
+//! Pits a reader and a receiver, written from document 01 and document 02's requests [1] to [3], [5] to [10] and [13]
 //! alone, against another implementation of the papers, and writes the stored dialogue of the bench program with them.
 
 mod cases;

@@ -86,7 +86,7 @@ fn of_unfit_readers() -> Vec<Request> {
     requests
 }
 
-fn request(stored: Vec<u8>, capacity: usize, lent: Vec<u8>) -> Request {
+pub fn request(stored: Vec<u8>, capacity: usize, lent: Vec<u8>) -> Request {
     let reader = numbered_reader(PAGE * capacity, lent);
     Request { kind: Kind::BringOver, reader, run: stored, room: vec![0x5A; ROOM] }
 }

@@ -4,13 +4,14 @@ use crate::cases::chance::Chance;
 use crate::cases::origins::CAPACITIES;
 use crate::cases::readers::{index_of, numbered_reader};
 use crate::cases::thousand::calls;
+use crate::cases::unfit;
 use crate::compare::frame::{Kind, Request};
 use crate::reader::*;
 
 /// Every index of up to so many pages is closed.
 const SMALL: usize = 6;
 /// C of the readers that meet the most, and their index: pages 1, 2, 4, 7 and 8 are stored.
-const FEW: usize = 9;
+pub const FEW: usize = 9;
 const STORED: [usize; 5] = [1, 2, 4, 7, 8];
 /// Lengths of the index.
 const INDEXES: [usize; 8] = [0, 2, SHORT_INDEX, 127, INDEX, 129, 160, 256];
@@ -20,13 +21,13 @@ pub fn all(seed: u64) -> impl Iterator<Item = Request> {
     let cases = [
         small_indexes(),
         capacities(seed),
-        stands(),
+        stands().into_iter().map(closing).collect(),
         tables(),
         lengths(),
         bits_beyond(),
         unfit_settings(),
-        unfit_origins(),
-        not_lent(),
+        origins_at_capacity(),
+        not_lent(&closing(few())),
         calls_of_what_is_left(),
     ];
     cases.into_iter().flatten()
@@ -54,7 +55,7 @@ fn reader(capacity: usize, such: impl FnMut(usize) -> bool) -> Reader {
 }
 
 /// A reader of few pages.
-fn few() -> Reader {
+pub fn few() -> Reader {
     reader(FEW, |page| STORED.contains(&page))
 }
 
@@ -99,7 +100,7 @@ fn capacities(seed: u64) -> Vec<Request> {
 
 /// Readers locked and not, with and without a found mark, with buffers filled or not, with transfers, and with all
 /// legal origins.
-fn stands() -> Vec<Request> {
+pub fn stands() -> Vec<Reader> {
     let mut readers = Vec::new();
     let origins = STORED.map(Origin::of).into_iter().chain([NONE]);
     for (one, other) in origins.clone().flat_map(|one| origins.clone().map(move |other| (one, other))) {
@@ -134,7 +135,7 @@ fn stands() -> Vec<Request> {
         ..not_fresh.settings
     };
     readers.push(not_fresh);
-    readers.into_iter().map(closing).collect()
+    readers
 }
 
 /// Tables of about C numbers, with a byte more and without, of readers legal and not.
@@ -194,75 +195,29 @@ fn bits_beyond() -> Vec<Request> {
     requests
 }
 
-/// Settings and transfers that are not legal, with a table that fits and with one that does not.
+/// Settings, transfers and origins that are not legal, with a table that fits and with one that does not.
 fn unfit_settings() -> Vec<Request> {
-    let spoil: [fn(&mut Settings); 18] = [
-        |settings| settings.level = 0,
-        |settings| settings.level = 6,
-        |settings| settings.size_code = 4,
-        |settings| settings.size_code = 255,
-        |settings| settings.baud_factor = 0,
-        |settings| settings.baud_factor = 13,
-        |settings| settings.verified = Mark(2),
-        |settings| settings.filled[0] = Mark(0xFF),
-        |settings| settings.filled[1] = Mark(2),
-        |settings| settings.found = Mark(2),
-        |settings| settings.found = Mark(0x80),
-        |settings| settings.got = 128,
-        |settings| settings.transfer = 3,
-        |settings| open(settings, 1, 64),
-        |settings| open(settings, 1, 512),
-        |settings| open(settings, 2, 640),
-        |settings| {
-            open(settings, 2, 128);
-            settings.filled[1] = SET;
-        },
-        |settings| {
-            open(settings, 1, 0);
-            settings.password = [5, 0, 0, 0];
-        },
-    ];
     let mut requests = Vec::new();
-    for spoil in spoil {
-        let mut reader = few();
-        reader.settings.origins = [NONE; 2];
-        spoil(&mut reader.settings);
+    for settings in unfit::settings(&few().settings) {
+        let reader = Reader { settings, ..few() };
         requests.push(closing(reader.clone()));
         requests.push(closing_with(reader, 2 * FEW + 2));
     }
     requests
 }
 
-/// Opens a transfer that got so many bytes.
-fn open(settings: &mut Settings, buffer: u8, got: u16) {
-    (settings.transfer, settings.got) = (buffer, got);
-    settings.filled[usize::from(buffer) - 1] = CLEAR;
-}
-
-/// Origins at or above C, on vacant pages and of buffers that are not filled, of readers locked and not; then at C.
-fn unfit_origins() -> Vec<Request> {
-    let mut requests = Vec::new();
-    let beyond_or_vacant = [9, 10, 1000, 0x8000, 0xFFFE, 0, 3].map(|origin| (origin, SET));
-    let not_filled = [4, 0].map(|origin| (origin, CLEAR));
-    for (origin, filled) in beyond_or_vacant.into_iter().chain(not_filled) {
-        for (buffer, password) in [(0, 0), (1, 0), (0, 5), (1, 5)] {
-            let mut reader = few();
-            reader.settings.origins[buffer] = Origin(origin);
-            reader.settings.filled[buffer] = filled;
-            reader.settings.password[3] = password;
-            requests.push(closing(reader));
-        }
-    }
-    for capacity in CAPACITIES {
+/// The origin C at each C.
+fn origins_at_capacity() -> Vec<Request> {
+    let closed = |capacity| {
         let mut reader = reader(capacity, |page| page % 2 == 0);
         reader.settings.origins[1] = Origin::of(capacity);
-        requests.push(closing(reader));
-    }
-    requests
+        closing(reader)
+    };
+    CAPACITIES.map(closed).into()
 }
 
-/// Memories of any lengths that are not lent, and runs of all kinds.
-fn not_lent() -> Vec<Request> {
+/// The request with memories of any lengths that are not lent, and with runs of all kinds.
+pub fn not_lent(request: &Request) -> Vec<Request> {
     let spoil: [fn(&mut Request); 7] = [
         |request| request.reader.notepad.clear(),
         |request| request.reader.buffers[0].truncate(PAGE - 1),
@@ -272,12 +227,8 @@ fn not_lent() -> Vec<Request> {
         |request| request.run.clear(),
         |request| request.run = packet([0xFF; 4], COMMAND, &[EMPTY]),
     ];
-    let mut requests = Vec::new();
-    for spoil in spoil {
-        let mut request = closing(few());
-        spoil(&mut request);
-        requests.push(request);
-    }
+    let mut requests = vec![request.clone(); spoil.len()];
+    spoil.iter().zip(&mut requests).for_each(|(spoil, request)| spoil(request));
     requests
 }
 

@@ -12,8 +12,10 @@ pub mod origins;
 pub mod parameters;
 pub mod readers;
 pub mod receivers;
+pub mod salvage;
 pub mod search;
 pub mod thousand;
+mod unfit;
 
 use crate::cases::author::{Author, Event};
 use crate::cases::chance::Chance;
@@ -23,7 +25,7 @@ use crate::reader::*;
 use std::collections::VecDeque;
 
 /// A reader that is called again and again, each time with what is left of the bytes that came in, and with new scores
-/// and thresholds. At times its gaps are closed between.
+/// and thresholds. At times its gaps are closed between, or the old program had it and it is salvaged.
 pub struct Dialogue {
     chance: Chance,
     reader: Reader,
@@ -43,11 +45,11 @@ impl Dialogue {
         Dialogue { chance, reader, left: Vec::new(), waiting: true, events: VecDeque::new(), scenes }
     }
 
-    /// The next call, line switch or closing of the gaps; none when the dialogue is over.
+    /// The next call, line switch, closing of the gaps or salvage; none when the dialogue is over.
     pub fn next(&mut self) -> Option<Request> {
         let mut kind = Kind::Call;
-        if self.waiting && self.events.is_empty() && self.chance.percent(10) {
-            return Some(gaps::closing(self.reader.clone()));
+        if self.waiting && self.events.is_empty() && self.chance.percent(20) {
+            return Some(self.upkeep());
         }
         if self.waiting {
             while self.events.is_empty() {
@@ -62,6 +64,15 @@ impl Dialogue {
         let room = self.chance.bytes(room);
         let request = Request { kind, reader: self.reader.clone(), run: self.left.clone(), room };
         Some(chips::renewed(&mut self.chance, request))
+    }
+
+    fn upkeep(&mut self) -> Request {
+        let reader = self.reader.clone();
+        if self.chance.percent(50) {
+            gaps::closing(reader)
+        } else {
+            salvage::salvaging(salvage::left_by_old_program(&mut self.chance, reader))
+        }
     }
 
     /// Goes on from where the answer left the reader.
@@ -81,8 +92,8 @@ impl Dialogue {
     }
 }
 
-/// One call or line switch of a reader that is legal or spoiled, or fresh settings, an index brought over or the gaps
-/// closed for it.
+/// One call or line switch of a reader that is legal or spoiled, or fresh settings, an index brought over, the gaps
+/// closed or a salvage for it.
 pub fn single(mut chance: Chance) -> Request {
     let (reader, room) = spoiled_reader(&mut chance);
     let run = Author { chance: &mut chance, reader: &reader }.run();
@@ -91,6 +102,7 @@ pub fn single(mut chance: Chance) -> Request {
         12..=21 => Kind::FreshSettings,
         22..=33 => return bringing_over::by_chance(&mut chance, Request { kind: Kind::BringOver, reader, run, room }),
         34..=45 => return gaps::by_chance(&mut chance, Request { kind: Kind::CloseGaps, reader, run, room }),
+        46..=57 => return salvage::by_chance(&mut chance, Request { kind: Kind::Salvage, reader, run, room }),
         _ => Kind::Call,
     };
     chips::suited(&mut chance, Request { kind, reader, run, room })

@@ -1,7 +1,7 @@
 //! The frames that a probe takes and gives. All numbers are high byte first.
 
 use crate::reader::receiver::{self, Receiver};
-use crate::reader::{self, gaps, Answer, Chip, Mark, Origin, Reader, Settings, COMMAND, SEARCH};
+use crate::reader::{self, gaps, salvage, Answer, Chip, Mark, Origin, Reader, Settings, COMMAND, SEARCH};
 use std::io::{Error, ErrorKind, Read, Result};
 
 /// What a frame in asks for, and of what.
@@ -11,11 +11,11 @@ pub struct Request {
     pub reader: Reader,
     /// The run, the piece that a receiver is offered, or the stored index that is brought over.
     pub run: Vec<u8>,
-    /// The reply room, or the bytes of the table that a closing of the gaps fills.
+    /// The reply room, the bytes of the table that a closing of the gaps fills, or the report of a salvage.
     pub room: Vec<u8>,
 }
 
-/// The seven kinds of a request, with the receiver before the reader where there is one.
+/// The eight kinds of a request, with the receiver before the reader where there is one.
 #[derive(Clone, PartialEq, Eq)]
 pub enum Kind {
     Call,
@@ -28,6 +28,8 @@ pub enum Kind {
     BringOver,
     /// The gaps closed. Notepad, buffers, scores, thresholds and run are not looked at or touched.
     CloseGaps,
+    /// A library salvaged. Templates and index alone are looked at and touched.
+    Salvage,
 }
 
 /// What a frame out tells.
@@ -91,6 +93,7 @@ impl Kind {
             Kind::FreshSettings => 4,
             Kind::BringOver => 5,
             Kind::CloseGaps => 6,
+            Kind::Salvage => 7,
         }
     }
 
@@ -104,6 +107,7 @@ impl Kind {
             4 => Ok(Kind::FreshSettings),
             5 => Ok(Kind::BringOver),
             6 => Ok(Kind::CloseGaps),
+            7 => Ok(Kind::Salvage),
             other => Err(broken(format!("a frame begins with {other}"))),
         }
     }
@@ -129,6 +133,7 @@ impl Request {
                 lay_numbers(&mut room, &table);
                 answer
             }
+            Kind::Salvage => salvage::salvage(&mut reader, &mut room),
         };
         Outcome { answer, receiver: kind.receiver().cloned(), reader, room }
     }

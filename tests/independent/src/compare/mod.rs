@@ -1,6 +1,7 @@
 //! The comparer: puts the examples and the cases to another implementation of the papers, and demands every byte that the
 //! independent reader gives.
 
+pub mod fit;
 pub mod frame;
 pub mod probe;
 pub mod report;
@@ -8,10 +9,14 @@ mod shrink;
 
 use crate::cases::chance::Chance;
 use crate::cases::receivers::{self, Caller};
-use crate::cases::{self, bringing_over, counts, gaps, limits, origins, parameters, search, thousand, Dialogue};
+use crate::cases::{
+    self, bringing_over, counts, gaps, limits, origins, parameters, salvage, search, thousand, Dialogue,
+};
 use crate::examples::Examples;
 use crate::reader;
-use crate::tally::kinds::{BROUGHT, CALLED, CLOSED, FRESHENED, ON_A_LINE, RECEIVED};
+use crate::tally::gaps::CLOSED;
+use crate::tally::kinds::{BROUGHT, CALLED, FRESHENED, ON_A_LINE, RECEIVED};
+use crate::tally::salvage::SALVAGED;
 use crate::tally::Tally;
 use frame::{Kind, Outcome, Request};
 use std::time::{Duration, Instant};
@@ -88,12 +93,13 @@ pub fn compare<O: Other>(other: O, examples: &Examples, extent: Extent) -> Resul
     comparer.in_turn("of the searches", search::all())?;
     comparer.in_turn("of the parameters", parameters::all())?;
     comparer.in_turn("of the gaps", gaps::all(seed))?;
+    comparer.in_turn("of the salvages", salvage::all())?;
     comparer.in_turn("of every length", receivers::every_length(seed))?;
     comparer.cut_runs(seed)?;
     let Comparer { other, readers, receivers, .. } = comparer;
     other.finish()?;
 
-    let of_readers = [ON_A_LINE, CALLED, FRESHENED, BROUGHT, CLOSED].concat();
+    let of_readers = [ON_A_LINE, CALLED, FRESHENED, BROUGHT, CLOSED, SALVAGED].concat();
     let of_receivers = [ON_A_LINE, CALLED, RECEIVED].concat();
     let mut missing = readers.missing(&of_readers);
     missing.extend(receivers.missing(&of_receivers).iter().map(|what| format!("with a receiver, {what}")));

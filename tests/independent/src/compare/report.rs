@@ -16,6 +16,7 @@ pub fn case(request: &Request) -> Vec<String> {
         Kind::FreshSettings => "fresh settings",
         Kind::BringOver => "an index brought over",
         Kind::CloseGaps => "the gaps closed",
+        Kind::Salvage => "a library salvaged",
     };
     let mut lines = vec![
         what.to_string(),
@@ -29,7 +30,11 @@ pub fn case(request: &Request) -> Vec<String> {
     lines.push(memory("buffer 2", &reader.buffers[1]));
     lines.push(numbers("scores", &reader.chip.scores));
     lines.push(numbers("thresholds", &reader.chip.thresholds));
-    let room = if request.kind == Kind::CloseGaps { "table" } else { "reply room" };
+    let room = match request.kind {
+        Kind::CloseGaps => "table",
+        Kind::Salvage => "report",
+        _ => "reply room",
+    };
     lines.push(memory(room, &request.room));
     if let Some(receiver) = request.kind.receiver() {
         lines.push(format!("held count {}, {}", receiver.count, memory("cells", &receiver.cells)));
@@ -116,7 +121,7 @@ fn memories(outcome: &Outcome) -> Vec<(&'static str, &[u8])> {
         ("notepad", &reader.notepad),
         ("buffer 1", &reader.buffers[0]),
         ("buffer 2", &reader.buffers[1]),
-        ("reply room or table", &outcome.room),
+        ("reply room, table or report", &outcome.room),
     ];
     memories.extend(outcome.receiver.iter().map(|receiver| ("cells", &receiver.cells[..])));
     memories

@@ -1,5 +1,6 @@
 //! Makes a case on which two readers differ small, as long as they still differ.
 
+use crate::compare::fit::right_room;
 use crate::compare::frame::{Kind, Outcome, Request};
 use crate::reader::receiver::{Receiver, HOLDS};
 use crate::reader::*;
@@ -29,7 +30,7 @@ const FIELDS: [Freshen; 13] = [
     },
 ];
 
-/// The memories by number: templates, index, notepad, buffers 1 and 2, reply room or table.
+/// The memories by number: templates, index, notepad, buffers 1 and 2, reply room, table or report.
 const MEMORIES: usize = 6;
 
 struct Shrinker<F> {
@@ -152,8 +153,7 @@ impl<F: FnMut(&Request) -> Result<Outcome, String>> Shrinker<F> {
 
     fn right_length(&mut self, which: usize) {
         let pages = self.case.reader.capacity().max(1);
-        let room = if self.case.kind == Kind::CloseGaps { 2 * pages } else { ROOM };
-        let lengths = [PAGE * pages, INDEX, PAGE, PAGE, PAGE, room];
+        let lengths = [PAGE * pages, INDEX, PAGE, PAGE, PAGE, right_room(&self.case)];
         self.attempt(|case| memory(case, which).resize(lengths[which], 0));
     }
 

@@ -15,7 +15,7 @@ struct Library<'a> {
 }
 
 /// Both buffers are filled.
-const FILLED: &str = "00000000 A 03 02 06 00 0000 0000 00 01 01 00 FFFF FFFF";
+pub const FILLED: &str = "00000000 A 03 02 06 00 0000 0000 00 01 01 00 FFFF FFFF";
 
 /// A library of three pages that are told apart, the first and the last of them stored, and its gap closed.
 const THREE: Library = Library { settings: FILLED, pages: &[0x11, 0x22, 0x33], index: &[0x05], table: "S S S" };
@@ -151,7 +151,7 @@ fn of_tables() -> Vec<Frames> {
 /// Templates and indexes of other lengths.
 fn of_lengths() -> Vec<Frames> {
     let example = |name, pages: &[u8], more: &[u8], index: &str, table: &str| {
-        framed(name, 1, FILLED, &[&filled(pages), more].concat(), index, table)
+        framed(6, name, 1, FILLED, &[&filled(pages), more].concat(), index, table)
     };
     let index = |length: usize| format!("05 {}", zeroes(length - 1));
     vec![
@@ -211,8 +211,8 @@ fn of_order() -> Vec<Frames> {
     vec![
         refused("a table of one too few, and settings", 1, Library { settings, table: "S S", ..THREE }),
         refused("a table of one too many, and a bit", 1, Library { index: &[0x0D], table: "S S S S", ..THREE }),
-        framed("an index of 127 bytes, and settings", 1, settings, &filled(THREE.pages), &zeroes(127), THREE.table),
-        framed("no pages, and a bit", 1, FILLED, &[], &index, ""),
+        framed(6, "an index of 127 bytes, and settings", 1, settings, &filled(THREE.pages), &zeroes(127), THREE.table),
+        framed(6, "no pages, and a bit", 1, FILLED, &[], &index, ""),
     ]
 }
 
@@ -226,27 +226,36 @@ fn closing(name: &'static str, before: Library, refusal: u8, after: Library) -> 
         let bytes: String = library.index.iter().map(|byte| format!("{byte:02X}")).collect();
         format!("{bytes} {}", zeroes(128 - library.index.len()))
     };
-    let (_, frame_in, _) = framed(name, refusal, before.settings, &filled(before.pages), &index(before), before.table);
-    let (_, _, frame_out) = framed(name, refusal, after.settings, &filled(after.pages), &index(after), after.table);
+    let (_, frame_in, _) =
+        framed(6, name, refusal, before.settings, &filled(before.pages), &index(before), before.table);
+    let (_, _, frame_out) = framed(6, name, refusal, after.settings, &filled(after.pages), &index(after), after.table);
     (name, frame_in, frame_out)
 }
 
 /// The bytes of pages, each by the byte that fills it.
-fn filled(pages: &[u8]) -> Vec<u8> {
+pub fn filled(pages: &[u8]) -> Vec<u8> {
     pages.iter().flat_map(|&page| [page; PAGE]).collect()
 }
 
-/// A frame in and a frame out with the same settings, templates, index and table. No call takes such a notepad, such
-/// buffers, scores and thresholds.
-fn framed(name: &'static str, refusal: u8, settings: &str, templates: &[u8], index: &str, table: &str) -> Frames {
+/// A frame in of this kind and a frame out with the same settings, templates, index and table or report, of which S
+/// stands for 5A5A. No call takes such a notepad, such buffers, scores and thresholds.
+pub fn framed(
+    kind: u8,
+    name: &'static str,
+    refusal: u8,
+    settings: &str,
+    templates: &[u8],
+    index: &str,
+    room: &str,
+) -> Frames {
     let [settings, index] = [settings, index].map(bytes);
-    let table = bytes(&table.replace('S', "5A5A"));
+    let room = bytes(&room.replace('S', "5A5A"));
     let length = |memory: &[u8]| (memory.len() as u32).to_be_bytes().to_vec();
     let others = bytes("00000000 00000002 00000001 00000000 00000001 00000003");
-    let lengths = [length(templates), length(&index), others, length(&table)].concat();
+    let lengths = [length(templates), length(&index), others, length(&room)].concat();
     let (buffers, thresholds_and_run) = (bytes("0405 06"), bytes("1234 EF0140"));
     let memory = [templates, &index, &buffers].concat();
-    let frame_in = [vec![6], settings.clone(), lengths, memory.clone(), thresholds_and_run, table.clone()].concat();
-    let frame_out = [vec![refusal], vec![0; 8], settings, memory, table].concat();
+    let frame_in = [vec![kind], settings.clone(), lengths, memory.clone(), thresholds_and_run, room.clone()].concat();
+    let frame_out = [vec![refusal], vec![0; 8], settings, memory, room].concat();
     (name, frame_in, frame_out)
 }

@@ -1,10 +1,11 @@
 //! Examples that bind both readers: the table of examples P1 to P12, and examples of document 02's requests [1] to [3],
-//! [5] to [9] and [13], in what a host sees and in frames.
+//! [5] to [10] and [13], in what a host sees and in frames.
 
 mod basics;
 mod gaps;
 mod origins;
 mod parameters;
+mod salvage;
 mod search;
 mod thousand;
 
@@ -44,8 +45,15 @@ pub struct Examples {
 impl Examples {
     pub fn all() -> Examples {
         Examples {
-            of_frames: [basics::frames(), thousand::frames(), origins::frames(), search::frames(), gaps::frames()]
-                .concat(),
+            of_frames: [
+                basics::frames(),
+                thousand::frames(),
+                origins::frames(),
+                search::frames(),
+                gaps::frames(),
+                salvage::frames(),
+            ]
+            .concat(),
             of_steps: [basics::all(), thousand::all(), origins::all(), search::all(), parameters::all()]
                 .into_iter()
                 .flatten()

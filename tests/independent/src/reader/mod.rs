@@ -4,6 +4,7 @@
 
 pub mod gaps;
 pub mod receiver;
+pub mod salvage;
 
 use std::ops::{Range, RangeInclusive};
 
@@ -331,9 +332,9 @@ impl Reader {
         self.chip.scores.len() == self.capacity() && self.chip.thresholds.len() == THRESHOLDS
     }
 
-    /// The first page at or above C whose bit is set.
-    pub fn bit_beyond(&self) -> Option<usize> {
-        (self.capacity()..8 * self.index.len()).find(|&page| self.stored(page))
+    /// The bits at or above C that are set.
+    pub fn bits_beyond(&self) -> impl Iterator<Item = usize> + '_ {
+        (self.capacity()..8 * self.index.len()).filter(|&page| self.stored(page))
     }
 
     /// Whether each origin is none, or a stored page while its buffer is filled. The lengths fit.
@@ -348,7 +349,7 @@ impl Reader {
 
     /// Whether there is nothing that refusal 3 is for. The lengths fit.
     fn legal(&self) -> bool {
-        self.settings.legal() && self.bit_beyond().is_none() && self.origins_legal()
+        self.settings.legal() && self.bits_beyond().next().is_none() && self.origins_legal()
     }
 
     pub fn refusal(&self, room: usize) -> u8 {

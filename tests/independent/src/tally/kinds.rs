@@ -5,7 +5,7 @@ use crate::cases::readers::FAR_CAPACITIES;
 use crate::cases::receivers::MOST_PIECE;
 use crate::reader::receiver::HOLDS;
 use crate::reader::*;
-use Awaited::{Codes, Numbers, UpTo};
+pub use Awaited::{Codes, Numbers, UpTo};
 
 /// Something to count, and which of it must occur.
 #[derive(Clone, Copy)]
@@ -85,6 +85,7 @@ macro_rules! kinds {
         pub const $group: &[Kind] = &[$($kind),*];
     };
 }
+pub(crate) use kinds;
 
 kinds! {
     /// What a legal reader on a line brings about, in the stored dialogue too.
@@ -272,54 +273,4 @@ kinds! {
     ORIGINS_BROUGHT_OVER = "bringing over by refusal, with an origin", Numbers(&[0, 1]);
     FOUND_MARKS_BROUGHT_OVER =
         "bringing over with a found mark: 0 not legal, 1 set; 2 and 3 the same, refused", Numbers(&[0, 1, 2, 3]);
-}
-
-kinds! {
-    /// What a closing of the gaps meets and brings about.
-    CLOSED:
-    CLOSINGS = "closings by refusal", Numbers(&[0, 1, 3]);
-    CLOSINGS_BY_CAPACITY = "closings carried out by C", Numbers(&CAPACITIES_IN_TURN);
-    CLOSINGS_BY_GAP =
-        "closings carried out by gap: 0 none, 1 at page 0, 2 inside, 3 at the end, 4 all vacant",
-        Numbers(&[0, 1, 2, 3, 4]);
-    CLOSINGS_BY_PAGE =
-        "pages closed: 0 vacant and zero, 1 vacant and not zero, 2 left in place, 3 moved by one, 4 moved further, 5 moved and zero",
-        Numbers(&[0, 1, 2, 3, 4, 5]);
-    PAGES_MOVED_FROM = "pages moved, by the old page", Numbers(&[1, 7, 8, 9, 255, 256, 257, 998, 999]);
-    ORIGINS_MOVED = "origins that moved: 1, 2, or 3 for both", Numbers(&[1, 2, 3]);
-    ORIGINS_NOT_MOVED = "origins that did not move: 1, 2, or 3 for both", Numbers(&[1, 2, 3]);
-    CLOSINGS_BY_LOCK =
-        "closings carried out: 0 without a password, 1 with one and verified, 2 locked", Numbers(&[0, 1, 2]);
-    CLOSINGS_BY_TRANSFER = "closings carried out by the buffer of a transfer", Numbers(&[0, 1, 2]);
-    CLOSINGS_BY_FOUND = "closings carried out by the found mark", Numbers(&[0, 1]);
-    SECOND_CLOSINGS =
-        "closings of what a closing left: 0 with no page stored, 1 with some, 2 with all", Numbers(&[0, 1, 2]);
-    COMMANDS_AFTER_CLOSING =
-        "commands answered 00h by a reader that a closing left",
-        Codes(&[STORE, LOAD_CHAR, UP_CHAR, DELET_CHAR, EMPTY, TEMPLETE_NUM, READ_INDEX_TABLE]);
-    LOADS_AFTER_CLOSING = "LoadChars of a reader that a closing left by code", Codes(&[0x00, 0x0B, 0x0C]);
-    TABLES_REFUSED =
-        "closings refused for the table alone: 0 of no numbers, 1 of one too few, 2 of one too many, 3 of twice as many",
-        Numbers(&[0, 1, 2, 3]);
-    INDEXES_REFUSED_CLOSED =
-        "closings refused for the index's length alone, by this length", Numbers(&[0, 32, 127, 129, 256]);
-    TEMPLATES_REFUSED = "closings refused for whole pages alone, by their number", Numbers(&[0, MOST_PAGES + 1]);
-    UNEVEN_TEMPLATES_REFUSED =
-        "closings refused for templates that are not whole pages alone, by the bytes too many",
-        Numbers(&[1, PAGE / 2, PAGE - 1]);
-    BITS_REFUSED_CLOSED =
-        "closings refused for a bit at or above C alone, by the index page of the first", UpTo(INDEX_PAGES - 1);
-    SETTINGS_REFUSED =
-        "closings refused for a setting alone: 0 level, 1 size code, 2 baud factor, 3 verified, 4 filled, 5 found, 6 transfer, 7 origin",
-        UpTo(7);
-    ORIGINS_REFUSED_CLOSED =
-        "closings refused for an origin alone: 0 at C, 1 above it, 2 on a vacant page, 3 of a buffer not filled",
-        Numbers(&[0, 1, 2, 3]);
-    LENGTHS_BEFORE_SETTINGS =
-        "closings refused with 1 that would get 3 otherwise: 0 for the templates, 1 for the index, 2 for the table",
-        Numbers(&[0, 1, 2]);
-    MARKS_CLOSED = "closings by refusal, with a mark of neither 0 nor 1", Numbers(&[1, 3]);
-    NOT_LENT =
-        "closings carried out with another length: 0 of the notepad, 1 and 2 of a buffer, 3 of scores, 4 of thresholds, 5 of an empty run",
-        UpTo(5);
 }

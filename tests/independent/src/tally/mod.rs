@@ -1,16 +1,19 @@
 //! Counts what the calls brought about, to show that the cases reach everything.
 
-mod gaps;
+pub mod gaps;
 pub mod kinds;
 mod origins;
 mod parameters;
+pub mod salvage;
 mod search;
 
 use crate::compare::frame::{self, Outcome, Request};
 use crate::reader::receiver::Receiver;
 use crate::reader::*;
-use crate::tally::kinds::{Awaited::UpTo, *};
+use crate::tally::gaps::MARKS_CLOSED;
+use crate::tally::kinds::*;
 use crate::tally::parameters::Done;
+use crate::tally::salvage::{Salvaged, MARKS_SALVAGED};
 use std::collections::HashMap;
 
 #[derive(Default)]
@@ -21,6 +24,10 @@ pub struct Tally {
     last: Option<(Done, Settings)>,
     /// What the last closing of the gaps left.
     closed: Option<Reader>,
+    /// The index that was brought over last.
+    brought_over: Option<Vec<u8>>,
+    /// What the last salvage did.
+    salvaged: Option<Salvaged>,
 }
 
 /// A packet that a call dealt with, and the acknowledge code of the reply, if there is one.
@@ -45,10 +52,14 @@ impl Tally {
             FRESH_MARKS
         } else if request.kind == frame::Kind::BringOver {
             self.add_bringing_over(request, refusal);
+            self.brought_over = Some(outcome.reader.index.clone()).filter(|_| refusal == 0);
             MARKS_BROUGHT_OVER
         } else if request.kind == frame::Kind::CloseGaps {
             self.add_closing(request, outcome);
             MARKS_CLOSED
+        } else if request.kind == frame::Kind::Salvage {
+            self.add_salvage(request, outcome);
+            MARKS_SALVAGED
         } else if request.kind.is_line_switch() {
             self.count(SWITCHES, refusal);
             MARKS_SWITCHED
@@ -72,6 +83,7 @@ impl Tally {
             self.add_packet_with_origins(met);
             self.add_packet_with_found_mark(met);
             self.add_packet_after_closing(met);
+            self.add_packet_after_salvage(met);
         }
         self.add_origins(request, refusal);
         self.add_search(request, refusal);
@@ -103,7 +115,7 @@ impl Tally {
             self.count(CAPACITIES_REFUSED, capacity);
         }
         if refused_for(|reader| reader.index = vec![0; INDEX], request) {
-            match request.reader.bit_beyond() {
+            match request.reader.bits_beyond().next() {
                 Some(page) if index.len() == INDEX => self.count(BITS_REFUSED, page / 8 / INDEX_PAGE),
                 _ => self.count(INDEX_LENGTHS_REFUSED, index.len()),
             }
@@ -200,7 +212,7 @@ impl Tally {
             }
         } else {
             self.count(STORES_VACANT, code);
-            if template.iter().any(|&byte| byte != 0) {
+            if before.has_bytes(page) {
                 self.count(STORES_VACANT_BYTES, code);
             }
         }

@@ -9,7 +9,7 @@ impl Tally {
     pub fn add_origins(&mut self, request: &Request, refusal: u8) {
         let reader = &request.reader;
         let unfit = (0..2).any(|buffer| unfit(reader, buffer));
-        if request.kind == frame::Kind::CloseGaps {
+        if [frame::Kind::CloseGaps, frame::Kind::Salvage].contains(&request.kind) {
             return;
         } else if request.kind.is_call() && refusal == 0 {
             self.add_legal_origins(reader);

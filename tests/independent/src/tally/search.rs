@@ -21,7 +21,7 @@ impl Tally {
             let kind = match request.kind {
                 frame::Kind::FreshSettings => FRESH_FOUND_MARKS,
                 frame::Kind::BringOver => FOUND_MARKS_BROUGHT_OVER,
-                frame::Kind::CloseGaps => return,
+                frame::Kind::CloseGaps | frame::Kind::Salvage => return,
                 _ => FOUND_MARKS_SWITCHED,
             };
             self.count(kind, 2 * usize::from(refusal) + usize::from(found.legal()));

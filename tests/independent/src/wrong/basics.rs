@@ -80,7 +80,7 @@ pub fn add(rows: &mut Rows) {
     rows.reader("store-writes-same-bytes").refused_if(|old, b, page| old.stored(page) && !same(old, b, page));
     rows.reader("store-refuses-same-bytes-only").refused_if(|old, b, page| old.stored(page) && same(old, b, page));
     rows.reader("store-refuses-buffer-1-only").refused_if(|old, buffer, page| old.stored(page) && buffer == 0);
-    rows.reader("store-looks-at-template").refused_if(|old, _, page| old.template(page).iter().any(|&byte| byte != 0));
+    rows.reader("store-looks-at-template").refused_if(|old, _, page| old.has_bytes(page));
     rows.reader("store-looks-at-neighbour").refused_if(|old, _, page| old.stored(page ^ 1));
     rows.reader("store-looks-at-neighbour-too").refused_if(|old, _, page| old.stored(page) || old.stored(page ^ 1));
     rows.reader("store-looks-at-turned-byte").refused_if(|old, _, page| old.stored(page ^ 7));

@@ -41,7 +41,8 @@ pub fn add(rows: &mut Rows) {
         let like_call = move |case: &Case| case.old.refusal(case.request.room.len()) == refusal;
         rows.over(format!("refuses-{what}")).refuses(refusal, like_call);
     }
-    rows.over("refuses-bits-beyond").refuses(3, |case| DONE(case) && case.outcome.reader.bit_beyond().is_some());
+    rows.over("refuses-bits-beyond")
+        .refuses(3, |case| DONE(case) && case.outcome.reader.bits_beyond().next().is_some());
     for refusal in [0, 2, 3] {
         rows.over(format!("refuses-with-{refusal}")).refuses(refusal, REFUSED);
     }
@@ -50,18 +51,8 @@ pub fn add(rows: &mut Rows) {
         case.outcome.reader.index.iter_mut().zip(&case.request.run).for_each(|(lent, stored)| *lent = *stored);
     });
     // What else is done.
-    rows.over("clears-bits-beyond").leaves(DONE, |now, _| {
-        while let Some(page) = now.bit_beyond() {
-            now.index[page / 8] &= !bit(page);
-        }
-    });
-    rows.over("zeroes-vacant-pages").leaves(DONE, |now, _| {
-        for page in 0..now.capacity().min(MOST_PAGES) {
-            if !now.stored(page) {
-                now.template_mut(page).fill(0);
-            }
-        }
-    });
+    rows.over("clears-bits-beyond").leaves(DONE, |now, _| clear_beyond(now));
+    rows.over("zeroes-vacant-pages").leaves(DONE, |now, _| zero_vacant(now));
     rows.over("lays-fresh-settings").sets(DONE, |now, _| *now = Settings::fresh());
     rows.over("makes-marks-legal").sets(DONE, |now, _| set_marks(now));
     rows.over("switches-line-too").leaves(DONE, |now, _| drop(line_switch(now)));

@@ -12,16 +12,6 @@ struct Closed<'a> {
     stored: Vec<usize>,
 }
 
-/// What makes a length fit.
-type Fit = fn(&mut Request);
-const FIT_TEMPLATES: Fit = |asked| {
-    let pages = asked.reader.capacity().clamp(1, MOST_PAGES);
-    asked.reader.templates.resize(PAGE * pages, 0);
-    FIT_TABLE(asked);
-};
-const FIT_INDEX: Fit = |asked| asked.reader.index.resize(INDEX, 0);
-const FIT_TABLE: Fit = |asked| asked.room.resize(2 * asked.reader.capacity(), 0);
-
 pub fn add(rows: &mut Rows) {
     // Which page goes where, by its place among the stored ones and their number.
     rows.closing("closes-in-reverse").moves(|old| paired(old, |place, _, count| count - 1 - place));
@@ -32,7 +22,7 @@ pub fn add(rows: &mut Rows) {
     rows.closing("loses-page-0").moves(|old| packed(old, |old, page| old.stored(page) && page > 0));
     rows.closing("loses-last-page").moves(|old| packed(old, |old, page| old.stored(page) && page + 1 < old.capacity()));
     rows.closing("takes-bytes-for-stored")
-        .moves(|old| packed(old, |old, page| old.stored(page) || has_bytes(old, page)));
+        .moves(|old| packed(old, |old, page| old.stored(page) || old.has_bytes(page)));
     // Template bytes.
     rows.closing("moves-no-bytes").leaves(DONE, |now, old| now.templates = old.templates.clone());
     rows.closing("leaves-rest").rest(|_, _, _| true);
@@ -92,36 +82,25 @@ pub fn add(rows: &mut Rows) {
     rows.closing("closing-clears-verified").sets(DONE, |now, _| now.verified = CLEAR);
     rows.closing("closing-ends-transfer").sets(DONE, |now, _| (now.transfer, now.got) = (0, 0));
     // Lengths that are taken.
-    rows.closing("takes-table-of-one-more").takes_table(|pages, table| table == pages + 1);
-    rows.closing("takes-table-of-one-less").takes_table(|pages, table| table + 1 == pages);
+    rows.closing("takes-table-of-one-more")
+        .takes_for(|case| case.request.room.len() / 2 == case.old.capacity() + 1, FIT_ROOM);
+    rows.closing("takes-table-of-one-less")
+        .takes_for(|case| case.request.room.len() / 2 + 1 == case.old.capacity(), FIT_ROOM);
     for length in [127, 129] {
-        rows.closing(format!("closing-takes-index-of-{length}")).as_if(
-            move |case| case.old.index.len() == length,
-            FIT_INDEX,
-            |now, old| now.index.resize(old.index.len(), 0),
-        );
+        rows.closing(format!("closing-takes-index-of-{length}"))
+            .takes_for(move |case| case.old.index.len() == length, FIT_INDEX);
     }
-    rows.closing("takes-1001-pages").also(
-        |case| case.old.templates.len() == PAGE * (MOST_PAGES + 1),
-        |case| {
-            case.ask(|asked| {
-                asked.reader.templates.truncate(PAGE * MOST_PAGES);
-                asked.reader.index[MOST_PAGES / 8] = 0;
-                asked.room.truncate(2 * MOST_PAGES);
-            });
-            case.outcome.reader.templates.extend(&case.old.templates[PAGE * MOST_PAGES..]);
-            case.outcome.room.extend(&case.request.room[2 * MOST_PAGES..]);
-        },
-    );
-    rows.closing("takes-uneven-templates").as_if(
-        |case| case.old.capacity() > 0,
-        |asked| asked.reader.templates.truncate(PAGE * asked.reader.capacity()),
-        |now, old| now.templates.extend(&old.templates[PAGE * old.capacity()..]),
-    );
+    rows.closing("takes-1001-pages").takes_for(|case| case.old.capacity() > MOST_PAGES, FIT_TEMPLATES);
+    rows.closing("takes-uneven-templates")
+        .takes_for(|case| (1..=MOST_PAGES).contains(&case.old.capacity()), FIT_TEMPLATES);
     rows.closing("takes-no-pages").refuses(0, |case| case.refusal == 1 && case.old.templates.is_empty());
     // What refusal 3 is for, and is taken.
-    rows.closing("clears-bits-beyond-C").takes(ANY, |asked| drop(take_bits_beyond(&mut asked.reader)));
-    rows.closing("leaves-bits-beyond-C").ignores_bits_beyond();
+    rows.closing("clears-bits-beyond-C").takes(ANY, FIT_BITS);
+    rows.closing("leaves-bits-beyond-C").as_if(
+        |case| case.old.index.len() == INDEX,
+        FIT_BITS,
+        |now, old| old.bits_beyond().for_each(|page| now.index[page / 8] |= bit(page)),
+    );
     rows.closing("takes-unfit-settings").overlooks(|now| {
         (now.level, now.size_code, now.baud_factor) = (3, now.size_code % 4, 6);
     });
@@ -138,7 +117,7 @@ pub fn add(rows: &mut Rows) {
     }
     rows.closing("refuses-table-with-3")
         .refuses(3, |case| case.refusal == 1 && numbers(&case.request.room).len() != case.old.capacity());
-    for (length, fit) in [("templates", FIT_TEMPLATES), ("index", FIT_INDEX), ("table", FIT_TABLE)] {
+    for (length, fit) in [("templates", FIT_TEMPLATES), ("index", FIT_INDEX), ("table", FIT_ROOM)] {
         rows.closing(format!("{length}-after-settings")).refuses(3, move |case| {
             let mut fitting = Case::of(case.request);
             fitting.ask(fit);
@@ -235,31 +214,6 @@ impl Row<'_> {
         });
     }
 
-    /// A table of so many numbers is taken, by C: it is filled as far as it goes.
-    fn takes_table(self, such: fn(usize, usize) -> bool) {
-        self.also(
-            move |case| such(case.old.capacity(), case.request.room.len() / 2),
-            |case| {
-                case.ask(FIT_TABLE);
-                let room = &mut case.outcome.room;
-                room.truncate(case.request.room.len());
-                room.extend(&case.request.room[room.len()..]);
-            },
-        );
-    }
-
-    /// Bits at or above C are no reason for refusal 3, and stay.
-    fn ignores_bits_beyond(self) {
-        self.also(
-            |case| case.old.index.len() == INDEX,
-            |case| {
-                let ignored = take_bits_beyond(&mut case.old.clone());
-                case.ask(|asked| drop(take_bits_beyond(&mut asked.reader)));
-                ignored.iter().for_each(|page| case.outcome.reader.index[page / 8] |= bit(*page));
-            },
-        );
-    }
-
     /// Settings are taken for what this makes of them, and stay but for the origins.
     fn overlooks(self, change: fn(&mut Settings)) {
         self.as_if(
@@ -295,15 +249,4 @@ fn in_bytes(old: &Reader) -> Vec<(usize, usize)> {
 /// Such pages moved to pages 0, 1, 2 and up.
 fn packed(old: &Reader, such: fn(&Reader, usize) -> bool) -> Vec<(usize, usize)> {
     (0..old.capacity()).filter(|&page| such(old, page)).enumerate().map(|(new, page)| (page, new)).collect()
-}
-
-fn has_bytes(old: &Reader, page: usize) -> bool {
-    old.template(page).iter().any(|&byte| byte != 0)
-}
-
-/// Clears the bits at or above C; the pages of those that were set.
-fn take_bits_beyond(reader: &mut Reader) -> Vec<usize> {
-    let beyond: Vec<usize> = (reader.capacity()..8 * reader.index.len()).filter(|&page| reader.stored(page)).collect();
-    beyond.iter().for_each(|page| reader.index[page / 8] &= !bit(*page));
-    beyond
 }

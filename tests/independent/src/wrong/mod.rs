@@ -11,6 +11,8 @@ mod limits;
 mod origins;
 mod parameters;
 mod receivers;
+mod salvage;
+mod salvage_refusals;
 mod search;
 mod thousand;
 mod wipes;
@@ -34,6 +36,7 @@ const WITH_RECEIVER: Shows = |kind| matches!(kind, Kind::ReceiverCall(_) | Kind:
 const FRESH: Shows = |kind| *kind == Kind::FreshSettings;
 const BRINGING_OVER: Shows = |kind| *kind == Kind::BringOver;
 const CLOSING: Shows = |kind| *kind == Kind::CloseGaps;
+const SALVAGING: Shows = |kind| *kind == Kind::Salvage;
 
 /// All wrong ones.
 pub fn all() -> Vec<Wrong> {
@@ -50,6 +53,8 @@ pub fn all() -> Vec<Wrong> {
     chips::add(&mut rows);
     parameters::add(&mut rows);
     gaps::add(&mut rows);
+    salvage::add(&mut rows);
+    salvage_refusals::add(&mut rows);
     rows.0
 }
 
@@ -111,6 +116,11 @@ impl Rows {
     /// What closes the gaps.
     fn closing(&mut self, name: impl Into<String>) -> Row<'_> {
         self.begin(vec![(name.into(), CLOSING, false)])
+    }
+
+    /// What salvages a library.
+    fn salvaging(&mut self, name: impl Into<String>) -> Row<'_> {
+        self.begin(vec![(name.into(), SALVAGING, false)])
     }
 
     fn begin(&mut self, names: Vec<Name>) -> Row<'_> {

@@ -52,7 +52,7 @@ pub fn add(rows: &mut Rows) {
     rows.reader("search-stored-beside").stored(|old, page| old.stored(page ^ 1));
     rows.reader("search-stored-by-turned-byte").stored(|old, page| old.stored(page ^ 7));
     rows.reader("search-stored-in-8-bits").stored(|old, page| old.stored(page % 256));
-    rows.reader("search-stored-by-bytes").stored(|old, page| old.template(page).iter().any(|&byte| byte != 0));
+    rows.reader("search-stored-by-bytes").stored(|old, page| old.has_bytes(page));
     rows.reader("search-leaves-out-page-0").stored(|old, page| old.stored(page) && page != 0);
     rows.reader("search-leaves-out-last-page").stored(|old, page| old.stored(page) && page + 1 != old.capacity());
     rows.reader("search-leaves-out-origins")

@@ -1,6 +1,7 @@
 //! The words that rows are made of: how a case is picked, and what becomes of it.
 
 pub use super::{Row, Rows};
+pub use crate::compare::fit::*;
 pub use crate::compare::frame::{Kind, Outcome, Request};
 pub use crate::reader::receiver::{Receiver, HOLDS};
 pub use crate::reader::*;
@@ -226,6 +227,19 @@ impl Row<'_> {
         });
     }
 
+    /// Such a case is taken for what this makes of it, as far as the lent lengths go; what lies past that stays.
+    pub fn takes_for(self, such: impl Such, fit: impl Fn(&mut Request) + 'static) {
+        self.also(such, move |case| {
+            case.ask(&fit);
+            let Outcome { reader: Reader { templates, index, .. }, room, .. } = &mut case.outcome;
+            let old = [&case.old.templates, &case.old.index, &case.request.room];
+            for (now, old) in [templates, index, room].into_iter().zip(old) {
+                now.truncate(old.len());
+                now.extend(&old[now.len()..]);
+            }
+        });
+    }
+
     /// The packet of such a case is taken for another, made of the reader of old and of it.
     pub fn takes_packet(self, such: impl Such, other: impl Fn(&Reader, &Packet) -> Vec<u8> + 'static) {
         self.also(such, move |case| {
@@ -296,6 +310,15 @@ pub fn refused_with(refusal: u8, request: &Request) -> Outcome {
 pub fn pages(content: &[u8]) -> Range<usize> {
     let (page, count) = (number(&content[1..3]), number(&content[3..]));
     page..page + count
+}
+
+/// Zeroes the vacant pages, as far as the index tells of them.
+pub fn zero_vacant(reader: &mut Reader) {
+    for page in 0..reader.capacity().min(8 * reader.index.len()) {
+        if !reader.stored(page) {
+            reader.template_mut(page).fill(0);
+        }
+    }
 }
 
 /// How many bits are set.
