@@ -10,7 +10,7 @@ use lib.Dec.{T, ltb}
 use borrow.Author.Tests.{lt-ltb, le-ltb}
 use lib.ListN.{length}
 use Rattle.protocol.specs.Bytes.{Bytes}
-use Rattle.protocol.specs.Index.{stored, clearFrom}
+use Rattle.protocol.specs.Index.{bit, stored, clearFrom}
 use Rattle.protocol.specs.Reader.{Transfer, closed, opened, unfit, Buffer, Guarded, Reader, capacity, bufferOf, withLibrary, reader}
 use Rattle.protocol.specs.Call.{Shape, fitBuffers, fitTransfer, legal}
 use Rattle.protocol.proofs.Laws.Index.{Fine, clear-above}
@@ -21,7 +21,9 @@ use Rattle.dialogues.proofs.Library.Faithful.{Copy, Faithful}
 use Rattle.offline.specs.Salvage.{salvagedIndex, salvagedPages, Salvaged, salvageAs, salvageOf, salvagedIn}
 use Rattle.offline.proofs.Lengths.{Sized}
 use Rattle.offline.proofs.Laws.Salvage.{length-salvaged, page-stays, fine-salvaged, bits-salvaged, clear-salvaged, same-index}
+use Rattle.protocol.proofs.Promises.Words.Told.{pages}
 use Rattle.offline.proofs.Salvage.Refusals.{salvage-kinds}
+use Rattle.offline.proofs.Salvage.Salvages.{hasBit}
 
 -- where no bit from c on is set, none is cleared
 pub index-stays : {m : ℕ} (x : List ℕ) (c : ℕ) → Fine m x → c ≤ 8 * m → ((q : ℕ) → c ≤ q → stored x q ≡ false) → salvagedIndex c x ≡ x
@@ -80,10 +82,10 @@ module _ (σ : Shape) (ok : σ .most ≤ 8 * σ .indexed) where
         in
         record { typed = q .typed; legal = legal-of σ ok _ q }
 
-    -- settings that are legal with such an index are legal with what is left
-    pub otherwise-legal : Bytes (g .index) → (z : List ℕ) → ((q : ℕ) → q < capacity g → stored (g .index) q ≡ stored z q)
-        → Legal σ ok (reader (r .plain) (withLibrary (g .templates) z g)) → salvageOf σ (g .templates) (g .index) report .refusal ≡ 0 → Legal σ ok (salvagedIn σ r report)
-    unfolding salvagedIn
+    -- settings that are legal with another index, which has the same bits below C, are legal with the one that is left
+    pub otherwise-legal : Bytes (g .index) → (z : List ℕ) → ((q : ℕ) → q < pages r → hasBit (g .index) q ≡ hasBit z q) → Legal σ ok (reader (r .plain) (withLibrary (g .templates) z g))
+        → salvageOf σ (g .templates) (g .index) report .refusal ≡ 0 → Legal σ ok (salvagedIn σ r report)
+    unfolding salvagedIn capacity stored bit
     otherwise-legal y z s l =
         salvage-kinds σ (g .templates) (g .index) report
         (λ (e : Salvaged). e .refusal ≡ 0 → Legal σ ok (reader (r .plain) (withLibrary (e .templates) (e .index) g))) (λ n d. absurd (omega arith))
