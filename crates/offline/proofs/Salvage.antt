@@ -2,4 +2,4 @@ pub mod Refusals
 pub mod Salvages
 pub mod Again
 pub mod StaysLegal
-pub mod Unseen
+pub mod Unnoticed

@@ -1,6 +1,6 @@
 -- Document 02, request [10]: "clear bits at or above C, zero the bytes of vacant pages, and touch nothing else. A report of 1024 bytes, one per index bit, says 0 for
 -- unchanged, 1 for bit cleared, 2 for non-zero bytes zeroed. What it leaves passes refusal 3's index test."
-use mathlib.Core.Bool.{Bool, true, false, true≢false, _&&_, _||_, cond}
+use mathlib.Core.Bool.{Bool, true, false, true≢false, _&&_, cond}
 use mathlib.Core.Path.{_≡_, refl, sym, ap, _∙_}
 use mathlib.Core.Logic.{_↔_, _≢_}
 use mathlib.Core.List.{List}
@@ -8,7 +8,7 @@ use Prim.Native.Nat.{ℕ, zero, suc, _+_, _*_, _/_, _%_, _^_, _≤_, _<_}
 use native.Mathlib.Omega.{arith}
 use native.Mathlib.Decide.{decLt}
 use lib.Dec.{T, eqb, ltb}
-use borrow.Author.Tests.{lt-ltb, le-ltb}
+use borrow.Author.Tests.{lt-ltb, le-ltb, ne-eqb}
 use lib.ListN.{length, take, drop, getD, replicate}
 use Rattle.protocol.specs.Bytes.{Bytes, part, zeros, same}
 use Rattle.protocol.specs.Tests.{countBelow, listed}
@@ -111,12 +111,10 @@ module _ (t x report : List ℕ) (m : SalvageLengths t x report) (y : Bytes x) w
 
   entry-is : (q : ℕ) → Entry q (entryOf c t x q)
   unfolding entryOf pageEntry
-  entry-is q = go (decLt q c) (stored x q) refl
+  entry-is q = go (decLt q c) (stored x q) (same (part (512 * q) 512 t) (zeros 512)) refl refl
     where
-      page : q < c → (b d : Bool) → stored x q ≡ b → same (part (512 * q) 512 t) (zeros 512) ≡ d → Entry q (cond (b || d) 0 2)
-      page l true d s e = entry-0 q (λ k v. absurd (true≢false (sym s ∙ v))) (λ k. absurd (omega arith))
-      page l false true s e = entry-0 q (λ k v. same-eq (part (512 * q) 512 t) (zeros 512) e) (λ k. absurd (omega arith))
-      page l false false s e =
+      zeroed : q < c → stored x q ≡ false → same (part (512 * q) 512 t) (zeros 512) ≡ false → Entry q 2
+      zeroed l s e =
           record {
             most = omega arith;
             unchanged = (λ k. absurd (omega arith), λ k. absurd (not-blank q e (sym (k .1) ∙ page-zeroed t x c long q l s)));
@@ -133,25 +131,31 @@ module _ (t x report : List ℕ) (m : SalvageLengths t x report) (y : Bytes x) w
             page-zeroed = (λ k. absurd (omega arith), λ k. absurd (omega (arith, k .0)));
           }
 
-      go : Dec (q < c) → (b : Bool) → stored x q ≡ b → Entry q (cond (ltb q c) (cond (stored x q || same (part (512 * q) 512 t) (zeros 512)) 0 2) (cond (stored x q) 1 0))
-      go (yes l) b s = rw (lt-ltb q c l) (page l (stored x q) (same (part (512 * q) 512 t) (zeros 512)) refl refl)
-      go (no l) true s = let h : c ≤ q = omega arith in rw (le-ltb q c h, s) (cleared h s)
-      go (no l) false s = let h : c ≤ q = omega arith in rw (le-ltb q c h, s) (entry-0 q (λ k. absurd (omega arith)) (λ k. s))
+      go : Dec (q < c) → (b d : Bool) → stored x q ≡ b → same (part (512 * q) 512 t) (zeros 512) ≡ d → Entry q (entryOf c t x q)
+      go (yes l) true d s e = rw (lt-ltb q c l, s) (entry-0 q (λ k v. absurd (true≢false (sym s ∙ v))) (λ k. absurd (omega arith)))
+      go (yes l) false true s e = rw (lt-ltb q c l, s, e) (entry-0 q (λ k v. same-eq (part (512 * q) 512 t) (zeros 512) e) (λ k. absurd (omega arith)))
+      go (yes l) false false s e = rw (lt-ltb q c l, s, e) (zeroed l s e)
+      go (no l) true d s e = let h : c ≤ q = omega arith in rw (le-ltb q c h, s) (cleared h s)
+      go (no l) false d s e = let h : c ≤ q = omega arith in rw (le-ltb q c h, s) (entry-0 q (λ k. absurd (omega arith)) (λ k. s))
 
   fewer : setBits x ≡ setBits z + countBelow (λ q. eqb (getD (listed (entryOf c t x) (bits x)) q 0) 1) 1024
-  unfolding setBits entryOf pageEntry
+  unfolding setBits
   fewer =
       ap (countBelow (stored x)) (ap (λ (n : ℕ). 8 * n) (m .library .index))
       ∙ count-parted (stored x) (stored z) (λ q. eqb (getD (listed (entryOf c t x) (bits x)) q 0) 1) 1024
-      (λ q l. rw (bits-salvaged x c fine small q, entry q l) (one q (ltb q c) (stored x q) (same (part (512 * q) 512 t) (zeros 512))))
+      (λ q l. rw (bits-salvaged x c fine small q, entry q l) (one q (decLt q c) (stored x q) refl))
       ∙ ap (λ (n : ℕ). countBelow (stored z) (8 * n) + countBelow (λ q. eqb (getD (listed (entryOf c t x) (bits x)) q 0) 1) 1024) (sym (fine-salvaged x c fine small .long))
     where
-      one : (q : ℕ) (a b d : Bool) → cond b 1 0 ≡ cond (a && b) 1 0 + cond (eqb (cond a (cond (b || d) 0 2) (cond b 1 0)) 1) 1 0
-      one q true true d = refl
-      one q true false true = refl
-      one q true false false = refl
-      one q false true d = refl
-      one q false false d = refl
+      -- a bit is kept, or it is cleared and its entry is 1, or it was clear
+      one : (q : ℕ) → Dec (q < c) → (b : Bool) → stored x q ≡ b → cond (stored x q) 1 0 ≡ cond (ltb q c && stored x q) 1 0 + cond (eqb (entryOf c t x q) 1) 1 0
+      one q (yes l) b s =
+          let k : entryOf c t x q ≢ 1 = λ e. omega (arith, entry-is q .bit-cleared .0 e .0) in
+          rw (lt-ltb q c l, ne-eqb (entryOf c t x q) 1 k) (omega arith)
+      one q (no l) true s = let h : c ≤ q = omega arith in rw (le-ltb q c h, s, entry-is q .bit-cleared .1 (h, s)) refl
+      one q (no l) false s =
+          let h : c ≤ q = omega arith in
+          let k : entryOf c t x q ≢ 1 = λ e. true≢false (sym (entry-is q .bit-cleared .0 e .1) ∙ s) in
+          rw (le-ltb q c h, s, ne-eqb (entryOf c t x q) 1 k) refl
 
   salvages-as : Salvages t x c (salvageAs t x report 0)
   unfolding salvageAs stored bit Bytes

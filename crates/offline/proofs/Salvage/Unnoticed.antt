@@ -1,4 +1,4 @@
--- Of a legal reader no host sees that its library was salvaged: every call and line switch from then on is answered as it would have been, whatever runs come, whatever is lent with
+-- Of a legal reader no host notices that its library was salvaged: every call and line switch from then on is answered as it would have been, whatever runs come, whatever is lent with
 -- them, and whether a password is accepted or not. For salvage changes the bytes of vacant pages alone, and no command looks at those.
 use mathlib.Core.Bool.{true}
 use mathlib.Core.Path.{_≡_, refl}
@@ -66,10 +66,10 @@ module _ (σ : Shape) (ok : σ .most ≤ 8 * σ .indexed) where
         x = r .guarded .index
 
     -- what a host sees of any sequence of calls and line switches
-    pub unseen : (es : List Event) → exchanges σ (salvagedIn σ r report) es ≡ exchanges σ r es
-    unseen es = exchanges-alike es (salvagedIn σ r report) r l salvaged-alike
+    pub unnoticed : (es : List Event) → exchanges σ (salvagedIn σ r report) es ≡ exchanges σ r es
+    unnoticed es = exchanges-alike es (salvagedIn σ r report) r l salvaged-alike
 
     -- and all that its caller is told by any call or line switch behind such a sequence: the refusal, the bytes used, the reply's length and the whole reply room
-    pub told-unseen : (es : List Event) (e : Event) → on σ (finally σ (salvagedIn σ r report) es) e .told ≡ on σ (finally σ r es) e .told
-    told-unseen es e =
+    pub told-unnoticed : (es : List Event) (e : Event) → on σ (finally σ (salvagedIn σ r report) es) e .told ≡ on σ (finally σ r es) e .told
+    told-unnoticed es e =
         told-alike σ ok (finally σ (salvagedIn σ r report) es) (finally σ r es) (ever-legal σ ok r l es) (ever-alike es (salvagedIn σ r report) r l salvaged-alike) e .told
