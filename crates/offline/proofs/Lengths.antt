@@ -1,4 +1,4 @@
--- The lengths of templates and index that every call between two calls asks for, in document 01's numbers: "Templates: 512 × C bytes", by request [6] C from 1 to 1000 and
+-- The lengths of templates and index that all work between two calls asks for, in document 01's numbers: "Templates: 512 × C bytes", by request [6] C from 1 to 1000 and
 -- "the index becomes 128 bytes for every reader".
 use mathlib.Core.Path.{_≡_}
 use mathlib.Core.Logic.{_↔_}

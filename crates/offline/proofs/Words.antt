@@ -49,10 +49,10 @@ pub record SalvagedIs (refusal : ℕ) (t i report : List ℕ) : Type 0 where
   pub number : salvagedOf refusal t i report .refusal ≡ refusal
   pub templates : salvagedOf refusal t i report .templates ≡ t
   pub index : salvagedOf refusal t i report .index ≡ i
-  pub told : salvagedOf refusal t i report .report ≡ report
+  pub entries : salvagedOf refusal t i report .report ≡ report
 
 pub salvaged-is : (refusal : ℕ) (t i report : List ℕ) → SalvagedIs refusal t i report
-salvaged-is refusal t i report = record { number = refl; templates = refl; index = refl; told = refl }
+salvaged-is refusal t i report = record { number = refl; templates = refl; index = refl; entries = refl }
 
 pub one-salvaged : (k k′ : ℕ) (t i report t′ i′ report′ : List ℕ) → salvagedOf k t i report ≡ salvagedOf k′ t′ i′ report′ → ((k ≡ k′) × (report ≡ report′)) × ((t ≡ t′) × (i ≡ i′))
 one-salvaged k k′ t i report t′ i′ report′ e = (
@@ -264,30 +264,30 @@ salvaging-went s z m n report w k = (
   ),
 )
 
-pub work-saw : (table report w : List ℕ) (k : ℕ) (ss : List Sight) → (workSaw (closing table) k w ss ≡ told k w ∷ ss) × (workSaw (salvaging report) k w ss ≡ ss)
-work-saw table report w k ss = (refl, refl)
+pub saw-means : (table report w : List ℕ) (k : ℕ) (ss : List Sight) → (workSaw (closing table) k w ss ≡ told k w ∷ ss) × (workSaw (salvaging report) k w ss ≡ ss)
+saw-means table report w k ss = (refl, refl)
 
 -- each turn went as the contract of its door says, and what was seen of it
 pub record Went (v : Vault) (xs : List (Entry Vault)) (y : Worked Vault) (ts : List (Turn Vault)) : Type 0 where
   pub none : Turns v []
   pub calls-went : Turns v (callTurn xs ∷ ts) ↔ (Steps v xs × Turns (lastOf v xs) ts)
-  pub work-went : Turns v (workTurn y ∷ ts) ↔ (ByContract (v .settings) (v .memory) y (y .after .settings) (y .after .memory) × Turns (y .after) ts)
+  pub worked : Turns v (workTurn y ∷ ts) ↔ (ByContract (v .settings) (v .memory) y (y .after .settings) (y .after .memory) × Turns (y .after) ts)
   pub saw-none : sawTurns [] ≡ []
   pub saw-called : sawTurns (callTurn xs ∷ ts) ≡ exchanged (saw xs) ∷ sawTurns ts
   pub saw-worked : sawTurns (workTurn y ∷ ts) ≡ workSaw (y .work) (y .refusal) (y .written) (sawTurns ts)
 
 pub went : (v : Vault) (xs : List (Entry Vault)) (y : Worked Vault) (ts : List (Turn Vault)) → Went v xs y ts
-went v xs y ts = record { none = tt; calls-went = (λ h. h, λ h. h); work-went = (λ h. h, λ h. h); saw-none = refl; saw-called = refl; saw-worked = refl }
+went v xs y ts = record { none = tt; calls-went = (λ h. h, λ h. h); worked = (λ h. h, λ h. h); saw-none = refl; saw-called = refl; saw-worked = refl }
 
 -- the same with a receiver, which work leaves byte for byte
 pub record WentOn (v : LineVault) (xs : List (Entry LineVault)) (y : Worked LineVault) (ts : List (Turn LineVault)) : Type 0 where
   pub none : LineTurns v []
   pub calls-went : LineTurns v (callTurn xs ∷ ts) ↔ (Receives v xs × LineTurns (lastOf v xs) ts)
-  pub work-went : LineTurns v (workTurn y ∷ ts)
+  pub worked : LineTurns v (workTurn y ∷ ts)
       ↔ ((ByContract (v .line .settings) (v .memory) y (y .after .line .settings) (y .after .memory) × (y .after .line .receiver ≡ v .line .receiver)) × LineTurns (y .after) ts)
   pub saw-none : sawLineTurns v [] ≡ []
   pub saw-called : sawLineTurns v (callTurn xs ∷ ts) ≡ exchanged (sawOn v xs) ∷ sawLineTurns (lastOf v xs) ts
   pub saw-worked : sawLineTurns v (workTurn y ∷ ts) ≡ workSaw (y .work) (y .refusal) (y .written) (sawLineTurns (y .after) ts)
 
 pub went-on : (v : LineVault) (xs : List (Entry LineVault)) (y : Worked LineVault) (ts : List (Turn LineVault)) → WentOn v xs y ts
-went-on v xs y ts = record { none = tt; calls-went = (λ h. h, λ h. h); work-went = (λ h. h, λ h. h); saw-none = refl; saw-called = refl; saw-worked = refl }
+went-on v xs y ts = record { none = tt; calls-went = (λ h. h, λ h. h); worked = (λ h. h, λ h. h); saw-none = refl; saw-called = refl; saw-worked = refl }

@@ -1,4 +1,4 @@
--- The lengths of the memory that every call between two calls is lent: refusal 1's tests of them.
+-- The lengths of the memory that all work between two calls is lent: refusal 1's tests of them.
 use mathlib.Core.Bool.{Bool, _&&_}
 use Prim.Native.Nat.{ℕ, _*_}
 use lib.Dec.{eqb}

@@ -1,5 +1,5 @@
 -- A reader's life: calls and line switches, and between them, offline, work on its library: its gaps closed (request [9]), and salvage (request [10]); and what was seen of it. Such
--- work is no event: its table or report tells the index, and demand 3 speaks of runs and line switches.
+-- work is no event: its table or report tells of the library, and demand 3 speaks of runs and line switches.
 use mathlib.Core.Bool.{false, cond}
 use mathlib.Core.Path.{_≡_}
 use mathlib.Core.List.{List, [], _∷_}

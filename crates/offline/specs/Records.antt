@@ -1,4 +1,4 @@
--- From what the calls between two calls return, and the lent memory, table and report after them, to the outcomes of the definitions.
+-- From what work between two calls returns, and the lent memory, table and report after it, to the outcomes of the definitions.
 use mathlib.Core.List.{List}
 use Prim.Native.Nat.{ℕ}
 use Rattle.protocol.specs.declared.Settings.{Settings}

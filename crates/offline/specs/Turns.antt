@@ -72,9 +72,6 @@ abbrev pub workSaw : Work → ℕ → List ℕ → List Sight → List Sight
 workSaw (closing table) k w ss = told k w ∷ ss
 workSaw (salvaging report) k w ss = ss
 
-abbrev pub sawWork : {S : Type 0} → Worked S → List Sight → List Sight
-sawWork y ss = workSaw (y .work) (y .refusal) (y .written) ss
-
 -- ---- without a receiver
 
 abbrev pub Turns : Vault → List (Turn Vault) → Type 0
@@ -85,7 +82,7 @@ Turns v (workTurn y ∷ ts) = ByContract (v .settings) (v .memory) y (y .after .
 abbrev pub sawTurns : List (Turn Vault) → List Sight
 sawTurns [] = []
 sawTurns (callTurn xs ∷ ts) = exchanged (saw xs) ∷ sawTurns ts
-sawTurns (workTurn y ∷ ts) = sawWork y (sawTurns ts)
+sawTurns (workTurn y ∷ ts) = workSaw (y .work) (y .refusal) (y .written) (sawTurns ts)
 
 -- ---- with a receiver, which is lent to no such work
 
@@ -98,4 +95,4 @@ LineTurns v (workTurn y ∷ ts) =
 abbrev pub sawLineTurns : LineVault → List (Turn LineVault) → List Sight
 sawLineTurns v [] = []
 sawLineTurns v (callTurn xs ∷ ts) = exchanged (sawOn v xs) ∷ sawLineTurns (lastOf v xs) ts
-sawLineTurns v (workTurn y ∷ ts) = sawWork y (sawLineTurns (y .after) ts)
+sawLineTurns v (workTurn y ∷ ts) = workSaw (y .work) (y .refusal) (y .written) (sawLineTurns (y .after) ts)

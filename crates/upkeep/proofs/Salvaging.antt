@@ -27,7 +27,7 @@ use Rattle.offline.specs.Salvage.{isBlank, salvagedIndex, salvagedPages, pageEn
 use Rattle.offline.specs.Records.{salvagedOf}
 use Rattle.offline.proofs.Laws.Salvage.{page-stays}
 use Rattle.offline.proofs.Salvage.StaysLegal.{index-stays}
-use Rattle.upkeep.specs.Salvage.{Reporting, Reached, Passed, PagesSalvaged, BitsReported, fitsReport}
+use Rattle.upkeep.specs.Salvage.{Reporting, Reached, PageSalvaged, PagesSalvaged, BitsReported, fitsReport}
 
 -- ---- a run of bytes that are zero
 
@@ -106,29 +106,29 @@ byte-stored x q e = rw e (one (q % 8) (omega arith))
 
 module _ (t x v : List ℕ) (p : ℕ) (h : Reached t x v p) where
   -- nothing is done to it
-  left : (r : ℕ) → p < r → ((q : ℕ) → p < q → q < r → stored x q ≡ true) → t ≡ cond (stored x p) t (lay (512 * p) (zeros 512) t) → 0 ≡ pageEntry t x p → Passed t x v p r t v
+  left : (r : ℕ) → p < r → ((q : ℕ) → p < q → q < r → stored x q ≡ true) → t ≡ cond (stored x p) t (lay (512 * p) (zeros 512) t) → 0 ≡ pageEntry t x p → PageSalvaged t x v p r t v
   left r l s e f = record { more = l; rest = s; pages = e; same = refl; entries = refl; entry = h .none ∙ f; others = λ j n. refl }
 
-  pub byte-passed : getD x (p / 8) 0 ≡ 255 → Passed t x v p (8 * (p / 8) + 8) t v
+  pub byte-passed : getD x (p / 8) 0 ≡ 255 → PageSalvaged t x v p (8 * (p / 8) + 8) t v
   unfolding pageEntry
   byte-passed e =
       let here = byte-stored x p e in
       left (8 * (p / 8) + 8) (omega arith) (λ q a b. let d : q / 8 ≡ p / 8 = omega arith in byte-stored x q (rw d e)) (rw here refl) (rw here refl)
 
   module _ (b : Bool) (e : b ≡ stored x p) where
-    pub there-passed : b ≡ true → Passed t x v p (p + 1) t v
+    pub there-passed : b ≡ true → PageSalvaged t x v p (p + 1) t v
     unfolding pageEntry
     there-passed f = let here = sym e ∙ f in left (p + 1) (omega arith) (λ q a d. absurd (omega arith)) (rw here refl) (rw here refl)
 
     module _ (f : b ≡ false) (k : Bool) (g : k ≡ isBlank t p) where
-      pub blank-passed : k ≡ true → Passed t x v p (p + 1) t v
+      pub blank-passed : k ≡ true → PageSalvaged t x v p (p + 1) t v
       unfolding pageEntry
       blank-passed i =
           let here = sym e ∙ f in
           let none : part (512 * p) 512 t ≡ zeros 512 = same-eq (part (512 * p) 512 t) (zeros 512) (sym g ∙ i) in
           left (p + 1) (omega arith) (λ q a d. absurd (omega arith)) (rw here (sym (lay-own (512 * p) 512 t none))) (rw (here, sym g ∙ i) refl)
 
-      pub zeroed-passed : k ≡ false → (u w : List ℕ) → u ≡ zeroPage p t → w ≡ set v p 2 → Passed t x v p (p + 1) u w
+      pub zeroed-passed : k ≡ false → (u w : List ℕ) → u ≡ zeroPage p t → w ≡ set v p 2 → PageSalvaged t x v p (p + 1) u w
       unfolding pageEntry zeroPage
       zeroed-passed i u w c d =
           let here = sym e ∙ f in
@@ -147,7 +147,7 @@ module _ (t x v : List ℕ) (p : ℕ) (h : Reached t x v p) where
 
 -- ---- all pages: those below p are salvaged, in u and in the report w
 
-pub record Passing (t x : List ℕ) (end : ℕ) (u w : List ℕ) (p : ℕ) : Type 0 where
+pub record PagesSoFar (t x : List ℕ) (end : ℕ) (u w : List ℕ) (p : ℕ) : Type 0 where
   pub library : Reporting t x w
   pub end-is : end ≡ length t / 512
   pub pages : u ≡ salvagedPages t x p
@@ -158,7 +158,7 @@ pub record Passing (t x : List ℕ) (end : ℕ) (u w : List ℕ) (p : ℕ) : Typ
   pub ahead : (j : ℕ) → p ≤ j → getD w j 0 ≡ 0
   pub none : (j : ℕ) → end ≤ j → getD w j 0 ≡ 0
 
-pub none-passed : (t x v w : List ℕ) → Reporting t x v → w ≡ zeros (length v) → Passing t x (length t / 512) t w 0
+pub none-passed : (t x v w : List ℕ) → Reporting t x v → w ≡ zeros (length v) → PagesSoFar t x (length t / 512) t w 0
 unfolding salvagedPages
 none-passed t x v w h e =
     let zero-at : (j : ℕ) → getD w j 0 ≡ 0 = λ j. ap (λ (z : List ℕ). getD z j 0) e ∙ byte-zeros (length v) j in
@@ -181,7 +181,7 @@ pages-stored t x n (suc k) h =
     let e : n + suc k ≡ suc (n + k) = omega arith in
     ap (salvagedPages t x) e ∙ rw (h (n + k) (omega arith) (omega arith)) (pages-stored t x n k (λ q a b. h q a (omega arith)))
 
-module _ (t x : List ℕ) (end : ℕ) (u w : List ℕ) (p : ℕ) (c : Passing t x end u w p) where
+module _ (t x : List ℕ) (end : ℕ) (u w : List ℕ) (p : ℕ) (c : PagesSoFar t x end u w p) where
   -- page p has the bytes that it had
   own : p < end → part (512 * p) 512 u ≡ part (512 * p) 512 t
   own l =
@@ -200,7 +200,7 @@ module _ (t x : List ℕ) (end : ℕ) (u w : List ℕ) (p : ℕ) (c : Passing t 
         none = c .ahead p (omega arith);
       }
 
-  pub passed-on : p < end → (r : ℕ) (u′ w′ : List ℕ) → Passed u x w p r u′ w′ → Passing t x end u′ w′ r
+  pub passed-on : p < end → (r : ℕ) (u′ w′ : List ℕ) → PageSalvaged u x w p r u′ w′ → PagesSoFar t x end u′ w′ r
   unfolding salvagedPages pageEntry
   passed-on l r u′ w′ h =
       let e = c .end-is in
@@ -240,18 +240,18 @@ module _ (t x : List ℕ) (end : ℕ) (u w : List ℕ) (p : ℕ) (c : Passing t 
 
 -- ---- all bits from c on: those below q are reported in w
 
-pub record Telling (c : ℕ) (x v w : List ℕ) (q : ℕ) : Type 0 where
+pub record BitsSoFar (c : ℕ) (x v w : List ℕ) (q : ℕ) : Type 0 where
   pub low : c ≤ q
   pub entries : length w ≡ length v
   pub bits : length v ≡ 8 * length x
   pub before : (j : ℕ) → j < c → getD w j 0 ≡ getD v j 0
   pub reported : (j : ℕ) → c ≤ j → j < q → getD w j 0 ≡ cond (stored x j) 1 0
 
-pub none-told : (c : ℕ) (x v : List ℕ) → length v ≡ 8 * length x → Telling c x v v c
+pub none-told : (c : ℕ) (x v : List ℕ) → length v ≡ 8 * length x → BitsSoFar c x v v c
 none-told c x v e = record { low = omega arith; entries = refl; bits = e; before = λ j a. refl; reported = λ j a b. absurd (omega arith) }
 
-module _ (c : ℕ) (x v w : List ℕ) (q : ℕ) (h : Telling c x v w q) where
-  pub one-told : q < length w → (b : Bool) → b ≡ stored x q → (k : ℕ) → k ≡ cond b 1 0 → (w′ : List ℕ) → w′ ≡ set w q k → Telling c x v w′ (q + 1)
+module _ (c : ℕ) (x v w : List ℕ) (q : ℕ) (h : BitsSoFar c x v w q) where
+  pub one-told : q < length w → (b : Bool) → b ≡ stored x q → (k : ℕ) → k ≡ cond b 1 0 → (w′ : List ℕ) → w′ ≡ set w q k → BitsSoFar c x v w′ (q + 1)
   one-told l b e k f w′ g =
       let low = h .low in
       record {

@@ -7,7 +7,7 @@ use Prim.Native.Nat.{ℕ, _*_, _/_, _≤_, _<_}
 use lib.ListN.{length, getD}
 use Rattle.protocol.specs.Numbers.{pageBytes}
 use Rattle.protocol.specs.Bytes.{zeros, lay}
-use Rattle.protocol.specs.Index.{stored, bits}
+use Rattle.protocol.specs.Index.{stored}
 use Rattle.protocol.specs.Call.{core}
 use Rattle.offline.specs.Salvage.{salvagedPages, pageEntry, bitCleared, unchanged, salvageFits}
 
@@ -24,7 +24,7 @@ pub record Reached (t x v : List ℕ) (p : ℕ) : Type 0 where
   pub none : getD v p 0 ≡ unchanged
 
 -- page p salvaged, and those behind it before page r, which are stored: the templates u and the report w
-pub record Passed (t x v : List ℕ) (p r : ℕ) (u w : List ℕ) : Type 0 where
+pub record PageSalvaged (t x v : List ℕ) (p r : ℕ) (u w : List ℕ) : Type 0 where
   pub more : p < r
   pub rest : (q : ℕ) → p < q → q < r → stored x q ≡ true
   pub pages : u ≡ cond (stored x p) t (lay (pageBytes * p) (zeros pageBytes) t)

@@ -7,7 +7,7 @@ ghost use Rattle.protocol.specs.Bytes.{zeros, same};
 ghost use Rattle.protocol.specs.Call.{core};
 ghost use Rattle.offline.specs.Salvage.{isBlank, salvageOf};
 ghost use Rattle.offline.specs.Records.{salvagedOf};
-ghost use Rattle.upkeep.specs.Salvage.{Reporting, Reached, Passed, PagesSalvaged, BitsReported, fitsReport};
+ghost use Rattle.upkeep.specs.Salvage.{Reporting, Reached, PageSalvaged, PagesSalvaged, BitsReported, fitsReport};
 use crate::lent;
 use library::index;
 use library::pages;
@@ -35,7 +35,7 @@ fn is_zero(s: &[u8]) -> bool
     found == 0
 }
 
-// Whether a page has no byte but zeros. Most that has another shows it in the first byte.
+// Whether a page has no byte but zeros. Most pages that have another show it in their first byte.
 fn is_blank(templates: &[u8], p: usize) -> bool
     requires { ⌜ p < length (now templates) / pageBytes ⌝ }
     ensures { λ r. ⌜ r ≡ isBlank (now (templates .entry)) p ⌝ }
@@ -48,10 +48,10 @@ fn is_blank(templates: &[u8], p: usize) -> bool
     is_zero(&templates[a..e])
 }
 
-// A page salvaged. It returns the page to go on with: behind an index byte of stored pages that is the next byte's first.
-fn pass_page(templates: &mut [u8], index: &[u8], report: &mut [u8], p: usize) -> usize
+// Salvages a page, and returns the one to go on with: behind an index byte of stored pages that is the next byte's first.
+fn salvage_page(templates: &mut [u8], index: &[u8], report: &mut [u8], p: usize) -> usize
     requires { ⌜ Reached (now templates) (now index) (now report) p ⌝ }
-    ensures { λ r. ⌜ Passed (now (templates .entry)) (now (index .entry)) (now (report .entry)) p r
+    ensures { λ r. ⌜ PageSalvaged (now (templates .entry)) (now (index .entry)) (now (report .entry)) p r
         (now (templates .exit)) (now (report .exit)) ⌝ }
 {
     if index[p / 8] == ALL_STORED {
@@ -70,7 +70,7 @@ fn pass_page(templates: &mut [u8], index: &[u8], report: &mut [u8], p: usize) ->
     p + 1
 }
 
-// All pages, with a report of zeros.
+// Zeroes the report, and salvages all pages.
 fn salvage_pages(templates: &mut [u8], index: &[u8], report: &mut [u8])
     requires { ⌜ Reporting (now templates) (now index) (now report) ⌝ }
     ensures { λ _. ⌜ PagesSalvaged (now (templates .entry)) (now (index .entry))
@@ -80,7 +80,7 @@ fn salvage_pages(templates: &mut [u8], index: &[u8], report: &mut [u8])
     let end = templates.len() / numbers::PAGE;
     let mut p = 0;
     while p < end {
-        p = pass_page(templates, index, report, p);
+        p = salvage_page(templates, index, report, p);
     }
 }
 

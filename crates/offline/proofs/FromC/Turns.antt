@@ -25,7 +25,7 @@ use Rattle.dialogues.proofs.FromC.Lines.{receives-end, receives-saw, LegalLine}
 use Rattle.offline.specs.CloseGaps.{Closed}
 use Rattle.offline.specs.Salvage.{salvagedIn}
 use Rattle.offline.specs.Life.{Work, closing, salvaging, afterWork, deed, lastly, deedOn, lastlyOn, Sight, exchanged, told, workSeen, sights, sightsOn, lifeOf}
-use Rattle.offline.specs.Turns.{Turn, callTurn, workTurn, lastTurn, deedsOf, WentBy, workSaw, sawWork, Turns, sawTurns, LineTurns, sawLineTurns}
+use Rattle.offline.specs.Turns.{Turn, callTurn, workTurn, lastTurn, deedsOf, WentBy, workSaw, Turns, sawTurns, LineTurns, sawLineTurns}
 use Rattle.offline.proofs.Life.Library.{ever-legal, deeds-tell, none-below, life-faithful}
 use Rattle.offline.proofs.Life.Deleted.{StandsOrLost, lost-by-deletion}
 use Rattle.offline.proofs.Life.Lines.{runDeeds, life-few, as-deeds, sights-is, line-legal, line-lost-by-deletion, line-faithful}
@@ -57,7 +57,7 @@ turns-saw (callTurn xs ∷ ts) v (p, q) =
     ap (λ (ss : List Sight). exchanged (saw xs) ∷ ss) (turns-saw ts (lastOf v xs) q)
     ∙ (λ j. exchanged (steps-saw xs v p j) ∷ sights core (steps-end xs v p j) (deedsOf ts))
 turns-saw (workTurn y ∷ ts) v (p, q) =
-    ap (sawWork y) (turns-saw ts (y .after) q ∙ ap (λ (r : Reader). sights core r (deedsOf ts)) (work-went (y .work) _ _ _ _ _ _ p)) ∙ work-saw (y .work) _ _ _ _ _ _ p _
+    ap (workSaw (y .work) (y .refusal) (y .written)) (turns-saw ts (y .after) q ∙ ap (λ (r : Reader). sights core r (deedsOf ts)) (work-went (y .work) _ _ _ _ _ _ p)) ∙ work-saw (y .work) _ _ _ _ _ _ p _
 
 line-turns-end : (ts : List (Turn LineVault)) (v : LineVault) → LineTurns v ts → lineIn (lastTurn v ts) ≡ lastlyOn core (lineIn v) (deedsOf ts)
 unfolding lastlyOn deedOn
@@ -73,7 +73,7 @@ line-turns-saw (callTurn xs ∷ ts) v (p, q) =
     ap (λ (ss : List Sight). exchanged (sawOn v xs) ∷ ss) (line-turns-saw ts (lastOf v xs) q)
     ∙ (λ j. exchanged (receives-saw xs v p j) ∷ sightsOn core (receives-end xs v p j) (deedsOf ts))
 line-turns-saw (workTurn y ∷ ts) v ((p, h), q) =
-    ap (sawWork y) (line-turns-saw ts (y .after) q ∙ (λ j. sightsOn core (receivers.line (work-went (y .work) _ _ _ _ _ _ p j) (h j)) (deedsOf ts))) ∙ work-saw (y .work) _ _ _ _ _ _ p _
+    ap (workSaw (y .work) (y .refusal) (y .written)) (line-turns-saw ts (y .after) q ∙ (λ j. sightsOn core (receivers.line (work-went (y .work) _ _ _ _ _ _ p j) (h j)) (deedsOf ts))) ∙ work-saw (y .work) _ _ _ _ _ _ p _
 
 -- ---- without a receiver
 

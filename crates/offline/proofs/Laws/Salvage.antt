@@ -136,7 +136,7 @@ same-pages t u x y n h l s e =
 
 module _ {m : ℕ} (x : List ℕ) (c : ℕ) (f : Fine m x) (small : c ≤ 8 * m) where
   pub fine-salvaged : Fine m (salvagedIndex c x)
-  fine-salvaged = fine-span x c (bits x - c) f
+  fine-salvaged = fine-span x _ _ f
 
   -- the bits below c are as they were, and no other is set
   pub bits-salvaged : (q : ℕ) → stored (salvagedIndex c x) q ≡ (ltb q c && stored x q)

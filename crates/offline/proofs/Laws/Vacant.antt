@@ -33,7 +33,7 @@ use Rattle.protocol.proofs.Promises.Words.Told.{page, has}
 use Rattle.protocol.proofs.Promises.Refusals.StaysLegal.{Legal, good, good-rested, rested-closed, row-proper}
 
 -- two readers alike but for the bytes of vacant pages
-pub record Alike (a b : Reader) : Type 0 where
+pub record AlikeStored (a b : Reader) : Type 0 where
   pub plain : a .plain ≡ b .plain
   pub index : a .guarded .index ≡ b .guarded .index
   pub notepad : a .guarded .notepad ≡ b .guarded .notepad
@@ -46,12 +46,12 @@ pub record Alike (a b : Reader) : Type 0 where
 -- two calls that tell the same and leave readers that are alike
 pub record ToldAlike (a b : Ended) : Type 0 where
   pub told : a .told ≡ b .told
-  pub after : Alike (a .after) (b .after)
+  pub after : AlikeStored (a .after) (b .after)
 
 -- two answers of which that holds
 record SaidAlike (a b : Said) : Type 0 where
   reply : a .reply ≡ b .reply
-  after : Alike (a .after) (b .after)
+  after : AlikeStored (a .after) (b .after)
 
 -- ---- a reader with other templates
 
@@ -66,12 +66,12 @@ SharedBy u r = Shared u (r .guarded .templates) (r .guarded .index)
 abbrev beside : List ℕ → Reader → Reader
 beside u r = reader (r .plain) (withLibrary u (r .guarded .index) (r .guarded))
 
-alike : (u : List ℕ) (r : Reader) → SharedBy u r → Alike (beside u r) r
+alike : (u : List ℕ) (r : Reader) → SharedBy u r → AlikeStored (beside u r) r
 unfolding withLibrary stored bit
 alike u r k = record { plain = refl; index = refl; notepad = refl; buffer1 = refl; buffer2 = refl; found = refl; long = k .long; pages = k .pages }
 
 -- every reader that is alike is such a one
-alike-beside : (a b : Reader) → Alike a b → a ≡ beside (a .guarded .templates) b
+alike-beside : (a b : Reader) → AlikeStored a b → a ≡ beside (a .guarded .templates) b
 unfolding withLibrary
 alike-beside a b k j = reader (k .plain j) (contents (a .guarded .templates) (k .index j) (k .notepad j) (k .buffer1 j) (k .buffer2 j) (k .found j))
 
@@ -135,7 +135,7 @@ module _ (σ : Shape) (ok : σ .most ≤ 8 * σ .indexed) where
     abbrev x : List ℕ
     x = r .guarded .index
 
-    effect-alike : (e : Effect) → Proper σ ok r e → Alike (apply e (beside u r)) (apply e r)
+    effect-alike : (e : Effect) → Proper σ ok r e → AlikeStored (apply e (beside u r)) (apply e r)
     unfolding apply withLibrary withNotepad withBuffer withoutPages withFound bufferOf capacity
     effect-alike keep m = alike u r k
     effect-alike (fillPage w p) m =
@@ -232,7 +232,7 @@ module _ (σ : Shape) (ok : σ .most ≤ 8 * σ .indexed) where
         go zero = record { told = refl; after = alike u (switched r) k }
         go (suc n) = record { told = refl; after = alike u r k }
 
-  pub told-alike : (a b : Reader) → Legal σ ok b → Alike a b → (e : Event) → ToldAlike (on σ a e) (on σ b e)
+  pub told-alike : (a b : Reader) → Legal σ ok b → AlikeStored a b → (e : Event) → ToldAlike (on σ a e) (on σ b e)
   unfolding stored bit
   told-alike a b l k e =
       subst (λ (c : Reader). ToldAlike (on σ c e) (on σ b e)) (sym (alike-beside a b k))

@@ -55,12 +55,12 @@ module _ (σ : Shape) (ok : σ .most ≤ 8 * σ .indexed) where
   closing-stays r table = close-kinds σ r table (λ (e : Closed). e .refusal ≢ 0 → e .after ≡ r) (λ n d. refl) (λ t u d. absurd (d refl))
 
   -- where it goes, and that it is stored there
-  pub record MovedTo (r : Reader) (q : ℕ) (e : Closed) : Type 0 where
-    pub bit-set : has (e .after) (getD (e .table) q 0) ≡ true
-    pub bytes : page (e .after) (getD (e .table) q 0) ≡ page r q
-    pub below : getD (e .table) q 0 < pages (e .after)
+  record MovedTo (r : Reader) (q : ℕ) (e : Closed) : Type 0 where
+    bit-set : has (e .after) (getD (e .table) q 0) ≡ true
+    bytes : page (e .after) (getD (e .table) q 0) ≡ page r q
+    below : getD (e .table) q 0 < pages (e .after)
 
-  pub closing-goes : (r : Reader) (table : List ℕ) (q : ℕ) → q < pages r → has r q ≡ true → closeOf σ r table .refusal ≡ 0 → MovedTo r q (closeOf σ r table)
+  closing-goes : (r : Reader) (table : List ℕ) (q : ℕ) → q < pages r → has r q ≡ true → closeOf σ r table .refusal ≡ 0 → MovedTo r q (closeOf σ r table)
   closing-goes r table q l h z =
       let c = closes σ ok r table z in
       let k = c .moved q l h in

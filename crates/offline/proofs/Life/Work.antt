@@ -1,4 +1,4 @@
--- What work between two calls keeps, whatever it is: a reader's legality, its settings and its capacity; that the index is one of bytes, and that no page from C on is stored.
+-- What work between two calls keeps, whatever it is: a reader's legality, its settings but for what is guarded, and its capacity; that the index is one of bytes, and that no page from C on is stored.
 use mathlib.Core.Bool.{Bool, true, false, true≢false, _||_, _&&_, not}
 use mathlib.Core.Path.{_≡_, refl, sym, ap, _∙_}
 use mathlib.Core.List.{List, []}

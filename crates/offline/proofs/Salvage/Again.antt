@@ -16,7 +16,8 @@ use Rattle.protocol.proofs.Laws.Index.{Fine}
 use Rattle.offline.specs.Salvage.{salvagedIndex, Salvaged, salvageAs, salvageOf}
 use Rattle.offline.proofs.Laws.Salvage.{part-blank, all-zero, same-pages, fine-salvaged, bits-salvaged, same-index}
 use Rattle.offline.proofs.Salvage.Refusals.{SalvageLengths, salvage-means, salvage-is}
-use Rattle.offline.proofs.Salvage.Salvages.{hasBit, pageOf, Salvages, salvages}
+use Rattle.protocol.proofs.Promises.Words.Told.{pageOf, hasBit}
+use Rattle.offline.proofs.Salvage.Salvages.{Salvages, salvages}
 
 -- templates u and an index z that have the stored pages of t and x, of c pages, whatever lies in vacant pages and at bits from c on
 pub record SameStored (c : ℕ) (t x u z : List ℕ) : Type 0 where
@@ -25,6 +26,12 @@ pub record SameStored (c : ℕ) (t x u z : List ℕ) : Type 0 where
   pub index-bytes : (i : ℕ) → getD z i 0 < 256
   pub bits : (q : ℕ) → q < c → hasBit z q ≡ hasBit x q
   pub bytes : (j : ℕ) → j < 512 * c → hasBit x (j / 512) ≡ true → getD u j 0 ≡ getD t j 0
+
+-- it is not refused, and leaves the same templates and the same index
+pub record SameLeft (e d : Salvaged) : Type 0 where
+  pub refusal : e .refusal ≡ 0
+  pub templates : e .templates ≡ d .templates
+  pub index : e .index ≡ d .index
 
 -- nothing changes, and the report is all zero
 pub record CleanAlready (t x : List ℕ) (e : Salvaged) : Type 0 where
@@ -54,7 +61,7 @@ module _ (t x report : List ℕ) (m : SalvageLengths t x report) (y : Bytes x) w
           entries = l;
         }
 
-    pub comes-to-the-same : (salvageOf core u z next .templates ≡ e .templates) × (salvageOf core u z next .index ≡ e .index)
+    pub comes-to-the-same : SameLeft (salvageOf core u z next) e
     unfolding salvageAs stored bit Bytes
     comes-to-the-same =
         let small : c ≤ 8 * 128 = omega (arith, m .library .most) in
@@ -62,11 +69,14 @@ module _ (t x report : List ℕ) (m : SalvageLengths t x report) (y : Bytes x) w
         let other : length u / 512 ≡ c = omega (arith, k .templates, m .library .templates) in
         let fx : Fine 128 x = record { long = m .library .index; bytes = y } in
         let fz : Fine 128 z = record { long = k .index ∙ m .library .index; bytes = k .index-bytes } in
-        rw (salvage-is core t x report (salvage-means t x report .1 m), salvage-is core u z next (salvage-means u z next .1 fits), one, other) (
-          same-pages t u x z c (sym (m .library .templates)) (k .templates) (k .bits) (λ j a s. k .bytes j (omega arith) s),
-          same-index (salvagedIndex c z) (salvagedIndex c x) (fine-salvaged z c fz small) (fine-salvaged x c fx small)
-              (λ q. bits-salvaged z c fz small q ∙ alike q (decLt q c) ∙ sym (bits-salvaged x c fx small q)),
-        )
+        rw (salvage-is core t x report (salvage-means t x report .1 m), salvage-is core u z next (salvage-means u z next .1 fits), one, other)
+        record {
+          refusal = refl;
+          templates = same-pages t u x z c (sym (m .library .templates)) (k .templates) (k .bits) (λ j a s. k .bytes j (omega arith) s);
+          index =
+              same-index (salvagedIndex c z) (salvagedIndex c x) (fine-salvaged z c fz small) (fine-salvaged x c fx small)
+              (λ q. bits-salvaged z c fz small q ∙ alike q (decLt q c) ∙ sym (bits-salvaged x c fx small q));
+        }
       where
         alike : (q : ℕ) → Dec (q < c) → (ltb q c && stored z q) ≡ (ltb q c && stored x q)
         alike q (yes a) = rw (lt-ltb q c a) (k .bits q a)
@@ -89,9 +99,9 @@ module _ (t x report : List ℕ) (m : SalvageLengths t x report) (y : Bytes x) w
   clean-already next l =
       let same = comes-to-the-same (e .templates) (e .index) next left-stored l in
       record {
-        refusal = again .refusal;
-        templates = same .0;
-        index = same .1;
+        refusal = same .refusal;
+        templates = same .templates;
+        index = same .index;
         report = all-zero 1024 (salvageOf core (e .templates) (e .index) next .report) (again .entries) (λ q a. none q a (getD (salvageOf core (e .templates) (e .index) next .report) q 0) refl);
       }
     where

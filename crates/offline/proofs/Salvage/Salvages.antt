@@ -4,12 +4,12 @@ use mathlib.Core.Bool.{Bool, true, false, true≢false, _&&_, cond}
 use mathlib.Core.Path.{_≡_, refl, sym, ap, _∙_}
 use mathlib.Core.Logic.{_↔_, _≢_}
 use mathlib.Core.List.{List}
-use Prim.Native.Nat.{ℕ, zero, suc, _+_, _*_, _/_, _%_, _^_, _≤_, _<_}
+use Prim.Native.Nat.{ℕ, zero, suc, _+_, _*_, _/_, _≤_, _<_}
 use native.Mathlib.Omega.{arith}
 use native.Mathlib.Decide.{decLt}
 use lib.Dec.{T, eqb, ltb}
 use borrow.Author.Tests.{lt-ltb, le-ltb, ne-eqb}
-use lib.ListN.{length, take, drop, getD, replicate}
+use lib.ListN.{length, getD, replicate}
 use Rattle.protocol.specs.Bytes.{Bytes, part, zeros, same}
 use Rattle.protocol.specs.Tests.{countBelow, listed}
 use Rattle.protocol.specs.Index.{bit, stored, bits, setBits, clearFrom}
@@ -17,16 +17,10 @@ use Rattle.protocol.specs.Call.{core}
 use Rattle.protocol.proofs.Laws.Lists.{same-refl, same-eq}
 use Rattle.protocol.proofs.Laws.Below.{length-listed, at-listed}
 use Rattle.protocol.proofs.Laws.Index.{Fine}
+use Rattle.protocol.proofs.Promises.Words.Told.{pageOf, hasBit}
 use Rattle.offline.specs.Salvage.{salvagedIndex, salvagedPages, pageEntry, entryOf, Salvaged, salvageAs, salvageOf}
 use Rattle.offline.proofs.Laws.Salvage.{length-salvaged, byte-zeroed, byte-stays, page-stays, page-zeroed, fine-salvaged, bits-salvaged, clear-salvaged}
 use Rattle.offline.proofs.Salvage.Refusals.{SalvageLengths, salvage-means, salvage-is}
-
--- page q's bit, that of weight 2^(q mod 8) in byte q / 8; and its 512 bytes, from 512 × q on
-abbrev pub hasBit : List ℕ → ℕ → Bool
-hasBit x q = eqb (getD x (q / 8) 0 / 2 ^ (q % 8) % 2) 1
-
-abbrev pub pageOf : List ℕ → ℕ → List ℕ
-pageOf t q = take 512 (drop (512 * q) t)
 
 -- of templates t of c pages and an index x, and a call that was not refused
 pub record Salvages (t x : List ℕ) (c : ℕ) (e : Salvaged) : Type 0 where
@@ -81,7 +75,7 @@ module _ (t x report : List ℕ) (m : SalvageLengths t x report) (y : Bytes x) w
   entry q l = at-listed (entryOf c t x) (bits x) q (omega (arith, m .library .index))
 
   -- what an entry n of bit q says
-  record Entry (q n : ℕ) : Type 0 where
+  record EntrySays (q n : ℕ) : Type 0 where
     most : n ≤ 2
     unchanged : (n ≡ 0) ↔ ((stored z q ≡ stored x q) × (part (512 * q) 512 u ≡ part (512 * q) 512 t))
     bit-cleared : (n ≡ 1) ↔ ((c ≤ q) × (stored x q ≡ true))
@@ -91,7 +85,7 @@ module _ (t x report : List ℕ) (m : SalvageLengths t x report) (y : Bytes x) w
   not-blank q e d = true≢false (sym (ap (λ (s : List ℕ). same s (zeros 512)) d ∙ same-refl (zeros 512)) ∙ e)
 
   -- nothing is done to a page that is stored or blank, or to a clear bit
-  entry-0 : (q : ℕ) → (q < c → stored x q ≡ false → part (512 * q) 512 t ≡ zeros 512) → (c ≤ q → stored x q ≡ false) → Entry q 0
+  entry-0 : (q : ℕ) → (q < c → stored x q ≡ false → part (512 * q) 512 t ≡ zeros 512) → (c ≤ q → stored x q ≡ false) → EntrySays q 0
   entry-0 q f g =
       record {
         most = omega arith;
@@ -109,11 +103,11 @@ module _ (t x report : List ℕ) (m : SalvageLengths t x report) (y : Bytes x) w
       page-same (yes l) true s = page-stays t x c long q (λ k. s)
       page-same (no l) b s = page-stays t x c long q (λ k. absurd (l k))
 
-  entry-is : (q : ℕ) → Entry q (entryOf c t x q)
+  entry-is : (q : ℕ) → EntrySays q (entryOf c t x q)
   unfolding entryOf pageEntry
   entry-is q = go (decLt q c) (stored x q) (same (part (512 * q) 512 t) (zeros 512)) refl refl
     where
-      zeroed : q < c → stored x q ≡ false → same (part (512 * q) 512 t) (zeros 512) ≡ false → Entry q 2
+      zeroed : q < c → stored x q ≡ false → same (part (512 * q) 512 t) (zeros 512) ≡ false → EntrySays q 2
       zeroed l s e =
           record {
             most = omega arith;
@@ -122,7 +116,7 @@ module _ (t x report : List ℕ) (m : SalvageLengths t x report) (y : Bytes x) w
             page-zeroed = (λ k. (l, (s, not-blank q e)), λ k. refl);
           }
 
-      cleared : c ≤ q → stored x q ≡ true → Entry q 1
+      cleared : c ≤ q → stored x q ≡ true → EntrySays q 1
       cleared l s =
           record {
             most = omega arith;
@@ -131,7 +125,7 @@ module _ (t x report : List ℕ) (m : SalvageLengths t x report) (y : Bytes x) w
             page-zeroed = (λ k. absurd (omega arith), λ k. absurd (omega (arith, k .0)));
           }
 
-      go : Dec (q < c) → (b d : Bool) → stored x q ≡ b → same (part (512 * q) 512 t) (zeros 512) ≡ d → Entry q (entryOf c t x q)
+      go : Dec (q < c) → (b d : Bool) → stored x q ≡ b → same (part (512 * q) 512 t) (zeros 512) ≡ d → EntrySays q (entryOf c t x q)
       go (yes l) true d s e = rw (lt-ltb q c l, s) (entry-0 q (λ k v. absurd (true≢false (sym s ∙ v))) (λ k. absurd (omega arith)))
       go (yes l) false true s e = rw (lt-ltb q c l, s, e) (entry-0 q (λ k v. same-eq (part (512 * q) 512 t) (zeros 512) e) (λ k. absurd (omega arith)))
       go (yes l) false false s e = rw (lt-ltb q c l, s, e) (zeroed l s e)

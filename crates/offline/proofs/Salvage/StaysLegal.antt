@@ -21,9 +21,8 @@ use Rattle.dialogues.proofs.Library.Faithful.{Copy, Faithful}
 use Rattle.offline.specs.Salvage.{salvagedIndex, salvagedPages, Salvaged, salvageAs, salvageOf, salvagedIn}
 use Rattle.offline.proofs.Lengths.{Sized}
 use Rattle.offline.proofs.Laws.Salvage.{length-salvaged, page-stays, fine-salvaged, bits-salvaged, clear-salvaged, same-index}
-use Rattle.protocol.proofs.Promises.Words.Told.{pages}
+use Rattle.protocol.proofs.Promises.Words.Told.{pages, hasBit}
 use Rattle.offline.proofs.Salvage.Refusals.{salvage-kinds}
-use Rattle.offline.proofs.Salvage.Salvages.{hasBit}
 
 -- where no bit from c on is set, none is cleared
 pub index-stays : {m : ℕ} (x : List ℕ) (c : ℕ) → Fine m x → c ≤ 8 * m → ((q : ℕ) → c ≤ q → stored x q ≡ false) → salvagedIndex c x ≡ x

@@ -18,19 +18,19 @@ use Rattle.offline.specs.Salvage.{Salvaged, salvageAs, salvagedIn}
 use Rattle.offline.proofs.Laws.Salvage.{length-salvaged, page-stays}
 use Rattle.offline.proofs.Salvage.Refusals.{salvage-kinds}
 use Rattle.offline.proofs.Salvage.StaysLegal.{legal-index}
-use Rattle.offline.proofs.Laws.Vacant.{Alike, told-alike}
+use Rattle.offline.proofs.Laws.Vacant.{AlikeStored, told-alike}
 
 module _ (σ : Shape) (ok : σ .most ≤ 8 * σ .indexed) where
   -- ---- two readers alike but for the bytes of vacant pages, over any sequence of calls and line switches
 
   -- they stay alike
-  pub ever-alike : (es : List Event) (a b : Reader) → Legal σ ok b → Alike a b → Alike (finally σ a es) (finally σ b es)
+  pub ever-alike : (es : List Event) (a b : Reader) → Legal σ ok b → AlikeStored a b → AlikeStored (finally σ a es) (finally σ b es)
   unfolding finally
   ever-alike [] a b l k = k
   ever-alike (e ∷ es) a b l k = ever-alike es (on σ a e .after) (on σ b e .after) (stays-legal σ ok b l e) (told-alike σ ok a b l k e .after)
 
   -- and their hosts see the same
-  pub exchanges-alike : (es : List Event) (a b : Reader) → Legal σ ok b → Alike a b → exchanges σ a es ≡ exchanges σ b es
+  pub exchanges-alike : (es : List Event) (a b : Reader) → Legal σ ok b → AlikeStored a b → exchanges σ a es ≡ exchanges σ b es
   unfolding exchanges on
   exchanges-alike [] a b l k = refl
   exchanges-alike (received s lent ∷ es) a b l k =
@@ -43,7 +43,7 @@ module _ (σ : Shape) (ok : σ .most ≤ 8 * σ .indexed) where
 
   module _ (r : Reader) (l : Legal σ ok r) (report : List ℕ) where
     -- it keeps its index, and the bytes of every stored page
-    pub salvaged-alike : Alike (salvagedIn σ r report) r
+    pub salvaged-alike : AlikeStored (salvagedIn σ r report) r
     unfolding salvagedIn salvageAs withLibrary stored bit
     salvaged-alike =
         record {

@@ -67,12 +67,19 @@ word n = (n / 256 % 256) ∷ (n % 256) ∷ []
 abbrev pub pages : Reader → ℕ
 pages r = length (r .guarded .templates) / 512
 
--- page q: the 512 bytes that start at 512 × q; and its bit, that of weight 2^(q mod 8) in byte q / 8
+-- page q of templates: the 512 bytes that start at 512 × q; and its bit in an index, that of weight 2^(q mod 8) in byte q / 8
+abbrev pub pageOf : List ℕ → ℕ → List ℕ
+pageOf templates q = take 512 (drop (512 * q) templates)
+
+abbrev pub hasBit : List ℕ → ℕ → Bool
+hasBit index q = eqb (getD index (q / 8) 0 / 2 ^ (q % 8) % 2) 1
+
+-- those of a reader
 abbrev pub page : Reader → ℕ → List ℕ
-page r q = take 512 (drop (512 * q) (r .guarded .templates))
+page r q = pageOf (r .guarded .templates) q
 
 abbrev pub has : Reader → ℕ → Bool
-has r q = eqb (getD (r .guarded .index) (q / 8) 0 / 2 ^ (q % 8) % 2) 1
+has r q = hasBit (r .guarded .index) q
 
 -- a buffer's number; the buffer, and the other one
 abbrev pub Numbered : ℕ → Type 0

@@ -2,12 +2,12 @@
 use Prim.Native.Nat.{_-_}
 use lib.ListN.{length}
 use borrow.Author.Needs.{needs}
-use Rattle.upkeep.proofs.Salvaging.{Telling, none-told, one-told, all-told}
+use Rattle.upkeep.proofs.Salvaging.{BitsSoFar, none-told, one-told, all-told}
 use Rattle.upkeep.proofs.salvage.report_bits.Statement.{statement}
 use Rattle.upkeep.proofs.salvage.report_bits.Tie as tie
 
 abbrev Inv-loop : tie.InvT-loop
-Inv-loop index report₀ c q₀ report q = Telling c index report₀ report q
+Inv-loop index report₀ c q₀ report q = BitsSoFar c index report₀ report q
 
 abbrev μ-loop : tie.MeasureT-loop
 μ-loop index report₀ c q₀ report q = length report₀ - q

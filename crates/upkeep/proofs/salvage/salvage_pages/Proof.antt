@@ -1,12 +1,12 @@
 -- The pages below p are salvaged, and the report has their entries and no other.
 use Prim.Native.Nat.{_-_}
 use borrow.Author.Needs.{needs}
-use Rattle.upkeep.proofs.Salvaging.{Passing, none-passed, reached, passed-on, all-passed}
+use Rattle.upkeep.proofs.Salvaging.{PagesSoFar, none-passed, reached, passed-on, all-passed}
 use Rattle.upkeep.proofs.salvage.salvage_pages.Statement.{statement}
 use Rattle.upkeep.proofs.salvage.salvage_pages.Tie as tie
 
 abbrev Inv-loop : tie.InvT-loop
-Inv-loop templates₀ index report₀ end p₀ templates report p = Passing templates₀ index end templates report p
+Inv-loop templates₀ index report₀ end p₀ templates report p = PagesSoFar templates₀ index end templates report p
 
 abbrev μ-loop : tie.MeasureT-loop
 μ-loop templates₀ index report₀ end p₀ templates report p = end - p
@@ -17,8 +17,8 @@ zero-requires c κs = search needs
 loop-holds : tie.Need-loop-holds Inv-loop μ-loop
 loop-holds c = search none-passed
 
-pass-page-requires : tie.Need-pass-page-requires Inv-loop μ-loop
-pass-page-requires c κs = search reached
+salvage-page-requires : tie.Need-salvage-page-requires Inv-loop μ-loop
+salvage-page-requires c κs = search reached
 
 loop-less : tie.Need-loop-less Inv-loop μ-loop
 loop-less c = search needs
@@ -43,7 +43,7 @@ salvage-pages-spec =
     μ-loop
     zero-requires
     loop-holds
-    pass-page-requires
+    salvage-page-requires
     loop-less
     loop-again
     same-length

@@ -1,8 +1,8 @@
 -- A stored page stays, and so does a blank one, which zeroing would not change.
 use borrow.Author.Needs.{needs}
 use Rattle.upkeep.proofs.Salvaging.{byte-passed, there-passed, blank-passed, zeroed-passed}
-use Rattle.upkeep.proofs.salvage.pass_page.Statement.{statement}
-use Rattle.upkeep.proofs.salvage.pass_page.Tie as tie
+use Rattle.upkeep.proofs.salvage.salvage_page.Statement.{statement}
+use Rattle.upkeep.proofs.salvage.salvage_page.Tie as tie
 
 shared-slice-read-if1 : tie.Need-shared-slice-read-if1
 shared-slice-read-if1 c = search needs
@@ -55,8 +55,8 @@ same-length-3 c = search needs
 returns-4 : tie.Need-returns-4
 returns-4 c = search zeroed-passed
 
-pub pass-page-spec : {M : Type 1} → statement M
-pass-page-spec =
+pub salvage-page-spec : {M : Type 1} → statement M
+salvage-page-spec =
     tie.close
     (tie.spec
     shared-slice-read-if1
