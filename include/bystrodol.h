@@ -5,9 +5,9 @@
  * There are three archives, for x86-64 Linux. bystrodol_step and bystrodol_line_switch are in target/staticlib/libstep.a, which
  * `rt staticlib step` writes; bystrodol_close_gaps and bystrodol_salvage are in target/staticlib/libupkeep.a, which `rt staticlib upkeep`
  * writes; all else is in target/staticlib/libboard.a, which `rt staticlib board` writes. Link those whose functions you call, in any
- * order, behind your own files. None needs another. Of the C library each needs memcpy and memset, libupkeep.a also memmove, and nothing
- * else. Each function is a section of its own: with --gc-sections the linker drops those that are not called, and a firmware that links
- * libstep.a and libboard.a should use it, since each of these has a reader.
+ * order, behind your own files. None needs another. Of the C library libstep.a and libboard.a need memcpy and memset, libupkeep.a memmove
+ * and memset, and nothing else. Each function is a section of its own: with --gc-sections the linker drops those that are not called, and a
+ * firmware that links libstep.a and libboard.a should use it, since each of these has a reader.
  *
  * Nothing is kept between calls: each answer depends on the arguments and the memory that they lead to, and calls on
  * different memory may run at the same time.
@@ -26,12 +26,13 @@
  *
  * How a firmware uses it. The reader is a struct bystrodol_line, its settings and its receiver, and the memory that is lent. With
  * the memory go the sensor chip's scores, which Search goes by.
- *   Power-on. Load settings and memory from where they are kept, or start with bystrodol_fresh and zeroed memory. The receiver starts
- *     as zeros: so it holds nothing. Then, first of all, bystrodol_receiver_switch: what was stored may say that a password was given.
- *     It takes any bytes. Then one bystrodol_receive with a piece of 0 bytes: it changes nothing, and its refusal tells whether the
- *     stored settings and index are legal; bystrodol_salvage says what to do if they are not. Any password and any address are, so keep
- *     a sum of your own over what is stored. Fresh settings have no password: do not fall back to them where the memory has templates.
- *     And save them at once: so such a memory always has its settings, and a later version's fresh settings never take their place.
+ *   Power-on. Load settings and memory from where they are kept, or start with bystrodol_fresh and zeroed memory. The receiver starts as
+ *     zeros: so it holds nothing. Then, first of all, bystrodol_receiver_switch: what was stored may say that a password was given. It
+ *     takes any bytes. Then one bystrodol_receive with a piece of 0 bytes: it changes nothing, and its refusal tells whether the stored
+ *     settings and index are legal; if it is 3, bystrodol_salvage has what to do. Any password and any address are legal, so keep a sum
+ *     of your own over what is stored. Fresh settings have no password: do not fall back to them where the memory has templates. A board
+ *     that starts fresh saves at once the zeroed templates, index and notepad, then the mark of bystrodol_bring_over, and then the
+ *     settings. So where settings are stored the memory is, too, and a later version's fresh settings never take their place.
  *   A loop. Read what the port has, a piece of any length, and offer it until a call takes nothing and leaves the held count:
  *     then, if it was not refused, all is taken, nothing was answered, and there is nothing left to do. How the bytes were cut
  *     makes no difference, if every call that deals with a Search lends the same scores and thresholds. MEMORY stands for the
@@ -68,8 +69,8 @@
  *     with 3, or a buffer is wiped with a page that it has nothing to do with, or not wiped with its own.
  *   Saving. The table of commands below says what each one changes.
  *   Upgrade. Templates and notepad stay as they are.
- *     Versions 0.1 to 0.5 had an index of 32 bytes. Where such a one is stored, and not yet brought over, do that before all else of
- *     power-on; bystrodol_bring_over says how.
+ *     Versions 0.1 to 0.5 had an index of 32 bytes. Where such a one is stored, and not yet brought over, do that first;
+ *     bystrodol_bring_over says how.
  *     Versions 0.1 to 0.6 had settings of 20 bytes: the first 20 of today's, every field at its place. Load them so, and give both
  *     buffers no origin:
  *         memcpy(&line.settings, stored, BYSTRODOL_OLD_SETTINGS_BYTES);
@@ -92,8 +93,8 @@
  *     has one more.
  *     Versions 0.1 to 0.10 could not close gaps, and versions 0.1 to 0.11 could not salvage. Today's other functions, structs and all that
  *     is stored are those of 0.10.
- *     An old firmware that is none of these versions may have left bytes in vacant pages and index bits past the end: call
- *     bystrodol_salvage once.
+ *     An old firmware that is none of these versions may have left bytes in vacant pages and index bits past the end. Bringing over an
+ *     index of 32 bytes cleans that up; with one of 128 call bystrodol_salvage once.
  */
 #ifndef BYSTRODOL_H
 #define BYSTRODOL_H
@@ -497,35 +498,41 @@ uint16_t bystrodol_count(const uint8_t *index, size_t index_length);
 uint8_t bystrodol_close_gaps(struct bystrodol_settings *settings, uint8_t *templates, size_t templates_length,
                              uint8_t *index, size_t index_length, uint16_t *table, size_t table_length);
 
+/* What a salvage did, by page and bit. */
+#define BYSTRODOL_UNCHANGED 0u
+#define BYSTRODOL_BIT_CLEARED 1u /* at or above the capacity: the bit was set */
+#define BYSTRODOL_PAGE_ZEROED 2u /* below the capacity: the page is vacant, and had a byte that was not 0 */
+
 /*
  * Cleans up a library of an old firmware, which left bytes in vacant pages or index bits past the end: every index bit at or above the
- * capacity is cleared, and every vacant page is zeroed. Nothing else changes, no bit below the capacity and no byte of a stored page. The
- * report gets a byte for each index bit, which says what was done: one of the three below. Called again, it changes nothing, and the
- * report is all 0. No settings are lent. It works on a locked reader, too, and no host can start it by a packet.
+ * capacity is cleared, and every vacant page is zeroed. Nothing else changes: no bit below the capacity, and no byte of a stored page.
+ * The report gets one of the three numbers above for each index bit. Called again, it changes nothing, and the report is all 0.
  *
- * Returns 0, or BYSTRODOL_BAD_LENGTH if a length is not as below; then nothing changes, and the report is not written. It is never refused
- * with 3: any bytes may lie in the index.
+ * Returns 0, or BYSTRODOL_BAD_LENGTH if a length is not as below; then nothing changes, and the report is not written. It is never
+ * refused with 3: any bytes may lie in the index.
  *
- * What it leaves has no bit past the end. Settings that were legal but for such a bit are legal with it, their origins too. Of a legal
- * reader a host sees no change: LoadChar of a vacant page is 0Ch whatever lies there, Search passes it over, and Store writes the whole
- * page. The report tells which pages are vacant and had bytes, which a locked reader keeps to itself: give it to nobody who may not know.
+ * Settings that only a bit past the end made illegal are legal afterwards. Of a legal reader no host notices it: no command looks at a
+ * vacant page. The report tells which pages are vacant and had bytes, which a locked reader keeps to itself: give it to nobody who may
+ * not know.
  *
- * When. Once, after an upgrade from such a firmware; where its index has 32 bytes, bystrodol_bring_over has the order. Where power-on is
- * refused with 3: the line switch comes first, as ever, then this, then the piece of 0 bytes again; if that is refused with 3 still, a
- * setting is at fault, and not the index. And at any time between two calls: power that failed while Store, DeletChar or Empty was saved
- * may have left bytes in vacant pages, too. Lend as many pages as the library has, since those that are left out lose their bits. The
- * bytes of a vacant page are gone for good: where a sum of yours tells that the index was damaged, do not call this, since a page whose
- * bit was lost is vacant.
+ * When. Once, after an upgrade from such a firmware. And where the piece of 0 bytes at power-on is refused with 3. Then offer that piece
+ * first with a copy of the index that is all zeros. If that is refused with 3, too, level, size code or baud factor is out of range,
+ * since the line switch makes all other settings legal: write a legal one there, and save it. If it is not, a bit past the end is set:
+ * call this, save, and offer the piece again. It may be called between any two calls: power that failed while a DeletChar was saved may
+ * have left bytes in a vacant page, too.
+ *   The bytes of a vacant page are gone for good, and a page whose bit was lost is vacant. So do not call this where a sum of yours
+ *   tells that the index is damaged; and lend as many pages as the library has, since the bits of others are cleared.
  *
- * Saving: the index, and of the templates the pages that the report has BYSTRODOL_PAGE_ZEROED for, in any order. What it leaves depends on
- * the bits below the capacity and the bytes of stored pages alone, and it changes neither. So power may fail anywhere, in the call or while
- * you save: call it again with what is kept then, and it comes to the same templates and index. So, unlike bystrodol_close_gaps, it may be
- * lent the memory that keeps its bytes over power-off. A write that fails may spoil the vacant page that it writes, but no stored page, and
- * must leave each byte of the index old or new. If yours erases larger blocks, write to a second area, and switch over by one sign.
- *   If you keep a sum over them, save a sign before the first write, and behind the last one the new sum; then take the sign away. If it is
- *   there at power-on, call this first, whatever the sum tells.
- *   The report is that of the last call alone. A board that must know all lends a copy, saves the report before the rest, and joins it with
- *   that of a later call by |.
+ * Saving: the index, and of the templates the pages that the report has BYSTRODOL_PAGE_ZEROED for, in any order. What is left depends on
+ * the bits below the capacity and the bytes of stored pages alone, and neither changes. So wherever power fails, in the call or while
+ * you save, call this again with what is kept then: templates and index come to the same. So it may be lent the very memory that keeps
+ * its bytes over power-off, if that is written as RAM is. A write that fails may spoil the vacant page that it writes, but no stored
+ * page, and must leave each byte of the index old or new. If yours erases larger blocks, write to a second area, and switch over by one
+ * sign.
+ *   A sum over templates or index: check it, and then save a sign, as that of bystrodol_close_gaps. Behind the last write save the new
+ *   sum, and then take the sign away. If it is there at power-on, call this again before you look at the sum, which need not hold then.
+ *   The report is that of one call. A board that must know all lends copies, and has a place for the report that is zeroed at first:
+ *   after each call, before all else, it saves there what lies there joined by | with the report.
  *
  *   templates, templates_length    512 bytes for each page, 1 to 1000 pages
  *   index, index_length            128 bytes
@@ -533,10 +540,6 @@ uint8_t bystrodol_close_gaps(struct bystrodol_settings *settings, uint8_t *templ
  */
 uint8_t bystrodol_salvage(uint8_t *templates, size_t templates_length, uint8_t *index, size_t index_length,
                           uint8_t *report, size_t report_length);
-
-#define BYSTRODOL_UNCHANGED 0u
-#define BYSTRODOL_BIT_CLEARED 1u /* at or above the capacity: the bit was set */
-#define BYSTRODOL_PAGE_ZEROED 2u /* below the capacity: the page is vacant, and had a byte that was not 0 */
 
 /* ---- an index that version 0.5 or an older one stored */
 
@@ -548,21 +551,22 @@ uint8_t bystrodol_salvage(uint8_t *templates, size_t templates_length, uint8_t *
  * The bytes cannot tell whether this was done. Done again later, with the 32 bytes that were stored before, it would take every page
  * stored since out of the index, and put every page deleted since back into it, with zeros for a template. So the board keeps a mark
  * of its own, and goes in this order, each step ended before the next, and no other call made before the mark is there:
- *   0. Load the old index, BYSTRODOL_OLD_INDEX_BYTES, from where it was stored. BYSTRODOL_INDEX_BYTES was 32 then: a struct that was
- *      stored with it has another layout now. If the 32 bytes lie where the 128 are to be, copy them away first.
+ *   0. Load the old index, BYSTRODOL_OLD_INDEX_BYTES, from where it was stored, and all else as at power-on. BYSTRODOL_INDEX_BYTES was
+ *      32 then: a struct that was stored with it has another layout now. If the 32 bytes lie in RAM where the 128 are to be, copy them
+ *      away first. If you keep a sum over templates, check it and save the sign that bystrodol_salvage speaks of, unless that is there.
  *   1. Bring over.
  *   2. Call bystrodol_salvage with the new index and as many pages as before: with more a stray bit above the old ones would pass for a
- *      stored page. Lend it the templates where they are kept, or a copy, of which you save the pages that were zeroed.
- *   3. Try the vault as at power-on, with as many pages as before: the line switch, and a piece of 0 bytes. If that is refused, a setting
- *      is at fault: the vault was damaged before. Go no further; it has its old index and every stored page.
+ *      stored page. Lend it the templates where they are kept; or a copy, and save the report, if you keep it, and the pages that were
+ *      zeroed.
+ *   3. Try the vault as at power-on, with as many pages as before: the line switch, and a piece of 0 bytes. If that is refused with 3,
+ *      level, size code or baud factor is out of range: write a legal one there, save it, and begin with 0.
  *   4. If there are to be more pages, up to 1000: zero them where they are kept, behind the old ones, which keep their places.
- *   5. Save the new index at a place of its own, with your sum over it. Save your sum over the templates anew; since step 2 it may not hold.
- *   6. Save the mark, so that it is there wholly or not at all.
- * From the mark on load the new index, and do none of this again, nor zero any page. Power that fails before the mark: begin with 0. The old
- * index lies where it was, and every stored page too; vacant and new pages may be zeroed or half zeroed, and all comes to the same. A
- * board that starts fresh with this version saves the mark before its settings.
- * To go back to an older version, take the mark away, and give it the first 32 bytes of the index and at most 256 pages: those
- * above are lost to it.
+ *   5. Save the new index at a place of its own; and your sums anew, over all pages.
+ *   6. Save the mark, so that it is there wholly or not at all; then take the sign away, and power on as ever, with all pages.
+ * From the mark on load the new index, and do none of these steps again. Power that fails before the mark: begin with 0. The old index
+ * lies where it was, and every stored page too; vacant and new pages may be zeroed or half zeroed, and all comes to the same.
+ * To go back to an older version with at most 256 pages, save first the front 32 bytes of the index where the old index lay, with the
+ * bits at or above its capacity cleared; then take the mark away. The pages above are lost to it.
  *
  *   old, old_length       the index as it was stored, 32 bytes
  *   index, index_length   where the new one goes, 128 bytes; the two share no byte
