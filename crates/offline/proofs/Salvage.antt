@@ -3,3 +3,4 @@ pub mod Salvages
 pub mod Again
 pub mod StaysLegal
 pub mod Unnoticed
+pub mod Upgrade
