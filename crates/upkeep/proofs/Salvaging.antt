@@ -25,8 +25,7 @@ use Rattle.library.specs.Lent.{zeroPage}
 use Rattle.library.proofs.Bits.{or-none}
 use Rattle.offline.specs.Salvage.{isBlank, salvagedIndex, salvagedPages, pageEntry, entryOf, salvageRefusal, fitSalvage, salvageAs, salvageOf}
 use Rattle.offline.specs.Records.{salvagedOf}
-use Rattle.offline.proofs.Laws.Salvage.{page-stays}
-use Rattle.offline.proofs.Salvage.StaysLegal.{index-stays}
+use Rattle.offline.proofs.Laws.Salvage.{page-stays, index-stays}
 use Rattle.upkeep.specs.Salvage.{Reporting, Reached, PageSalvaged, PagesSalvaged, BitsReported, fitsReport}
 
 -- ---- a run of bytes that are zero

@@ -18,7 +18,9 @@ use wire::bytes;
 // The entries of a report: one for each bit of the index.
 const ENTRIES: usize = 8 * numbers::INDEX;
 
+// The entry of a page that was zeroed.
 const PAGE_ZEROED: u8 = 2;
+
 // An index byte of eight stored pages.
 const ALL_STORED: u8 = 255;
 

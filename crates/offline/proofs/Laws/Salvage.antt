@@ -183,3 +183,11 @@ same-index x y f g e =
     let d : (8 * i + k) / 8 ≡ i = omega arith in
     let r : (8 * i + k) % 8 ≡ k = omega arith in
     same-bit (bit (byteAt x i) k) (bit (byteAt y i) k) (omega arith) (omega arith) (rw (d, r) at (e (8 * i + k)))))
+
+-- where no bit from c on is set, none is cleared
+pub index-stays : {m : ℕ} (x : List ℕ) (c : ℕ) → Fine m x → c ≤ 8 * m → ((q : ℕ) → c ≤ q → stored x q ≡ false) → salvagedIndex c x ≡ x
+index-stays x c f small none = same-index (salvagedIndex c x) x (fine-salvaged x c f small) f (λ q. bits-salvaged x c f small q ∙ go q (decLt q c))
+  where
+    go : (q : ℕ) → Dec (q < c) → (ltb q c && stored x q) ≡ stored x q
+    go q (yes l) = rw (lt-ltb q c l) refl
+    go q (no l) = let h : c ≤ q = omega arith in rw (le-ltb q c h, none q h) refl

@@ -22,11 +22,11 @@ use Rattle.offline.specs.CloseGaps.{rank, closedUp, Closed, closeAs}
 use Rattle.offline.specs.Salvage.{Salvaged, salvageAs, salvagedIn}
 use Rattle.offline.specs.Life.{Work, closing, salvaging, afterWork}
 use Rattle.offline.proofs.Laws.Gaps.{rank-le, length-closed, fine-closed, stored-closed}
-use Rattle.offline.proofs.Laws.Salvage.{length-salvaged, fine-salvaged}
+use Rattle.offline.proofs.Laws.Salvage.{length-salvaged, fine-salvaged, index-stays}
 use Rattle.offline.proofs.Gaps.Refusals.{able, close-kinds}
 use Rattle.offline.proofs.Gaps.StaysLegal.{closed-legal}
 use Rattle.offline.proofs.Salvage.Refusals.{salvage-kinds}
-use Rattle.offline.proofs.Salvage.StaysLegal.{index-stays, salvaged-legal}
+use Rattle.offline.proofs.Salvage.StaysLegal.{salvaged-legal}
 
 module _ (σ : Shape) (ok : σ .most ≤ 8 * σ .indexed) where
   pub work-legal : (w : Work) (r : Reader) → Legal σ ok r → Legal σ ok (afterWork σ r w)

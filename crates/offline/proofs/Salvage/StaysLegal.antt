@@ -1,13 +1,12 @@
 -- A reader beside its salvaged library. "What it leaves passes refusal 3's index test": so settings that are legal otherwise are legal with it. A legal reader keeps its index, is legal,
 -- and its buffers with an origin hold the bytes of their pages.
-use mathlib.Core.Bool.{Bool, true, false, _&&_}
+use mathlib.Core.Bool.{Bool, true, false}
 use mathlib.Core.Path.{_≡_, refl, sym, ap, _∙_}
 use mathlib.Core.List.{List}
 use Prim.Native.Nat.{ℕ, _*_, _/_, _≤_, _<_}
 use native.Mathlib.Omega.{arith}
-use native.Mathlib.Decide.{decLt}
-use lib.Dec.{T, ltb}
-use borrow.Author.Tests.{lt-ltb, le-ltb}
+use lib.Dec.{T}
+use borrow.Author.Tests.{lt-ltb}
 use lib.ListN.{length}
 use Rattle.protocol.specs.Bytes.{Bytes}
 use Rattle.protocol.specs.Index.{bit, stored, clearFrom}
@@ -20,17 +19,9 @@ use Rattle.protocol.proofs.Promises.Refusals.StaysLegal.{Legal, good}
 use Rattle.dialogues.proofs.Library.Faithful.{Copy, Faithful}
 use Rattle.offline.specs.Salvage.{salvagedIndex, salvagedPages, Salvaged, salvageAs, salvageOf, salvagedIn}
 use Rattle.offline.proofs.Lengths.{Sized}
-use Rattle.offline.proofs.Laws.Salvage.{length-salvaged, page-stays, fine-salvaged, bits-salvaged, clear-salvaged, same-index}
+use Rattle.offline.proofs.Laws.Salvage.{length-salvaged, page-stays, fine-salvaged, bits-salvaged, clear-salvaged, index-stays}
 use Rattle.protocol.proofs.Promises.Words.Told.{pages, hasBit}
 use Rattle.offline.proofs.Salvage.Refusals.{salvage-kinds}
-
--- where no bit from c on is set, none is cleared
-pub index-stays : {m : ℕ} (x : List ℕ) (c : ℕ) → Fine m x → c ≤ 8 * m → ((q : ℕ) → c ≤ q → stored x q ≡ false) → salvagedIndex c x ≡ x
-index-stays x c f small none = same-index (salvagedIndex c x) x (fine-salvaged x c f small) f (λ q. bits-salvaged x c f small q ∙ go q (decLt q c))
-  where
-    go : (q : ℕ) → Dec (q < c) → (ltb q c && stored x q) ≡ stored x q
-    go q (yes l) = rw (lt-ltb q c l) refl
-    go q (no l) = let h : c ≤ q = omega arith in rw (le-ltb q c h, none q h) refl
 
 module _ (σ : Shape) (ok : σ .most ≤ 8 * σ .indexed) where
   -- a legal reader with another library of as many pages, in which the same are stored
