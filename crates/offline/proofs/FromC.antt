@@ -2,3 +2,4 @@ pub mod Closing
 pub mod Salvaging
 pub mod Turns
 pub mod Secrets
+pub mod Contents

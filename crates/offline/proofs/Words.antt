@@ -20,7 +20,7 @@ use Rattle.offline.specs.CloseGaps.{Closed, closeOf}
 use Rattle.offline.specs.Salvage.{Salvaged, salvageOf, salvagedIn}
 use Rattle.offline.specs.Records.{closedOf, movedAt, salvagedOf}
 use Rattle.offline.specs.Life.{Work, closing, salvaging, afterWork, Deed, calls, between, deed, lastly, deedOn, lastlyOn, Sight, exchanged, told, workSeen, sights, sightsOn, lifeOf, whereIs, answers, keptOver, Unopened, NeverOpened, PairedDeeds}
-use Rattle.offline.specs.Turns.{Worked, Turn, callTurn, workTurn, lastTurn, deedsOf, toldTurns, Never, UntilTurn, WentBy, ByContract, workSaw, Turns, sawTurns, LineTurns, sawLineTurns}
+use Rattle.offline.specs.Turns.{Worked, Turn, callTurn, workTurn, lastTurn, deedsOf, toldTurns, Never, NeverTurn, UntilTurn, WentBy, ByContract, workSaw, Turns, sawTurns, LineTurns, sawLineTurns}
 
 -- ---- what the call returns
 
@@ -209,6 +209,9 @@ pub record TurnsMean {S : Type 0} (v : S) (xs : List (Entry S)) (y : Worked S) (
   -- no call leaves a mark of 1; and none but the last
   pub never-none : Never mark []
   pub never-more : (x : Entry S) → Never mark (x ∷ xs) ↔ ((mark (x .after) ≢ 1) × Never mark xs)
+  pub no-turn : NeverTurn mark []
+  pub never-called : NeverTurn mark (callTurn xs ∷ ts) ↔ (Never mark xs × NeverTurn mark ts)
+  pub never-worked : NeverTurn mark (workTurn y ∷ ts) ↔ NeverTurn mark ts
   pub until-none : UntilTurn mark []
   pub until-last : UntilTurn mark (callTurn xs ∷ []) ↔ Until mark xs
   pub until-called : UntilTurn mark (callTurn xs ∷ t ∷ ts) ↔ (Never mark xs × UntilTurn mark (t ∷ ts))
@@ -227,6 +230,9 @@ turns-mean v xs y t ts mark =
       told-worked = refl;
       never-none = tt;
       never-more = λ x. (λ h. h, λ h. h);
+      no-turn = tt;
+      never-called = (λ h. h, λ h. h);
+      never-worked = (λ h. h, λ h. h);
       until-none = tt;
       until-last = (λ h. h, λ h. h);
       until-called = (λ h. h, λ h. h);

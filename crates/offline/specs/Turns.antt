@@ -45,6 +45,11 @@ abbrev pub Never : {S : Type 0} → (S → ℕ) → List (Entry S) → Type 0
 Never marked [] = Unit {0}
 Never marked (x ∷ xs) = (marked (x .after) ≢ 1) × Never marked xs
 
+abbrev pub NeverTurn : {S : Type 0} → (S → ℕ) → List (Turn S) → Type 0
+NeverTurn marked [] = Unit {0}
+NeverTurn marked (callTurn xs ∷ ts) = Never marked xs × NeverTurn marked ts
+NeverTurn marked (workTurn y ∷ ts) = NeverTurn marked ts
+
 -- "up to and including the first accepted password": only the last call may
 abbrev pub UntilTurn : {S : Type 0} → (S → ℕ) → List (Turn S) → Type 0
 UntilTurn marked [] = Unit {0}

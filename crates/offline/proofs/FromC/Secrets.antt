@@ -88,7 +88,7 @@ pub record Together (s : Settings) (m : Memory) (z : Settings) (n : Memory) : Ty
   pub same : SameOpen s z
   pub pages : length (m .templates) ≡ length (n .templates)
 
-locks : (s : Settings) (m : Memory) → s .password ≢ 0 ∷ 0 ∷ 0 ∷ 0 ∷ [] → s .verified ≡ 0 → T (locked (readerAt s m .plain))
+pub locks : (s : Settings) (m : Memory) → s .password ≢ 0 ∷ 0 ∷ 0 ∷ 0 ∷ [] → s .verified ≡ 0 → T (locked (readerAt s m .plain))
 locks s m key shut = words.kept .locked-means (readerAt s m .plain) .1 (key, rw shut refl)
 
 -- where all that is not guarded is the same, so is the verified mark

@@ -44,7 +44,7 @@ unfolding workSeen
 work-saw (closing table) s m k list z n q ss = ap (λ (e : Closed). told (e .refusal) (e .table) ∷ ss) q
 work-saw (salvaging report) s m k list z n q ss = refl
 
-turns-end : (ts : List (Turn Vault)) (v : Vault) → Turns v ts → readerIn (lastTurn v ts) ≡ lastly core (readerIn v) (deedsOf ts)
+pub turns-end : (ts : List (Turn Vault)) (v : Vault) → Turns v ts → readerIn (lastTurn v ts) ≡ lastly core (readerIn v) (deedsOf ts)
 unfolding lastly deed
 turns-end [] v q = refl
 turns-end (callTurn xs ∷ ts) v (p, q) = turns-end ts (lastOf v xs) q ∙ ap (λ (r : Reader). lastly core r (deedsOf ts)) (steps-end xs v p)
@@ -59,7 +59,7 @@ turns-saw (callTurn xs ∷ ts) v (p, q) =
 turns-saw (workTurn y ∷ ts) v (p, q) =
     ap (workSaw (y .work) (y .refusal) (y .written)) (turns-saw ts (y .after) q ∙ ap (λ (r : Reader). sights core r (deedsOf ts)) (work-went (y .work) _ _ _ _ _ _ p)) ∙ work-saw (y .work) _ _ _ _ _ _ p _
 
-line-turns-end : (ts : List (Turn LineVault)) (v : LineVault) → LineTurns v ts → lineIn (lastTurn v ts) ≡ lastlyOn core (lineIn v) (deedsOf ts)
+pub line-turns-end : (ts : List (Turn LineVault)) (v : LineVault) → LineTurns v ts → lineIn (lastTurn v ts) ≡ lastlyOn core (lineIn v) (deedsOf ts)
 unfolding lastlyOn deedOn
 line-turns-end [] v q = refl
 line-turns-end (callTurn xs ∷ ts) v (p, q) = line-turns-end ts (lastOf v xs) q ∙ ap (λ (x : receivers.Line). lastlyOn core x (deedsOf ts)) (receives-end xs v p)
