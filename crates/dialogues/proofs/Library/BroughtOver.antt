@@ -239,7 +239,7 @@ pub brings : (r : Reader) (index : List ℕ) → length (r .guarded .index) ≡ 
 brings r index e d = bring-refusals (r .guarded .index) index .0 e .0 d .1
 
 -- a transfer asks for nothing of the library
-transfer-fits : (p : Plain) (g : Guarded) (t x : List ℕ) (m : Transfer) → T (fitTransfer p g m)
+pub transfer-fits : (p : Plain) (g : Guarded) (t x : List ℕ) (m : Transfer) → T (fitTransfer p g m)
     → T (fitTransfer p record { templates = t; index = x; notepad = g .notepad; buffer1 = g .buffer1; buffer2 = g .buffer2; found = g .found } m)
 unfolding fitTransfer bufferOf
 transfer-fits p g t x closed h = h

@@ -10,12 +10,13 @@ use borrow.Author.Tests.{lt-ltb}
 use lib.ListN.{length}
 use Rattle.protocol.specs.Bytes.{Bytes}
 use Rattle.protocol.specs.Index.{bit, stored, clearFrom}
-use Rattle.protocol.specs.Reader.{Transfer, closed, opened, unfit, Buffer, Guarded, Reader, capacity, bufferOf, withLibrary, reader}
-use Rattle.protocol.specs.Call.{Shape, fitBuffers, fitTransfer, legal}
+use Rattle.protocol.specs.Reader.{Buffer, Guarded, Reader, capacity, bufferOf, withLibrary, reader}
+use Rattle.protocol.specs.Call.{Shape, fitBuffers, legal}
 use Rattle.protocol.proofs.Laws.Index.{Fine, clear-above}
 use Rattle.protocol.proofs.Laws.Origins.{Rooted}
 use Rattle.protocol.proofs.Laws.Legal.{Good, legal-of, fine-of}
 use Rattle.protocol.proofs.Promises.Refusals.StaysLegal.{Legal, good}
+use Rattle.dialogues.proofs.Library.BroughtOver.{transfer-fits}
 use Rattle.dialogues.proofs.Library.Faithful.{Copy, Faithful}
 use Rattle.offline.specs.Salvage.{salvagedIndex, salvagedPages, Salvaged, salvageAs, salvageOf, salvagedIn}
 use Rattle.offline.proofs.Lengths.{Sized}
@@ -27,25 +28,19 @@ module _ (σ : Shape) (ok : σ .most ≤ 8 * σ .indexed) where
   -- a legal reader with another library of as many pages, in which the same are stored
   good-library : (r : Reader) (u i : List ℕ) → Good σ ok r → length u ≡ length (r .guarded .templates) → Fine (σ .indexed) i → T (clearFrom i (capacity (r .guarded)))
       → ((q : ℕ) → q < capacity (r .guarded) → stored i q ≡ stored (r .guarded .index) q) → Good σ ok (reader (r .plain) (withLibrary u i (r .guarded)))
-  unfolding withLibrary capacity bufferOf fitBuffers fitTransfer
+  unfolding withLibrary capacity bufferOf fitBuffers
   good-library r u i k long fine clear same =
       let c : length u / 512 ≡ length (r .guarded .templates) / 512 = ap (λ (n : ℕ). n / 512) long in
       record {
         settings = k .settings;
         shelf = record { long = rw c (long ∙ k .shelf .long); low = rw c (k .shelf .low); high = rw c (k .shelf .high); wide = fine .long; notes = k .shelf .notes };
         buffers = k .buffers;
-        transfer = transfer-stays (r .plain .transfer) (k .transfer);
+        transfer = transfer-fits (r .plain) (r .guarded) u i (r .plain .transfer) (k .transfer);
         clear = rw c clear;
         origins = rw c origins;
         typed = record { password = k .typed .password; address = k .typed .address; index = fine .bytes };
       }
     where
-      transfer-stays : (w : Transfer) → T (fitTransfer (r .plain) (r .guarded) w) → T (fitTransfer (r .plain) (withLibrary u i (r .guarded)) w)
-      transfer-stays closed f = f
-      transfer-stays (opened true n) f = f
-      transfer-stays (opened false n) f = f
-      transfer-stays (unfit b n m) f = f
-
       moves : (b : Buffer) → Rooted (length (r .guarded .templates) / 512) (r .guarded .index) b → Rooted (length (r .guarded .templates) / 512) i b
       moves b h p e = let o = h p e in record { below = o .below; there = same p (o .below) ∙ o .there; filled = o .filled }
 
