@@ -1,14 +1,15 @@
 -- Document 02, request [10]: "Refusals: 1 for lengths; 3 is not given here."
-use mathlib.Core.Path.{_≡_, refl, ap}
+use mathlib.Core.Path.{_≡_, refl, sym, ap, _∙_}
 use mathlib.Core.Logic.{_↔_}
 use mathlib.Core.List.{List, [], _∷_}
-use Prim.Native.Nat.{ℕ, zero, suc}
+use Prim.Native.Nat.{ℕ, zero, suc, _*_, _/_}
 use native.Mathlib.Omega.{arith}
 use lib.Dec.{T, eqb→eq}
 use lib.ListN.{length}
 use Rattle.protocol.specs.Call.{Shape, core}
 use Rattle.protocol.proofs.Laws.Logic.{and-l, and-r, and-i, eq→eqb, verdict-passed, passed-verdict}
 use Rattle.protocol.proofs.Laws.Lines.{Line, unless, Follows, follows}
+use Rattle.offline.specs.Lengths.{pagesFit}
 use Rattle.offline.specs.Salvage.{Salvaged, fitSalvage, salvageRefusal, salvageAs, salvageOf}
 use Rattle.offline.proofs.Lengths.{LibraryLengths, library-mean, Sized, sized}
 
@@ -41,6 +42,21 @@ salvage-refusals t x report =
     ends : (n : ℕ) → SalvageEnds t x report (salvageAs t x report n) n
     ends zero = refl
     ends (suc n) = (refl, (refl, (refl, refl)))
+
+-- of any shape, the report has an entry for each bit of the index
+pub entries-mean : (σ : Shape) (t x report : List ℕ)
+    → T (fitSalvage σ t x report) ↔ (T (pagesFit σ (length t / 512) (length t) (length x)) × (length report ≡ 8 * length x))
+unfolding fitSalvage
+entries-mean σ t x report = (
+  λ y. let a : T (pagesFit σ (length t / 512) (length t) (length x)) = search (and-l) in (
+    a,
+    eqb→eq (length report) (8 * σ .indexed) (search (and-r)) ∙ ap (λ (n : ℕ). 8 * n) (sym (sized σ t x a .wide)),
+  ),
+  λ m.
+      let a = m .0 in
+      let b = eq→eqb (length report) (8 * σ .indexed) (m .1 ∙ ap (λ (n : ℕ). 8 * n) (sized σ t x a .wide)) in
+      search (and-i),
+)
 
 -- ---- refused, or not
 
