@@ -1,6 +1,6 @@
 -- A page whose first byte is not zero is not blank, and any other is blank if all its bytes are zero.
 use borrow.Author.Needs.{needs}
-use Rattle.upkeep.proofs.Salvaging.{first-not-zero, all-blank}
+use Rattle.upkeep.proofs.Blank.{first-not-zero, all-blank}
 use Rattle.upkeep.proofs.salvage.is_blank.Statement.{statement}
 use Rattle.upkeep.proofs.salvage.is_blank.Tie as tie
 

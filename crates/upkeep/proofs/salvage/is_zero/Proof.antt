@@ -6,7 +6,7 @@ use lib.Dec.{eqb}
 use lib.ListN.{length, take}
 use borrow.Author.Needs.{needs}
 use Rattle.protocol.specs.Bytes.{zeros, same}
-use Rattle.upkeep.proofs.Salvaging.{zero-none, zero-more, zero-all}
+use Rattle.upkeep.proofs.Blank.{zero-none, zero-more, zero-all}
 use Rattle.upkeep.proofs.salvage.is_zero.Statement.{statement}
 use Rattle.upkeep.proofs.salvage.is_zero.Tie as tie
 
