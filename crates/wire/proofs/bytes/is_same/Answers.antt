@@ -1,0 +1,7 @@
+-- As one number, four bytes are equal just where all four are the same.
+use Rattle.std.proofs.Common.{rules}
+use Rattle.wire.proofs.Sums.{same_four}
+use Rattle.wire.proofs.bytes.is_same.Goals as goal
+
+pub returns : goal.returns
+returns c = search (same_four, rules)

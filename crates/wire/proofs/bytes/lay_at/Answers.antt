@@ -1,0 +1,13 @@
+use Rattle.std.proofs.Common.{sym, refl, arith, length-set, rules}
+use Rattle.protocol.proofs.Laws.Lists.{lay_nothing}
+use Rattle.wire.proofs.Packets.{byte_laid, all_laid}
+use Rattle.wire.proofs.bytes.lay_at.Goals as goal
+
+pub loop-i-init : goal.loop-i-init
+loop-i-init c = (omega arith, (sym (lay_nothing _ _), refl))
+
+pub loop-i-preserved : goal.loop-i-preserved
+loop-i-preserved c = (search rules, (search byte_laid, simp length-set (omega arith)))
+
+pub returns : goal.returns
+returns c = record { given = omega arith; laid = search all_laid }
