@@ -2,7 +2,7 @@
 use protocol::Settings;
 
 // What closing the gaps returns (request [9]): the settings after it, and the refusal or 0.
-#[derive(Drop)]
+#[derive(Clone, Copy)]
 pub struct Moved {
     pub settings: Settings,
     pub refusal: u8,

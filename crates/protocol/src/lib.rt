@@ -1,11 +1,13 @@
 // The types that the code and its contracts share. The definitions over them are in specs/, the promises in proofs/.
+#![tactic(auto)]
+
 pub mod codes;
 pub mod command_codes;
 pub mod numbers;
 pub mod refusals;
 
 // The first place with EF followed by 01 (step 1 of finding).
-#[derive(Drop)]
+#[derive(Clone, Copy)]
 pub enum Start {
     Nowhere,
     At { place: usize },
@@ -13,7 +15,7 @@ pub enum Start {
 
 // What stands in a run (steps 1 to 4): nothing that starts a packet; one that is not all there yet; a start that no packet has;
 // or a whole packet, with its place and its length field.
-#[derive(Drop)]
+#[derive(Clone, Copy)]
 pub enum Found {
     Noise { used: usize },
     Unfinished { at: usize },
@@ -24,7 +26,7 @@ pub enum Found {
 // A reader's settings. The transfer is two numbers: its buffer, 1 or 2, and the bytes got so far; no transfer is 0 and 0. The origin of a buffer
 // is the number of a page, or FFFFh for none. A mark is 0 or 1, and found is status bit 1: a Search found a page; any byte may lie there.
 #[repr(C)]
-#[derive(Drop)]
+#[derive(Clone, Copy)]
 pub struct Settings {
     pub password: [u8; 4],
     pub address: [u8; 4],
@@ -43,7 +45,7 @@ pub struct Settings {
 }
 
 // What Search finds (request [8]): a page and its score; none is page 0 with the score 0.
-#[derive(Drop)]
+#[derive(Clone, Copy)]
 pub struct Match {
     pub found: bool,
     pub page: u16,
@@ -51,7 +53,7 @@ pub struct Match {
 }
 
 // What a call of the reader returns: the settings after it, the refusal or 0, the bytes used, and the reply's length.
-#[derive(Drop)]
+#[derive(Clone, Copy)]
 pub struct Called {
     pub settings: Settings,
     pub refusal: u8,
@@ -61,7 +63,7 @@ pub struct Called {
 
 // What a call on lent settings returns: the same, and the settings lie changed where they were lent.
 #[repr(C)]
-#[derive(Drop)]
+#[derive(Clone, Copy)]
 pub struct Answered {
     pub refusal: u8,
     pub used: usize,
@@ -69,14 +71,14 @@ pub struct Answered {
 }
 
 // What a line switch returns: the settings after it, and the refusal or 0.
-#[derive(Drop)]
+#[derive(Clone, Copy)]
 pub struct Switched {
     pub settings: Settings,
     pub refusal: u8,
 }
 
 // What the builder returns: the refusal or 0, and the packet's length.
-#[derive(Drop)]
+#[derive(Clone, Copy)]
 pub struct Built {
     pub refusal: u8,
     pub length: usize,
@@ -84,7 +86,7 @@ pub struct Built {
 
 // The bytes that are held between calls: the first `count` cells. The spare byte means nothing; every call that is not refused leaves it 0.
 #[repr(C)]
-#[derive(Drop)]
+#[derive(Clone, Copy)]
 pub struct Receiver {
     pub held: [u8; numbers::HOLDS],
     pub spare: u8,
@@ -93,14 +95,14 @@ pub struct Receiver {
 
 // A line: the settings and the receiver.
 #[repr(C)]
-#[derive(Drop)]
+#[derive(Clone, Copy)]
 pub struct Line {
     pub settings: Settings,
     pub receiver: Receiver,
 }
 
 // What a receiver's call returns: the line after it, the refusal or 0, the bytes taken of the piece, and the reply's length.
-#[derive(Drop)]
+#[derive(Clone, Copy)]
 pub struct Received {
     pub line: Line,
     pub refusal: u8,
@@ -110,7 +112,7 @@ pub struct Received {
 
 // What a receiver's call on a lent line returns: the same, and the line lies changed where it was lent.
 #[repr(C)]
-#[derive(Drop)]
+#[derive(Clone, Copy)]
 pub struct Taken {
     pub refusal: u8,
     pub taken: usize,
@@ -118,7 +120,7 @@ pub struct Taken {
 }
 
 // What a receiver's line switch returns: the line after it, and the refusal or 0.
-#[derive(Drop)]
+#[derive(Clone, Copy)]
 pub struct Emptied {
     pub line: Line,
     pub refusal: u8,

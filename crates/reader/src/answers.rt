@@ -9,7 +9,7 @@ use protocol::{Match, Settings, codes, numbers};
 use wire::bytes;
 
 // Does it speak, the code, the bytes behind the code, the buffer that is sent behind the acknowledge (0: none), and the settings after it.
-#[derive(Drop)]
+#[derive(Clone, Copy)]
 pub struct Answer {
     pub speaks: bool,
     pub code: u8,

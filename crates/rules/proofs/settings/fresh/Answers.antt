@@ -4,12 +4,8 @@ use Rattle.protocol.specs.Bytes.{four}
 use Rattle.protocol.specs.Reader.{fresh}
 use Rattle.protocol.specs.Table.{is_buffer}
 use Rattle.protocol.specs.Records.{fit_mark, fit_marks, transfer_of, origin_of}
-use Rattle.rules.proofs.settings.fresh.Statement.{statement}
-use Rattle.rules.proofs.settings.fresh.Tie as tie
+use Rattle.rules.proofs.settings.fresh.Goals as goal
 
-returns : tie.Need-returns
+pub returns : goal.returns
 unfolding fresh four fit_mark fit_marks is_buffer transfer_of origin_of
 returns c = λ t i n b d. refl
-
-pub fresh-spec : {M : Type 1} → statement M
-fresh-spec = tie.close (tie.spec returns)

@@ -4,8 +4,7 @@ use mathlib.Core.Bool.{true, false}
 use Prim.Native.Nat.{ℕ}
 use borrow.Author.Tests.{ne_eqb}
 use Rattle.rules.specs.Commands.{is_free}
-use Rattle.rules.proofs.commands.is_free.Statement.{statement}
-use Rattle.rules.proofs.commands.is_free.Tie as tie
+use Rattle.rules.proofs.commands.is_free.Goals as goal
 
 module _ (k : ℕ) where
   parameters : k ≡ 0x0f → true ≡ is_free k
@@ -24,17 +23,14 @@ module _ (k : ℕ) where
   unfolding is_free
   other o n m = rw (ne_eqb k 0x0f o, ne_eqb k 0x13 n, ne_eqb k 0x40 m)
 
-returns : tie.Need-returns
-returns c = search parameters
+pub returns-in-15 : goal.returns-in-15
+returns-in-15 c = search parameters
 
-returns-2 : tie.Need-returns-2
-returns-2 c = search password
+pub returns-in-19 : goal.returns-in-19
+returns-in-19 c = search password
 
-returns-3 : tie.Need-returns-3
-returns-3 c = search shake
+pub returns-in-64 : goal.returns-in-64
+returns-in-64 c = search shake
 
-returns-4 : tie.Need-returns-4
-returns-4 c = search other
-
-pub is-free-spec : {M : Type 1} → statement M
-is-free-spec = tie.close (tie.spec returns returns-2 returns-3 returns-4)
+pub returns-in_default : goal.returns-in_default
+returns-in_default c = search other

@@ -5,15 +5,13 @@ use Prim.Native.Nat.{ℕ, ◌+◌}
 use lib.Dec.{eqb, ltb}
 use lib.ListN.{length-replicate}
 use borrow.Author.Tests.{eq-eqb, ne_eqb}
-use borrow.Author.Rules.{rules}
 use Rattle.protocol.specs.declared.Settings.{Settings}
 use Rattle.protocol.specs.Numbers.{page_bytes}
 use Rattle.protocol.specs.Step.{fits}
 use Rattle.protocol.proofs.Laws.Logic.{not_true, not_false}
 use Rattle.rules.specs.Settings.{SizeOf}
 use Rattle.rules.specs.Transfer.{does_fit}
-use Rattle.rules.proofs.transfer.does_fit.Statement.{statement}
-use Rattle.rules.proofs.transfer.does_fit.Tie as tie
+use Rattle.rules.proofs.transfer.does_fit.Goals as goal
 
 -- each return as a law: its value and the tests that led there
 module _ (s : Settings) (right last : Bool) (n : ℕ) where
@@ -22,9 +20,9 @@ module _ (s : Settings) (right last : Bool) (n : ℕ) where
   bad_sum f = rw (not_true right f)
 
   module _ (f : not right ≡ false) (z : ℕ) (e : SizeOf s.size z) where
-    bad-size : (n ≡ z → ⊥) → false ≡ does_fit s right last n
+    bad_size : (n ≡ z → ⊥) → false ≡ does_fit s right last n
     unfolding does_fit fits
-    bad-size l = rw (not_false right f, length-replicate, ← e.is, ne_eqb _ _ l)
+    bad_size l = rw (not_false right f, length-replicate, ← e.is, ne_eqb _ _ l)
 
     module _ (l : n ≡ z) where
       ends : last ≡ true → eqb (s.got + z) page_bytes ≡ does_fit s right last n
@@ -35,27 +33,14 @@ module _ (s : Settings) (right last : Bool) (n : ℕ) where
       unfolding does_fit fits
       goes_on o = rw (not_false right f, length-replicate, ← e.is, eq-eqb _ _ l, o)
 
-returns : tie.Need-returns
-returns c = search bad_sum
+pub returns-then-not-right : goal.returns-then-not-right
+returns-then-not-right c = search bad_sum
 
-size-of-requires : tie.Need-size-of-requires
-size-of-requires c κs = search rules
+pub returns-then-n-z : goal.returns-then-n-z
+returns-then-n-z c = search bad_size
 
-returns-2 : tie.Need-returns-2
-returns-2 c = search bad-size
+pub returns-then-last : goal.returns-then-last
+returns-then-last c = search ends
 
-cast-k : tie.Need-overflow-cast-k
-cast-k c = search rules
-
-add-k : tie.Need-overflow-add-k
-add-k c = search rules
-
-returns-3 : tie.Need-returns-3
-returns-3 c = search ends
-
-returns-4 : tie.Need-returns-4
-returns-4 c = search goes_on
-
-pub does-fit-spec : {M : Type 1} → statement M
-does-fit-spec =
-    tie.close (tie.spec returns size-of-requires returns-2 cast-k add-k returns-3 returns-4)
+pub returns : goal.returns
+returns c = search goes_on
