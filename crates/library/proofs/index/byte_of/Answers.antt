@@ -1,16 +1,12 @@
--- What is found so far is the byte, once its place is passed, and 0 before; every other byte counts for nothing.
-use Rattle.std.proofs.Common.{◌≡◌, ℕ, ◌+◌, ◌-◌, ◌*◌, ◌%◌, ◌<◌, ◌≤◌, Bool, true, false, cond, eqb, ltb, List, length, get_or, sym, refl, ap, ◌∙◌, ⊎_elim, mul-zero, mul-one, arith, w8, Fits, rules, le-ltb, lt-ltb, eqb-true}
+use Rattle.std.proofs.Common.{◌≡◌, ℕ, ◌+◌, ◌*◌, ◌%◌, ◌<◌, ◌≤◌, Bool, true, false, cond, eqb, List, length, get_or, sym, refl, ap, ◌∙◌, mul-zero, mul-one, arith, w8, Fits, le-ltb, lt-ltb, eqb-true}
 use native.Mathlib.Decide.{dec_lt}
 use lib.Bits.{bit_or, or_add_and, and_le_l, and_le_r}
 use lib.ListN.{get_or-eq_default}
 use borrow.Author.Tests.{eqb-false}
 use Rattle.protocol.specs.Bytes.{byte_at}
-use Rattle.library.proofs.index.byte_of.Statement.{statement}
-use Rattle.library.proofs.index.byte_of.Tie as tie
-
--- the byte at a place, if the bytes before i have it
-abbrev up_to : List ℕ → ℕ → ℕ → ℕ
-up_to x at i = cond (ltb at i) (byte_at x at) 0
+use Rattle.library.proofs.index.byte_of.Invariants.{up_to}
+use Rattle.library.proofs.index.byte_of.Goals as goal
+use Rattle.library.proofs.index.byte_of.Goals.{then-end-gt256, else-end-gt256}
 
 module _ (x : List ℕ) (at : ℕ) where
   none_yet : 0 ≡ up_to x at 0
@@ -53,54 +49,15 @@ fits : (x : List ℕ) (i m : ℕ) (t : Bool) → ((k : ℕ) → Fits w8 (get_or 
 fits x i m true h e = rw (e, mul-one (byte_at x i)) (h i)
 fits x i m false h e = rw (e, mul-zero (byte_at x i)) record { fits = omega arith }
 
-abbrev invariant-loop : tie.invariant-loop
-invariant-loop index at end found₀ left₀ i₀ found left i =
-    (i ≤ end) × ((end ≤ 256) × ((end ≤ length index) × ((end < 256 → length index ≤ end) × ((left < 256) × (((left + i) % 256 ≡ at) × (found ≡ up_to index at i))))))
+pub loop-i-init : goal.loop-i-init
+loop-i-init c =
+    elim c.if-end-gt256.branch [ then-end-gt256 w ↦ (omega arith, (omega arith, (omega arith, (λ h. omega arith, (omega arith, (omega arith, search none_yet)))))) | else-end-gt256 w ↦ (omega arith, (omega arith, (omega arith, (λ h. omega arith, (omega arith, (omega arith, search none_yet)))))) ]
 
-abbrev decreases-loop : tie.decreases-loop
-decreases-loop index at end found₀ left₀ i₀ found left i = end - i
+pub overflow_mul-found : goal.overflow_mul-found
+overflow_mul-found c = search fits
 
-loop-holds : tie.Need-loop-init invariant-loop decreases-loop
-loop-holds c =
-    ⊎_elim (λ w. (omega arith, (omega arith, (omega arith, (λ h. omega arith, (omega arith, (omega arith, search none_yet)))))))
-    (λ w. (omega arith, (omega arith, (omega arith, (λ h. omega arith, (omega arith, (omega arith, search none_yet))))))) c.if1.branch
+pub loop-i-preserved : goal.loop-i-preserved
+loop-i-preserved c = (omega arith, (omega arith, (omega arith, (search, (omega arith, (omega arith, search next))))))
 
-shared-slice-read-found : tie.Need-shared-slice-read-found invariant-loop decreases-loop
-shared-slice-read-found c = search rules
-
-flag-requires : tie.Need-flag-requires invariant-loop decreases-loop
-flag-requires c κs = search rules
-
-mul-found : tie.Need-overflow-mul-found invariant-loop decreases-loop
-mul-found c = search fits
-
-wrapping-sub-u8-requires : tie.Need-wrapping-sub-u8-requires invariant-loop decreases-loop
-wrapping-sub-u8-requires c κs = search rules
-
-add-i : tie.Need-overflow-add-i invariant-loop decreases-loop
-add-i c = search rules
-
-loop-less : tie.Need-loop-smaller invariant-loop decreases-loop
-loop-less c = search rules
-
-loop-again : tie.Need-loop-preserved invariant-loop decreases-loop
-loop-again c = (omega arith, (omega arith, (omega arith, (search, (omega arith, (omega arith, search next))))))
-
-returns : tie.Need-returns invariant-loop decreases-loop
+pub returns : goal.returns
 returns c = search all_passed
-
-pub byte-of-spec : {M : Type 1} → statement M
-byte-of-spec =
-    tie.close
-    (tie.spec
-    invariant-loop
-    decreases-loop
-    loop-holds
-    shared-slice-read-found
-    flag-requires
-    mul-found
-    wrapping-sub-u8-requires
-    add-i
-    loop-less
-    loop-again
-    returns)

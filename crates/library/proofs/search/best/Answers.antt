@@ -1,5 +1,5 @@
 -- The end is the sum, or the number of scores where that is smaller, so that the pages before it are those of the definition, and each has a bit and a score.
-use Rattle.std.proofs.Common.{◌≡◌, ℕ, ◌+◌, ◌-◌, ◌/◌, ◌<◌, ◌≤◌, List, length, ap, ◌∙◌, ⊎_elim, arith, rules, le-leb}
+use Rattle.std.proofs.Common.{◌≡◌, ℕ, ◌+◌, ◌-◌, ◌/◌, ◌<◌, ◌≤◌, List, length, ap, ◌∙◌, arith, rules, le-leb}
 use borrow.Author.Tests.{lt-leb}
 use Rattle.protocol.specs.declared.Match.{Match}
 use Rattle.protocol.specs.Numbers.{most_pages}
@@ -7,8 +7,8 @@ use Rattle.protocol.specs.Index.{bits}
 use Rattle.protocol.specs.Search.{score_at, nobody, eligible, best_of, pages_from}
 use Rattle.protocol.proofs.Laws.Logic.{and_false}
 use Rattle.library.specs.Search.{best_in, Covered}
-use Rattle.library.proofs.search.best.Statement.{statement}
-use Rattle.library.proofs.search.best.Tie as tie
+use Rattle.library.proofs.search.best.Goals as goal
+use Rattle.library.proofs.search.best.Goals.{then-pages-end, else-pages-end}
 
 covered : (x s : List ℕ) (end : ℕ) → length s ≤ most_pages → (length s + 7) / 8 ≤ length x → end ≤ length s → Covered x s end
 covered x s end few h l = record { few = omega arith; scored = l; indexed = omega arith }
@@ -37,23 +37,14 @@ module _ (x s : List ℕ) (t start count : ℕ) where
     unfolding pages_from
     cut l f = searched (rw (lt-leb (start + count) (length s) l, f))
 
-returns : tie.Need-returns
-returns c = search too_many
+pub returns-then-pages-gt-MOST_PAGES : goal.returns-then-pages-gt-MOST_PAGES
+returns-then-pages-gt-MOST_PAGES c = search too_many
 
-add-if2 : tie.Need-overflow-add-if2
-add-if2 c = search rules
+pub returns-then-index-pages : goal.returns-then-index-pages
+returns-then-index-pages c = search too_short
 
-returns-2 : tie.Need-returns-2
-returns-2 c = search too_short
+pub best_of-requires : goal.best_of-requires
+best_of-requires c = elim c.if-pages-end.branch [ then-pages-end w ↦ search (covered, rules) | else-pages-end w ↦ search (covered, rules) ]
 
-add-end : tie.Need-overflow-add-end
-add-end c = search rules
-
-best-of-requires : tie.Need-best-of-requires
-best-of-requires c κs = ⊎_elim (λ w. search (covered, rules)) (λ w. search (covered, rules)) c.if3.branch
-
-returns-3 : tie.Need-returns-3
-returns-3 c = let came = (let j : tie.Joined3 = search in j.if3.came) in ⊎_elim (λ w. search cut) (λ w. search whole) came
-
-pub best-spec : {M : Type 1} → statement M
-best-spec = tie.close (tie.spec returns add-if2 returns-2 add-end best-of-requires returns-3)
+pub returns : goal.returns
+returns c = elim c.if-pages-end.branch [ then-pages-end w ↦ search cut | else-pages-end w ↦ search whole ]

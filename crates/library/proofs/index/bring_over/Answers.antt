@@ -1,5 +1,5 @@
 -- Where both lengths are right, the old bytes lie at the front and zeros behind them; otherwise nothing is written.
-use Rattle.std.proofs.Common.{◌≡◌, ℕ, List, ◌++◌, length, take, drop, ap, ◌∙◌, arith, length-append, rules, ne_eqb}
+use Rattle.std.proofs.Common.{◌≡◌, ℕ, List, ◌++◌, length, take, drop, ap, ◌∙◌, arith, length-append, ne_eqb}
 use lib.ListN.{length-replicate}
 use borrow.Rule.Slice.PartMut.{put_mid}
 use Rattle.protocol.specs.Numbers.{old_index_bytes, index_bytes, added_bytes, bad_length}
@@ -10,17 +10,16 @@ use Rattle.protocol.specs.Records.{brought_of}
 use Rattle.wire.specs.Laying.{lay_front}
 use Rattle.protocol.proofs.Laws.Lists.{length_lay, lay_lay, lay_whole}
 use Rattle.library.proofs.Parts.{part_put, part_zeroed}
-use Rattle.library.proofs.index.bring_over.Statement.{statement}
-use Rattle.library.proofs.index.bring_over.Tie as tie
+use Rattle.library.proofs.index.bring_over.Goals as goal
 
 module _ (old index : List ℕ) where
-  old-refused : (length old ≡ old_index_bytes → ⊥) → brought_of bad_length index ≡ bring_over old index
+  old_refused : (length old ≡ old_index_bytes → ⊥) → brought_of bad_length index ≡ bring_over old index
   unfolding bring_over bring_refusal bring_as verdict
-  old-refused h = rw (ne_eqb _ _ h)
+  old_refused h = rw (ne_eqb _ _ h)
 
-  index-refused : length old ≡ old_index_bytes → (length index ≡ index_bytes → ⊥) → brought_of bad_length index ≡ bring_over old index
+  index_refused : length old ≡ old_index_bytes → (length index ≡ index_bytes → ⊥) → brought_of bad_length index ≡ bring_over old index
   unfolding bring_over bring_refusal bring_as verdict
-  index-refused e h = rw (e, ne_eqb _ _ h)
+  index_refused e h = rw (e, ne_eqb _ _ h)
 
   -- y: the old bytes put to the front; z: the part behind them zeroed
   done : (y z : List ℕ) → length old ≡ old_index_bytes → length index ≡ index_bytes → y ≡ lay_front old (take old_index_bytes (drop 0 index))
@@ -35,55 +34,11 @@ module _ (old index : List ℕ) where
       let whole = lay_whole (old ++ zeros added_bytes) index (simp (length-append, length-replicate) (omega arith)) in
       rw (e, l, put) (ap (brought_of 0) (zeroed ∙ joined ∙ whole))
 
-returns : tie.Need-returns
-returns c = search old-refused
+pub returns-then-old-ne-OLD_INDEX : goal.returns-then-old-ne-OLD_INDEX
+returns-then-old-ne-OLD_INDEX c = search old_refused
 
-returns-2 : tie.Need-returns-2
-returns-2 c = search index-refused
+pub returns-then-index-ne-INDEX : goal.returns-then-index-ne-INDEX
+returns-then-index-ne-INDEX c = search index_refused
 
-sub-put : tie.Need-overflow-sub-put
-sub-put c = search rules
-
-part-put-start : tie.Need-slice-bounds-put-start
-part-put-start c = search rules
-
-part-put-end : tie.Need-slice-bounds-put-end
-part-put-end c = search rules
-
-put-requires : tie.Need-put-requires
-put-requires c κs = search rules
-
-sub-zero : tie.Need-overflow-sub-zero
-sub-zero c = search rules
-
-part-zero-start : tie.Need-slice-bounds-zero-start
-part-zero-start c = search rules
-
-part-zero-end : tie.Need-slice-bounds-zero-end
-part-zero-end c = search rules
-
-zero-requires : tie.Need-zero-requires
-zero-requires c κs = search rules
-
-same_length : tie.Need-same-length
-same_length c = search rules
-
-returns-3 : tie.Need-returns-3
-returns-3 c = search done
-
-pub bring-over-spec : {M : Type 1} → statement M
-bring-over-spec =
-    tie.close
-    (tie.spec
-    returns
-    returns-2
-    sub-put
-    part-put-start
-    part-put-end
-    put-requires
-    sub-zero
-    part-zero-start
-    part-zero-end
-    zero-requires
-    same_length
-    returns-3)
+pub returns : goal.returns
+returns c = search done
