@@ -1,8 +1,7 @@
 -- A call's definitions at each way out, and what passed refusals say.
 use mathlib.Core.Path.{◌≡◌, refl, sym, ap, ◌∙◌, subst}
 use mathlib.Core.Bool.{Bool, true, false, true≢false, ◌&&◌}
-use mathlib.Core.Logic.{◌⊎◌, inl, inr}
-use mathlib.Core.List.{List, [], ◌∷◌}
+use mathlib.Core.List.{List}
 use Prim.Native.Nat.{ℕ, ◌+◌, ◌-◌, ◌*◌, ◌/◌, ◌%◌, ◌≤◌, ◌<◌}
 use native.Mathlib.Omega.{arith}
 use lib.Dec.{T, eqb→eq, leb→le}
@@ -11,9 +10,6 @@ use borrow.Author.Tests.{le-leb, lt-leb}
 use Rattle.protocol.specs.declared.Settings.{Settings}
 use Rattle.protocol.specs.declared.Found.{Found}
 use Rattle.protocol.specs.declared.Found.TheVariants.{Noise, Unfinished, Unfit, Whole}
-use Rattle.protocol.specs.contracts.Found.{the_type}
-use denote.Enum.Declared.{tag_of}
-use types.Run.{OneOf}
 use Rattle.protocol.specs.Numbers.{page_bytes, most_pages, index_bytes, reply_room, head_bytes}
 use Rattle.protocol.specs.Bytes.{same}
 use Rattle.protocol.specs.Tests.{within, verdict}
@@ -48,17 +44,12 @@ unfolding carried answer silence
 carried_silence χ u r y = ap (λ (x : List ℕ). record { told = record { refusal = 0; used = u; length = 0; room = x }; after = r }) (lay_nothing 0 y)
 
 -- no whole packet: the enum's case is one of the first three
-pub unheard : (a s : List ℕ) (f : Found) → OneOf (0 ∷ 1 ∷ 2 ∷ []) (tag_of the_type f) → hear_at a s f ≡ nothing
+pub unheard : (a s : List ℕ) (f : Found) → ((at n : ℕ) → f ≡ Whole at n → ⊥) → hear_at a s f ≡ nothing
 unfolding hear_at
 unheard a s (Noise n) k = refl
 unheard a s (Unfinished p) k = refl
 unheard a s (Unfit p) k = refl
-unheard a s (Whole p n) k = absurd (none 3 refl k)
-  where
-    none : (t : ℕ) → t ≡ 3 → (t ≡ 0) ⊎ ((t ≡ 1) ⊎ (t ≡ 2)) → ⊥
-    none t h (inl e) = omega arith
-    none t h (inr (inl e)) = omega arith
-    none t h (inr (inr e)) = omega arith
+unheard a s (Whole p n) k = absurd (k p n refl)
 
 pub step_silent : (χ : Chip) (r : Reader) (s y : List ℕ) (f : Found) → f ≡ find_of s → length s < 18446744073709551616 → hear_at r.plain.address s f ≡ nothing
     → record { told = record { refusal = 0; used = used_of f % 18446744073709551616; length = 0; room = y }; after = r } ≡ carried (step_of χ r s) y

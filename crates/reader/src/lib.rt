@@ -1,4 +1,6 @@
 // The reader: seventeen commands on lent memory, transfers, the step and the line switch.
+#![tactic(auto)]
+
 mod answers;
 mod buffers;
 pub mod call;
