@@ -118,7 +118,7 @@ module _ (h : Receiver) (s : Settings) (b d : List ℕ) (y : Switched) (b' d' : 
   pub empties : (v : Receiver) → y.refusal ≡ 0 → v ≡ holding [] → r ≡ emptied v y.settings 0
       → (t i n : List ℕ) → emptied_of r t i n b' d' ≡ line_switch_of (line (reader_of s t i n b d) h)
   unfolding line_switch_of line_switch_as
-  empties v z k p t i n = rw (p, k, ← q t i n, z) refl
+  empties v z k p t i n = rw (p, k, ← q t i n, z, z) refl
 
   pub leaves : (y.refusal ≡ 0 → ⊥) → r ≡ emptied h y.settings y.refusal
       → (t i n : List ℕ) → emptied_of r t i n b' d' ≡ line_switch_of (line (reader_of s t i n b d) h)

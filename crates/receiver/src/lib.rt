@@ -1,4 +1,6 @@
 // Request [1]: the receiver. It takes bytes as the cable gives them, holds them between calls, and answers at most one packet a call.
+#![tactic(auto)]
+
 ghost use Rattle.std.specs.Prelude.{◌≡◌, List, [], ℕ, min};
 ghost use Rattle.protocol.specs.Call.{core, shaped};
 ghost use Rattle.protocol.specs.Receiver.{holding, receive_of, line_switch_of};

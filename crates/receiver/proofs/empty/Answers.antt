@@ -3,12 +3,8 @@ use borrow.Author.Rules.{rules}
 use Rattle.protocol.specs.Numbers.{holds, longest}
 use Rattle.protocol.specs.Bytes.{lay}
 use Rattle.protocol.specs.Receiver.{holding}
-use Rattle.receiver.proofs.empty.Statement.{statement}
-use Rattle.receiver.proofs.empty.Tie as tie
+use Rattle.receiver.proofs.empty.Goals as goal
 
-returns : tie.Need-returns
+pub returns : goal.returns
 unfolding holding lay holds longest
 returns c = search rules
-
-pub empty-spec : {M : Type 1} → statement M
-empty-spec = tie.close (tie.spec returns)
