@@ -1,6 +1,8 @@
 // What the board's C firmware calls: four plain services, bringing over an index, fresh settings, and the whole reader with its settings and its receiver
 // lent.
 // include/bystrodol.h is the C face; the reader on whole runs is in the crate `step`.
+#![tactic(auto)]
+
 ghost use Rattle.std.specs.Prelude.{◌≡◌, List, ℕ};
 ghost use Rattle.protocol.specs.BringOver.{bring_over};
 ghost use Rattle.protocol.specs.Services.{sum_service, used_service, build_service, count_service};

@@ -1,6 +1,8 @@
 // The settings record lent, and changed where it lies: document 01's call and its line switch in the form of the cabinet loop, and what a C firmware calls that
 // hands whole runs over. include/bystrodol.h is the C face.
 // It stands apart from `board`, so that in the archive of each one function leads to the reader's call, and the compiler builds the call into it.
+#![tactic(auto)]
+
 ghost use Rattle.std.specs.Prelude.{◌≡◌, List, ℕ};
 ghost use Rattle.protocol.specs.Call.{core, call_of, switch_of};
 ghost use Rattle.protocol.specs.Records.{reader_of, lent_of, ended_of, switched_of, called_at, switched_at};

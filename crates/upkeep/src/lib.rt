@@ -1,5 +1,7 @@
 // Calls on a reader's library that no packet reaches, and the doors through which a C firmware makes them. include/bystrodol.h is the C face.
 // It stands apart from `board`: in an archive where two functions test settings the compiler builds the test into neither.
+#![tactic(auto)]
+
 ghost use Rattle.std.specs.Prelude.{◌≡◌, List, ℕ};
 ghost use Rattle.protocol.specs.Call.{core};
 ghost use Rattle.protocol.specs.Records.{reader_of};
