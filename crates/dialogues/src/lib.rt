@@ -1,1 +1,3 @@
+#![tactic(auto)]
+
 // What follows of many calls: theorems alone, and no function.

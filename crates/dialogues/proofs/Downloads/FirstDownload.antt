@@ -17,7 +17,7 @@ use Rattle.protocol.specs.Reader.{Transfer, closed, opened, Plain, no_origin, Bu
 use Rattle.protocol.specs.Commands.{down_char, set_sys_para, barred, command}
 use Rattle.protocol.specs.Data.{acknowledge, packets}
 use Rattle.protocol.specs.Step.{order, piece, hear_as, hear, ended, rested}
-use Rattle.protocol.specs.Call.{Lent, fit_lent, legal, reply_of, call_of, core, Ended}
+use Rattle.protocol.specs.Call.{Lent, fit_lent, reply_of, call_of, core, Ended}
 use Rattle.protocol.specs.Records.{fresh_of}
 use Rattle.protocol.specs.Dialogue.{Event, received, on, finally}
 use Rattle.dialogues.specs.History.{Exchange, exchanges}

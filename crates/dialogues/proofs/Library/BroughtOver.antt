@@ -20,7 +20,7 @@ use Rattle.protocol.specs.Search.{Chip, eligible, search_of}
 use Rattle.protocol.specs.Commands.{read_index_table, barred, command, Barred, search_for, store, load_char, up_char, down_char, delet_char, empty, set_sys_para, set_password, set_address, write_notepad, read_notepad, templete_num, Command, free, Order, damaged, unknown, misfit}
 use Rattle.protocol.specs.Table.{Effect, keep, fill_page, erase, erase_all, fill_buffer, await, note, remember, settle, apply, Row, rule, public_of}
 use Rattle.protocol.specs.Step.{order, hear, step_of, wiped, switched, Heard, nothing, piece, Said, silence, says, carry_as, carry, carry_free, obey, heed, ended, rested, fits, take_as, take_in, answer}
-use Rattle.protocol.specs.Call.{Shape, core, fit_buffers, fit_transfer, legal, Typed, Ended, refused, carried, reply_of, call_of, switch_refusal, switch_as, switch_of, fit_chip, fit_room}
+use Rattle.protocol.specs.Call.{Shape, core, fit_buffers, fit_transfer, Typed, Ended, refused, carried, reply_of, call_of, switch_refusal, switch_as, switch_of, fit_chip, fit_room}
 use Rattle.protocol.specs.Dialogue.{Event, received, switch, on, finally}
 use Rattle.dialogues.specs.History.{Exchange, exchanges, Act, history, live}
 use Rattle.protocol.proofs.Laws.Logic.{and_l, and_r, verdict_passed}

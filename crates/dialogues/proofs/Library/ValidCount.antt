@@ -7,7 +7,7 @@ use Prim.Native.Nat.{ℕ, ◌*◌, ◌≤◌}
 use native.Mathlib.Omega.{arith}
 use lib.Dec.{T, eqb}
 use lib.ListN.{length}
-use Rattle.protocol.specs.Bytes.{zeros, same}
+use Rattle.protocol.specs.Bytes.{zeros}
 use Rattle.protocol.specs.Tests.{among, count_below}
 use Rattle.protocol.specs.Index.{stored, set_bits}
 use Rattle.protocol.specs.Reader.{Reader, locked, capacity}

@@ -14,7 +14,6 @@ use Rattle.offline.proofs.Lengths.{LibraryLengths, library_mean}
 use Rattle.offline.specs.CloseGaps.{Closed, fit_closing, close_refusal, close_as, close_of}
 use Rattle.protocol.proofs.Laws.Logic.{and_l, and_r, and_i, eq→eqb, verdict_passed, passed_verdict}
 use Rattle.protocol.proofs.Laws.Lines.{Line, unless, Follows, follows}
-use Rattle.protocol.proofs.Promises.Words.Told.{pages}
 use Rattle.protocol.proofs.Promises.Refusals.LegalMeans.{Settled, settled_means}
 
 -- ---- "1 for a table not C long; 3 as in document 01"

@@ -7,7 +7,7 @@ use native.Mathlib.Omega.{arith}
 use lib.Dec.{T}
 use Rattle.protocol.specs.Index.{stored}
 use Rattle.protocol.specs.Reader.{Transfer, closed, opened, unfit, Origin, no_origin, from_page, Buffer, Guarded, Reader, capacity, buffer_of, reader}
-use Rattle.protocol.specs.Call.{Shape, fit_buffers, fit_transfer, sound, legal}
+use Rattle.protocol.specs.Call.{Shape, fit_buffers, fit_transfer, sound}
 use Rattle.offline.specs.CloseGaps.{rank, closed_templates, closed_index, followed, following, closed_up, Closed, close_as, close_of}
 use Rattle.protocol.proofs.Laws.Index.{Fine}
 use Rattle.protocol.proofs.Laws.Origins.{no_page_lem, same_page, Root, Rooted, rooted}

@@ -16,7 +16,7 @@ use Rattle.protocol.specs.Reader.{from_page, Reader, capacity, locked}
 use Rattle.protocol.specs.Commands.{templete_num, barred, command}
 use Rattle.protocol.specs.Data.{acknowledge}
 use Rattle.protocol.specs.Step.{order, hear, rested}
-use Rattle.protocol.specs.Call.{Shape, Lent, fit_lent, sound, legal, call_of}
+use Rattle.protocol.specs.Call.{Shape, Lent, fit_lent, sound, call_of}
 use Rattle.protocol.specs.Dialogue.{finally}
 use Rattle.dialogues.specs.History.{Act, moved, live}
 use Rattle.protocol.proofs.Laws.Logic.{eqb_same, and_false}

@@ -11,7 +11,7 @@ use lib.ListN.{length}
 use Rattle.protocol.specs.Bytes.{Bytes}
 use Rattle.protocol.specs.Index.{bit, stored, clear_from}
 use Rattle.protocol.specs.Reader.{Buffer, Guarded, Reader, capacity, buffer_of, with_library, reader}
-use Rattle.protocol.specs.Call.{Shape, fit_buffers, legal}
+use Rattle.protocol.specs.Call.{Shape, fit_buffers}
 use Rattle.protocol.proofs.Laws.Index.{Fine, clear_above}
 use Rattle.protocol.proofs.Laws.Origins.{Rooted}
 use Rattle.protocol.proofs.Laws.Legal.{Good, legal_of_lem, fine_of}

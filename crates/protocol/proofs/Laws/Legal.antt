@@ -10,7 +10,6 @@ use Rattle.protocol.specs.Numbers.{page_bytes, four_bytes}
 use Rattle.protocol.specs.Tests.{within}
 use Rattle.protocol.specs.Index.{clear_from}
 use Rattle.protocol.specs.Reader.{Transfer, closed, opened, Plain, Buffer, Guarded, Reader, capacity, size_of, locked, buffer_of, with_transfer, with_buffer, reader}
-use Rattle.protocol.specs.Commands.{free}
 use Rattle.protocol.specs.Step.{fits}
 use Rattle.protocol.specs.Call.{Shape, fit_library, fit_buffers, fit_lengths, fit_plain, fit_transfer, sound, legal, Typed}
 use Rattle.protocol.proofs.Laws.Logic.{T→false, and_l, and_r, and_i, eq→eqb}

@@ -14,7 +14,7 @@ use Rattle.protocol.specs.Tests.{within}
 use Rattle.protocol.specs.Index.{stored}
 use Rattle.protocol.specs.Reader.{Transfer, closed, opened, unfit, Plain, no_origin, Buffer, Reader, capacity, size_of, keyed, locked, buffer_of, emptied, with_mark, with_transfer, with_password, with_address, with_tuning, with_buffer}
 use Rattle.protocol.specs.Search.{Chip}
-use Rattle.protocol.specs.Commands.{Free, read_sys_para, verify_password, hand_shake, Barred, search_for, store, load_char, up_char, down_char, delet_char, empty, set_sys_para, set_password, set_address, write_notepad, read_notepad, templete_num, read_index_table, free}
+use Rattle.protocol.specs.Commands.{Free, read_sys_para, verify_password, hand_shake, Barred, search_for, store, load_char, up_char, down_char, delet_char, empty, set_sys_para, set_password, set_address, write_notepad, read_notepad, templete_num, read_index_table}
 use Rattle.protocol.specs.Table.{second, in_range, with_parameter, rule, apply, free_rule, public_of}
 use Rattle.protocol.specs.Step.{Heard, hear, Said, silence, says, carry_as, carry_free, ended, rested, laid_in, take_as, answer, step_of, wiped, switched}
 use Rattle.protocol.specs.Call.{Shape, Lent, fit_buffers, fit_plain, fit_transfer, legal, Typed, Ended, refused, carried, call_of, switch_refusal, switch_as, switch_of}
