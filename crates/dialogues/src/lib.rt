@@ -1,3 +1,2 @@
-#![tactic(auto)]
-
 // What follows of many calls: theorems alone, and no function.
+#![tactic(auto)]
