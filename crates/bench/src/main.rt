@@ -1,4 +1,6 @@
 // A reader with 64 zeroed pages and no chip on a line: packets come in by standard input, replies go out by standard output.
+#![tactic(auto)]
+
 mod offer;
 
 ghost use Rattle.std.specs.Prelude.{◌≤◌, true, ◌≡◌, length};
@@ -8,9 +10,10 @@ ghost use Rattle.dialogues.specs.Bench.{started};
 ghost use Rattle.bench.specs.Offer.{Drained};
 ghost use Rattle.bench.specs.Start.{Zeroed};
 
-use libc::{STDERR_FILENO, STDIN_FILENO, STDOUT_FILENO};
 use protocol::{Receiver, Settings, numbers, refusals};
 use rules::settings;
+use std::io;
+use std::io::{Read, Write};
 
 // The bytes of its pages.
 const TEMPLATES: usize = offer::PAGES * numbers::PAGE;
@@ -40,8 +43,16 @@ fn start(templates: &[u8], index: &[u8], notepad: &[u8], buffer1: &[u8], buffer2
     }
 }
 
+// Writes a reply whole, and lets nothing of it wait in a buffer, since the host waits for it.
+fn write<W: Write>(output: &mut W, reply: &[u8]) -> io::Result<()> {
+    output.write_all(reply)?;
+    output.flush()
+}
+
 // Offers a piece up to the last call, and writes each reply. A refusal and a failed write close the line.
-fn answer(
+fn answer<W: Write>(
+    rt: &impl Eprint,
+    output: &mut W,
     receiver: Receiver,
     settings: Settings,
     templates: &mut [u8],
@@ -78,9 +89,8 @@ fn answer(
         held = after.receiver;
         current = after.settings;
         let n = r.length;
-        let is_written = io::write_all(STDOUT_FILENO, &reply[..n]);
-        if !is_written {
-            os::fail(b"write");
+        if let Err(e) = write(output, &reply[..n]) {
+            let _ = eprintln!(rt; "write: {e}");
             return Line {
                 receiver: held,
                 settings: current,
@@ -88,7 +98,7 @@ fn answer(
             };
         }
         if r.refusal != refusals::ACCEPTED {
-            io::write_all(STDERR_FILENO, b"the reader refuses\n");
+            let _ = eprintln!(rt; "the reader refuses");
             return Line {
                 receiver: held,
                 settings: current,
@@ -108,19 +118,24 @@ fn answer(
 }
 
 // Reads a piece once, and returns its bytes: 0 at the end of the input and at a failed read.
-fn read(piece: &mut [u8]) -> usize
+fn read<R: Read>(rt: &impl Eprint, input: &mut R, piece: &mut [u8]) -> usize
     ensures { result ≤ length piece.old }
 {
-    let got = libc::read(STDIN_FILENO, piece);
-    if got < 0 {
-        os::fail(b"read");
+    match input.read(piece) {
+        Ok(n) => n,
+        Err(e) => {
+            let _ = eprintln!(rt; "read: {e}");
+            0
+        }
     }
-    io::count(got, piece)
 }
 
 // Reads and answers until the line closes. A proved loop has to end, and nothing says that an input does, so the turns are counted
-// down from a number that no run uses up.
-fn talk(
+// up to a number that no run comes to.
+fn talk<R: Read, W: Write>(
+    rt: &impl Eprint,
+    input: &mut R,
+    output: &mut W,
     templates: &mut [u8],
     index: &mut [u8],
     notepad: &mut [u8],
@@ -132,13 +147,14 @@ fn talk(
     requires { Zeroed templates.old index.old notepad.old buffer1.old buffer2.old }
 {
     let mut line = start(templates, index, notepad, buffer1, buffer2);
-    let mut turns = u64::MAX;
-    while turns > 0 {
-        let n = read(piece);
+    for _ in 0..u64::MAX {
+        let n = read(rt, input, piece);
         if n == 0 {
             return;
         }
         line = answer(
+            rt,
+            output,
             line.receiver,
             line.settings,
             templates,
@@ -152,11 +168,10 @@ fn talk(
         if !line.is_open {
             return;
         }
-        turns -= 1;
     }
 }
 
-fn main() {
+fn main(rt: HostRuntime) {
     let mut templates = [0u8; TEMPLATES];
     let mut index = [0u8; numbers::INDEX];
     let mut notepad = [0u8; numbers::NOTEPAD];
@@ -165,6 +180,9 @@ fn main() {
     let mut piece = [0u8; PIECE];
     let mut reply = [0u8; numbers::REPLY_ROOM];
     talk(
+        &rt,
+        &mut rt.stdin(),
+        &mut rt.stdout(),
         &mut templates,
         &mut index,
         &mut notepad,
