@@ -1,16 +1,11 @@
 -- What a receiver's call keeps within, and a piece offered up to rest.
-use mathlib.Core.Bool.{Bool, true, false, true≢false}
-use mathlib.Core.Path.{◌≡◌, refl, sym, ap, ◌∙◌, subst}
-use mathlib.Core.List.{List, [], ◌∷◌, ◌++◌}
-use Prim.Native.Nat.{ℕ, ◌+◌, ◌-◌, ◌*◌, ◌≤◌, ◌<◌}
-use native.Mathlib.Omega.{arith}
-use native.Mathlib.Decide.{dec_le}
-use lib.Dec.{eqb, eqb→eq, leb→le}
-use lib.ListN.{length, get_or, take, drop, length-take, length-drop}
-use lib.Seq.{take_all, drop-drop}
-use borrow.Author.Tests.{eq-eqb}
-use mir.Syntax.{w8}
-use mir.Val.{Fits}
+use Rattle.std.proofs.Common.{true, false, Option, None, Some, ◌≡◌, refl, sym, ap, ◌∙◌, subst, List, [], ◌∷◌, ◌++◌, ℕ, ◌+◌, ◌-◌, ◌*◌, ◌≤◌, ◌<◌, arith, eqb, eqb→eq, leb→le, length, get_or, take, drop, length-take, length-drop, take_all, append_assoc, append-nil, w8, Fits, eq-eqb}
+use Rattle.std.proofs.lemmas.Bool.{true≢false}
+use Rattle.std.proofs.lemmas.List.{drop-drop}
+use Rattle.std.proofs.Math.Decide.{dec_le}
+use Rattle.std.proofs.Math.Seq.{take-nil}
+use Rattle.std.specs.List.{concat}
+use Rattle.std.specs.Io.KnownBytes.{Appends}
 use Rattle.protocol.specs.declared.Settings.{Settings}
 use Rattle.protocol.specs.declared.Receiver.{Receiver}
 use Rattle.protocol.specs.declared.Received.{Received}
@@ -19,17 +14,18 @@ use Rattle.protocol.specs.Bytes.{Bytes}
 use Rattle.protocol.specs.Finder.{find_of, used_of}
 use Rattle.protocol.specs.Reader.{capacity}
 use Rattle.protocol.specs.Search.{Chip}
-use Rattle.protocol.specs.Call.{core, Lent, fit_chip, fit_room, Typed, refused}
+use Rattle.protocol.specs.Call.{core, Lent, fit_chip, fit_room, Typed, refused, reply_of}
 use Rattle.protocol.specs.Receiver.{bytes_in, Line, line, Handed, fitting, run_of, handed, receive_of}
-use Rattle.dialogues.specs.Caller.{Ran, replied, drained}
+use Rattle.dialogues.specs.Caller.{Ran, replied, at_rest, drained}
 use Rattle.protocol.specs.Records.{reader_of, chip_of, lent_of, received_of}
 use Rattle.protocol.proofs.Laws.Logic.{and_l, and_r}
 use Rattle.protocol.proofs.Laws.Finder.{used_in}
 use Rattle.protocol.proofs.Laws.Holding.{receive_kinds, receive_legal}
 use Rattle.protocol.proofs.Promises.Refusals.LegalMeans.{core_holds}
-use Rattle.dialogues.proofs.Lines.Cuts.{offered, count_after, took_is, length_held, all_drained}
+use Rattle.dialogues.proofs.Lines.Cuts.{offered, count_after, took_is, length_held, offers_nothing, answers_nothing, all_drained}
+use Rattle.dialogues.proofs.Laws.Drain.{drained_rest}
 use Rattle.dialogues.proofs.Lines.ReceiverCalls.{line_fits}
-use Rattle.bench.specs.Offer.{no_scores, no_thresholds, is_last, Offered, Drained}
+use Rattle.bench.specs.Offer.{no_scores, no_thresholds, is_last, Offered, Drained, replies}
 
 -- ---- one call
 
@@ -88,12 +84,26 @@ offer_within h s t i n b d piece room q t' i' n' b' d' room' p a z f e =
 abbrev χ : Chip
 χ = chip_of no_scores no_thresholds
 
-pub record Offering (x₀ : Line) (piece : List ℕ) (x : Line) (from : ℕ) : Type 0 where
+-- o₀ and o are the bytes of the output, where they are known: what was written of the replies, and then those to what is left
+pub record Offering (x₀ : Line) (piece : List ℕ) (o₀ : Option (List ℕ)) (x : Line) (from : ℕ) (o : Option (List ℕ)) : Type 0 where
   pub inside : from ≤ length piece
   pub left : (drained χ x₀.reader (bytes_in x₀.receiver ++ piece)).after ≡ (drained χ x.reader (bytes_in x.receiver ++ drop from piece)).after
+  pub sent : List ℕ
+  pub written : Appends o₀ o sent
+  pub still : replies x₀ piece ≡ sent ++ replies x (drop from piece)
 
-pub begins : (x : Line) (piece : List ℕ) → Offering x piece x 0
-begins x piece = record { inside = omega arith; left = refl }
+appends_none : (o : Option (List ℕ)) → Appends o o []
+appends_none None = tt
+appends_none (Some s) = sym (append-nil s)
+
+appends_more : (a b c : Option (List ℕ)) (s t : List ℕ) → Appends a b s → Appends b c t → Appends a c (s ++ t)
+appends_more None b c s t e f = tt
+appends_more (Some a) None c s t e f = elim e [ ]
+appends_more (Some a) (Some b) None s t e f = elim f [ ]
+appends_more (Some a) (Some b) (Some c) s t e f = f ∙ ap (λ (y : List ℕ). y ++ t) e ∙ append_assoc a s t
+
+pub begins : (x : Line) (piece : List ℕ) (o : Option (List ℕ)) → Offering x piece o x 0 o
+begins x piece o = record { inside = omega arith; left = refl; sent = []; written = appends_none o; still = refl }
 
 rest : (a : ℕ) (s : List ℕ) → take (length s - a) (drop a s) ≡ drop a s
 rest a s = take_all (length s - a) (drop a s) (simp length-drop (omega arith))
@@ -103,7 +113,12 @@ unfolding replied
 after_replied [] d = refl
 after_replied (b ∷ a) d = refl
 
-module _ (x₀ : Line) (piece : List ℕ) (x : Line) (from : ℕ) (k : Offering x₀ piece x from) (room : List ℕ) (o : Handed)
+replies_replied : (a : List ℕ) (d : Ran) → concat (replied a d).replies ≡ a ++ concat d.replies
+unfolding replied
+replies_replied [] d = refl
+replies_replied (b ∷ a) d = refl
+
+module _ (x₀ : Line) (piece : List ℕ) (o₀ : Option (List ℕ)) (x : Line) (from : ℕ) (w : Option (List ℕ)) (k : Offering x₀ piece o₀ x from w) (room : List ℕ) (o : Handed)
     (f : Offered x (take (length piece - from) (drop from piece)) (lent_of no_scores no_thresholds room) o) (e : o.told.refusal ≡ 0) where
   abbrev lent : Lent
   lent = lent_of no_scores no_thresholds room
@@ -111,19 +126,33 @@ module _ (x₀ : Line) (piece : List ℕ) (x : Line) (from : ℕ) (k : Offering 
   here : o ≡ receive_of core x (drop from piece) lent
   here = f.call ∙ ap (λ (s : List ℕ). receive_of core x s lent) (rest from piece)
 
-  -- one call more
-  pub again : Offering x₀ piece o.after (from + o.told.used)
-  again =
+  -- the drain of what is left begins with this call
+  next : drained χ x.reader (bytes_in x.receiver ++ drop from piece)
+      ≡ replied (reply_of o.told) (drained χ o.after.reader (bytes_in o.after.receiver ++ drop o.told.used (drop from piece)))
+  next =
       let s : List ℕ = drop from piece in
       let all : take (length s) s ≡ s = take_all (length s) s (omega arith) in
       let whole : o ≡ receive_of core x (take (length s) s) lent = here ∙ ap (λ (y : List ℕ). receive_of core x y lent) (sym all) in
-      let next : (drained χ x.reader (bytes_in x.receiver ++ s)).after ≡ (drained χ o.after.reader (bytes_in o.after.receiver ++ drop o.told.used s)).after =
-      subst (λ (y : Handed). (drained χ x.reader (bytes_in x.receiver ++ s)).after ≡ (drained χ y.after.reader (bytes_in y.after.receiver ++ drop y.told.used s)).after) (sym whole)
-      (ap (λ (d : Ran). d.after) (offered core χ x (length s) s lent (λ i. refl) (subst (λ (y : Handed). y.told.refusal ≡ 0) whole e)) ∙ after_replied _ _)
-      in
+      subst
+      (λ (y : Handed). drained χ x.reader (bytes_in x.receiver ++ s) ≡ replied (reply_of y.told) (drained χ y.after.reader (bytes_in y.after.receiver ++ drop y.told.used s)))
+      (sym whole)
+      (offered core χ x (length s) s lent (λ i. refl) (subst (λ (y : Handed). y.told.refusal ≡ 0) whole e))
+
+  -- one call more, whose reply is written
+  pub again : (v : Option (List ℕ)) → Appends w v (reply_of o.told) → Offering x₀ piece o₀ o.after (from + o.told.used) v
+  again v a =
+      let s : List ℕ = drop from piece in
+      let further : drop o.told.used s ≡ drop (from + o.told.used) piece = drop-drop o.told.used from piece in
       record {
         inside = omega (arith, f.taken, k.inside, length-take (length piece - from) (drop from piece), length-drop from piece);
-        left = k.left ∙ next ∙ ap (λ (y : List ℕ). (drained χ o.after.reader (bytes_in o.after.receiver ++ y)).after) (drop-drop o.told.used from piece);
+        left =
+            k.left ∙ ap (λ (d : Ran). d.after) next ∙ after_replied _ _
+            ∙ ap (λ (y : List ℕ). (drained χ o.after.reader (bytes_in o.after.receiver ++ y)).after) further;
+        sent = k.sent ++ reply_of o.told;
+        written = appends_more o₀ w v k.sent (reply_of o.told) k.written a;
+        still =
+            k.still ∙ ap (λ (y : List ℕ). k.sent ++ y) (ap (λ (d : Ran). concat d.replies) next ∙ replies_replied _ _ ∙ ap (λ (y : List ℕ). reply_of o.told ++ replies o.after y) further)
+            ∙ sym (append_assoc k.sent (reply_of o.told) _);
       }
 
   -- which brings the end nearer
@@ -134,10 +163,55 @@ module _ (x₀ : Line) (piece : List ℕ) (x : Line) (from : ℕ) (k : Offering 
       omega (arith, f.nearer e n)
 
   -- and the last
-  pub over : is_last o.told.used x.receiver.count o.after.receiver.count ≡ true → Drained x₀ piece o.after
-  unfolding holds longest
-  over n =
-      let same : Bool = eqb o.after.receiver.count x.receiver.count in
-      let u : o.told.used ≡ 0 = eqb→eq o.told.used 0 (and_l (eqb o.told.used 0) same (rw n tt)) in
-      let c : o.after.receiver.count ≡ x.receiver.count = eqb→eq o.after.receiver.count x.receiver.count (and_r (eqb o.told.used 0) same (rw n tt)) in
-      ap (λ (y : Handed). y.after) here ∙ all_drained core x (drop from piece) lent f.cells (rw here at e) (rw here at u) (rw here at c) χ ∙ sym k.left
+  module _ (n : is_last o.told.used x.receiver.count o.after.receiver.count ≡ true) where
+    took : o.told.used ≡ 0
+    took = eqb→eq o.told.used 0 (and_l (eqb o.told.used 0) (eqb o.after.receiver.count x.receiver.count) (rw n tt))
+
+    stayed : o.after.receiver.count ≡ x.receiver.count
+    stayed = eqb→eq o.after.receiver.count x.receiver.count (and_r (eqb o.told.used 0) (eqb o.after.receiver.count x.receiver.count) (rw n tt))
+
+    pub over : Drained x₀ piece o.after
+    unfolding holds longest
+    over =
+        let u = took in
+        let c = stayed in
+        ap (λ (y : Handed). y.after) here ∙ all_drained core x (drop from piece) lent f.cells (rw here at e) (rw here at u) (rw here at c) χ ∙ sym k.left
+
+    none_left : drop from piece ≡ []
+    unfolding holds longest
+    none_left =
+        let u = took in
+        let c = stayed in
+        offers_nothing core x (drop from piece) lent f.cells (rw here at e) (rw here at u) (rw here at c)
+
+    -- it answers nothing, and so does the drain
+    silent : reply_of o.told ≡ []
+    unfolding holds longest reply_of
+    silent =
+        let u = took in
+        let c = stayed in
+        let l : o.told.length ≡ 0 = ap (λ (y : Handed). y.told.length) here ∙ answers_nothing core x (drop from piece) lent f.cells (rw here at e) (rw here at u) (rw here at c) in
+        rw l refl
+
+    unused : used_of (find_of (bytes_in x.receiver)) ≡ 0
+    unfolding holds longest fitting run_of
+    unused =
+        let c = stayed in
+        let one : o ≡ receive_of core x [] lent = here ∙ ap (λ (y : List ℕ). receive_of core x y lent) none_left in
+        let z : (receive_of core x [] lent).told.refusal ≡ 0 = rw one at e in
+        let m : (receive_of core x [] lent).after.receiver.count ≡ x.receiver.count = rw one at c in
+        let run : run_of x.receiver [] ≡ bytes_in x.receiver = ap (λ (y : List ℕ). bytes_in x.receiver ++ y) (take-nil (holds - x.receiver.count)) ∙ append-nil (bytes_in x.receiver) in
+        let g : length (fitting x.receiver []) ≡ 0 = ap (λ (y : List ℕ). length y) (take-nil {A = ℕ} (holds - x.receiver.count)) in
+        let u : used_of (find_of (run_of x.receiver [])) ≡ 0 = omega (arith, m, count_after core x [] lent z, length_held core x [] lent f.cells z, used_in (run_of x.receiver [])) in
+        rw run at u
+
+    none_answered : replies x (drop from piece) ≡ []
+    unfolding at_rest
+    none_answered =
+        ap (replies x) none_left ∙ ap (λ (y : List ℕ). concat (drained χ x.reader y).replies) (append-nil (bytes_in x.receiver))
+        ∙ ap (λ (d : Ran). concat d.replies) (drained_rest χ x.reader (bytes_in x.receiver) unused)
+
+    pub written : (v : Option (List ℕ)) → Appends w v (reply_of o.told) → Appends o₀ v (replies x₀ piece)
+    written v a =
+        let all : k.sent ++ reply_of o.told ≡ replies x₀ piece = ap (λ (y : List ℕ). k.sent ++ y) (silent ∙ sym none_answered) ∙ sym k.still in
+        subst (Appends o₀ v) all (appends_more o₀ w v k.sent (reply_of o.told) k.written a)

@@ -1,5 +1,6 @@
 -- A piece offered to a receiver: one call, and all of them up to rest.
 use Rattle.std.specs.Prelude.{Bool, false, ◌&&◌, ◌≡◌, List, ◌++◌, ℕ, ◌+◌, ◌-◌, ◌*◌, ◌≤◌, ◌<◌, eqb, length}
+use Rattle.std.specs.List.{concat}
 use Rattle.protocol.specs.Numbers.{holds, bench_pages, levels}
 use Rattle.protocol.specs.Bytes.{zeros}
 use Rattle.protocol.specs.Call.{core, Lent}
@@ -32,3 +33,7 @@ pub record Offered (x : Line) (piece : List ℕ) (lent : Lent) (o : Handed) : Ty
 -- the line at rest: document 01's call again and again on the held bytes and the piece joined
 abbrev pub Drained : Line → List ℕ → Line → Type 0
 Drained x piece y = y ≡ (drained (chip_of no_scores no_thresholds) x.reader (bytes_in x.receiver ++ piece)).after
+
+-- the replies on the way there, one behind the other
+abbrev pub replies : Line → List ℕ → List ℕ
+replies x piece = concat (drained (chip_of no_scores no_thresholds) x.reader (bytes_in x.receiver ++ piece)).replies

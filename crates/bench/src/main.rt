@@ -3,11 +3,12 @@
 
 mod offer;
 
-ghost use Rattle.std.specs.Prelude.{◌≤◌, true, ◌≡◌, length};
+ghost use Rattle.std.specs.Prelude.{◌≤◌, true, ◌≡◌, take, length, OnOk};
+ghost use Rattle.std.specs.Io.KnownBytes.{Appends, Consumes};
 ghost use Rattle.protocol.specs.Receiver.{line};
 ghost use Rattle.protocol.specs.Records.{reader_of};
 ghost use Rattle.dialogues.specs.Bench.{started};
-ghost use Rattle.bench.specs.Offer.{Drained};
+ghost use Rattle.bench.specs.Offer.{Drained, replies};
 ghost use Rattle.bench.specs.Start.{Zeroed};
 
 use protocol::{Receiver, Settings, numbers, refusals};
@@ -44,7 +45,9 @@ fn start(templates: &[u8], index: &[u8], notepad: &[u8], buffer1: &[u8], buffer2
 }
 
 // Writes a reply whole, and lets nothing of it wait in a buffer, since the host waits for it.
-fn write<W: Write>(output: &mut W, reply: &[u8]) -> io::Result<()> {
+fn write<W: Write>(output: &mut W, reply: &[u8]) -> io::Result<()>
+    ensures { OnOk result (Appends (W.contents output.old) (W.contents output.new) reply.now) }
+{
     output.write_all(reply)?;
     output.flush()
 }
@@ -63,11 +66,14 @@ fn answer<W: Write>(
     piece: &[u8],
     reply: &mut [u8],
 ) -> Line
-    ensures { result.is_open ≡ true → Drained
+    ensures drained { result.is_open ≡ true → Drained
         (line (reader_of settings templates.old index.old notepad.old buffer1.old buffer2.old)
         receiver) piece.now
         (line (reader_of result.settings templates.new index.new notepad.new buffer1.new buffer2.new)
         result.receiver) }
+    ensures written { result.is_open ≡ true → Appends (W.contents output.old) (W.contents output.new)
+        (replies (line (reader_of settings templates.old index.old notepad.old buffer1.old buffer2.old) receiver)
+        piece.now) }
 {
     let mut held = receiver;
     let mut current = settings;
@@ -119,7 +125,8 @@ fn answer<W: Write>(
 
 // Reads a piece once, and returns its bytes: 0 at the end of the input and at a failed read.
 fn read<R: Read>(rt: &impl Eprint, input: &mut R, piece: &mut [u8]) -> usize
-    ensures { result ≤ length piece.old }
+    ensures fits { result ≤ length piece.old }
+    ensures taken { Consumes (R.remaining input.old) (R.remaining input.new) (take result piece.new) }
 {
     match input.read(piece) {
         Ok(n) => n,
