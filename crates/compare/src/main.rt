@@ -1,38 +1,46 @@
 // Tells how two readers differ (request [11]): two files, each the index, the notepad and then the templates in page order. It reads both once, from front to end, in step, and
 // holds one template of each at a time. Of each page it keeps the code alone until both files have ended: only then is it known that nothing is refused.
+#![tactic(auto)]
+
 mod print;
 
 ghost use Rattle.std.specs.Prelude.{◌≡◌, length};
 ghost use Rattle.compare.specs.Reading.{PagesRead, PrintedOfTwo};
 
-use libc::STDOUT_FILENO;
 use protocol::numbers;
+use std::fs;
+use std::io::Read;
+use std::rt::{Env, Files};
 use upkeep::compare;
 
+// The bytes that the system takes for a file's name at most.
+const NAME: usize = 4096;
+
 // What a file gave when it was asked for so many bytes: all of them; none, at its end; or fewer, or an error.
-#[derive(Drop)]
+#[derive(Clone, Copy)]
 enum Piece {
     Whole,
     End,
     Broken,
 }
 
-// Fills a slice from a file.
-fn fill(file: i32, out: &mut [u8]) -> Piece {
+// Fills a slice from a file. Of one that could not be opened nothing can be read.
+fn fill<F: Read>(file: &mut Option<F>, out: &mut [u8]) -> Piece {
+    let Some(file) = file else {
+        return Piece::Broken;
+    };
     let mut n = 0;
     while n < out.len() {
-        let got = libc::read(file, &mut out[n..]);
-        if got < 0 {
-            return Piece::Broken;
-        }
-        let k = io::count(got, &out[n..]);
-        if k == 0 {
-            if n == 0 {
-                return Piece::End;
+        match file.read(&mut out[n..]) {
+            Ok(0) => {
+                if n == 0 {
+                    return Piece::End;
+                }
+                return Piece::Broken;
             }
-            return Piece::Broken;
+            Ok(k) => n += k,
+            Err(_) => return Piece::Broken,
         }
-        n += k;
     }
     Piece::Whole
 }
@@ -58,7 +66,12 @@ fn is_broken(piece: Piece) -> bool {
 }
 
 // A piece of each of two files: whole or at the end only where both are.
-fn fill_both(one: i32, a: &mut [u8], two: i32, b: &mut [u8]) -> Piece {
+fn fill_both<F: Read>(
+    one: &mut Option<F>,
+    a: &mut [u8],
+    two: &mut Option<F>,
+    b: &mut [u8],
+) -> Piece {
     let x = fill(one, a);
     if is_broken(x) {
         return Piece::Broken;
@@ -77,7 +90,13 @@ fn fill_both(one: i32, a: &mut [u8], two: i32, b: &mut [u8]) -> Piece {
 }
 
 // The pages of both files, and the code of each. It returns their number, 0 where the files are not as they must be.
-fn read_pages(one: i32, two: i32, index1: &[u8], index2: &[u8], codes: &mut [u8]) -> usize
+fn read_pages<F: Read>(
+    one: &mut Option<F>,
+    two: &mut Option<F>,
+    index1: &[u8],
+    index2: &[u8],
+    codes: &mut [u8],
+) -> usize
     requires { length codes.old ≡ 1000 }
     ensures { PagesRead index1.now index2.now result codes.new }
 {
@@ -103,9 +122,9 @@ fn read_pages(one: i32, two: i32, index1: &[u8], index2: &[u8], codes: &mut [u8]
 }
 
 // Both files whole: the indexes, the notepads, and the code of each page. It returns the number of pages, as above.
-fn read(
-    one: i32,
-    two: i32,
+fn read<F: Read>(
+    one: &mut Option<F>,
+    two: &mut Option<F>,
     index1: &mut [u8],
     index2: &mut [u8],
     notepad1: &mut [u8],
@@ -127,7 +146,7 @@ fn read(
 }
 
 // The text for two open files, and its length.
-fn tell(one: i32, two: i32, text: &mut [u8]) -> usize
+fn tell<F: Read>(one: &mut Option<F>, two: &mut Option<F>, text: &mut [u8]) -> usize
     requires { length text.old ≡ 7112 }
     ensures { PrintedOfTwo result text.new }
 {
@@ -148,20 +167,20 @@ fn tell(one: i32, two: i32, text: &mut [u8]) -> usize
     print::text(&index1, &notepad1, &index2, &notepad2, c, &codes, text)
 }
 
-// Opens the file that an argument names; -1, of which nothing can be read, where there is none or it cannot be opened.
-fn open(argument: usize) -> i32 {
-    let mut name = io::buffer();
-    let n = os::arg(argument, &mut name);
-    os::open_read(&name[..n])
+// Opens the file that an argument names; none where there is no such argument, or the file cannot be opened.
+fn open<R: Env + Files>(rt: &R, argument: usize) -> Option<R::File> {
+    let mut name = [0u8; NAME];
+    let n = rt.arg(argument, &mut name).ok()?;
+    let name = str::from_utf8(&name[..n]).ok()?;
+    fs::open(rt, name).ok()
 }
 
-fn main() {
-    let one = open(1);
-    let two = open(2);
+fn main(rt: HostRuntime) {
+    let mut one = open(&rt, 1);
+    let mut two = open(&rt, 2);
     let mut text = [0u8; print::TEXT];
-    let n = tell(one, two, &mut text);
-    let is_written = io::write_all(STDOUT_FILENO, &text[..n]);
-    if !is_written {
-        os::fail(b"write");
+    let n = tell(&mut one, &mut two, &mut text);
+    if let Err(e) = rt.write_all(&text[..n]) {
+        let _ = eprintln!(rt; "write: {e}");
     }
 }
