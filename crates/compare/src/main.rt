@@ -167,11 +167,15 @@ fn tell<F: Read>(one: &mut Option<F>, two: &mut Option<F>, text: &mut [u8]) -> u
     print::text(&index1, &notepad1, &index2, &notepad2, c, &codes, text)
 }
 
-// Opens the file that an argument names; none where there is no such argument, or the file cannot be opened.
-fn open<R: Env + Files>(rt: &R, argument: usize) -> Option<R::File> {
+// Opens the file that an argument names; none where there is no such argument, or the file cannot be opened. Only a name that is
+// UTF-8 can be opened, and of any other that is said.
+fn open<R: Env + Files + Eprint>(rt: &R, argument: usize) -> Option<R::File> {
     let mut name = [0u8; NAME];
     let n = rt.arg(argument, &mut name).ok()?;
-    let name = str::from_utf8(&name[..n]).ok()?;
+    let Ok(name) = str::from_utf8(&name[..n]) else {
+        let _ = eprintln!(rt; "a file's name is not UTF-8");
+        return None;
+    };
     fs::open(rt, name).ok()
 }
 
