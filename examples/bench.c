@@ -3,7 +3,7 @@
  * writes replies to standard output. On a board, read and write are those of the serial port, and the memory is where
  * the board keeps it. A board adds what include/bystrodol.h says of power-on, silence, another host, the port's speed, and saving.
  *
- *     rt staticlib board && cc -I include examples/bench.c target/staticlib/libboard.a -o target/bench-in-c
+ *     tools/archives board && cc -I include examples/bench.c target/staticlib/libboard.a -o target/bench-in-c
  */
 #define _POSIX_C_SOURCE 200809L /* read, write, ssize_t, dprintf */
 

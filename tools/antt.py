@@ -4,9 +4,9 @@ import re
 import sys
 from collections import namedtuple
 
-TOKEN = re.compile(r"--[^\n]*|λ[^.]*\.|(?<=\s)\.\w+′?|0x[0-9a-fA-F]+|\d+|\[\]|&&|\|\||\+\+|[-∷+*/%^,;=(){}]|[^\W\d]\w*′?(?:-\w+)*|\S")
-LEVELS = [",", "→", "×", "≡ ≢ ≤ <", "∷ ++", "||", "&&", "+ -", "* / %", "^"]  # operators, from the loosest to the tightest
-RESULTS = {**dict.fromkeys(["||", "&&"], "Bool"), **dict.fromkeys("+-*/%^", "ℕ")}
+TOKEN = re.compile(r"--[^\n]*|λ[^.]*\.|(?<=[\w')])\.\w+'*|0x[0-9a-fA-F]+|\d+|\[\]|&&|\|\||\+\+|==|[-∷+*/%^,;=(){}]|[^\W\d]\w*'*|\S")
+LEVELS = [",", "→", "×", "≡ ≢ ≤ <", "∷ ++", "||", "&&", "==", "+ -", "* / %", "^"]  # operators, from the loosest to the tightest
+RESULTS = {**dict.fromkeys(["||", "&&", "=="], "Bool"), **dict.fromkeys("+-*/%^", "ℕ")}
 WORDS = {"let", "in", "record"}
 
 Token = namedtuple("Token", "text start end")
@@ -49,22 +49,22 @@ class Parser:
         return Node("chain", parts[0].start, parts[-1].end, parts, operators) if operators else parts[0]
 
     def application(self):
-        """Arguments bind tighter than a projection behind them: `f x .field` is the field of `f x`."""
         if self.peek() == "let":
             return self.binding()
         if self.peek().startswith("λ"):
             start, body = self.take().start, self.chain(0)
             return Node("lambda", start, body.end, [body], None)
+        parts = [self.projected()]
+        while self.starts_atom():
+            parts.append(self.projected())
+        return Node("apply", parts[0].start, parts[-1].end, parts, None) if parts[1:] else parts[0]
+
+    def projected(self):
+        """A projection stands tight behind what it is of: `f x.field` is f of the field of x."""
         node = self.atom()
-        while self.starts_atom() or self.peek().startswith("."):
-            if self.peek().startswith("."):
-                field = self.take()
-                node = Node("field", node.start, field.end, [node], field)
-            else:
-                parts = [node]
-                while self.starts_atom():
-                    parts.append(self.atom())
-                node = Node("apply", node.start, parts[-1].end, parts, None)
+        while re.match(r"\.\w", self.peek()):
+            field = self.take()
+            node = Node("field", node.start, field.end, [node], field)
         return node
 
     def binding(self):

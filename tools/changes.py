@@ -12,6 +12,10 @@ eqb : ℕ → ℕ → Bool
 ltb : ℕ → ℕ → Bool
 leb : ℕ → ℕ → Bool
 
+nat_eq : ℕ → ℕ → Bool
+nat_lt : ℕ → ℕ → Bool
+nat_le : ℕ → ℕ → Bool
+
 take : ℕ → List ℕ → List ℕ
 drop : ℕ → List ℕ → List ℕ
 
@@ -24,15 +28,14 @@ suc : ℕ → ℕ
 
 set : List ℕ → ℕ → ℕ → List ℕ
 
-getD : List ℕ → ℕ → ℕ → ℕ
+get_or : List ℕ → ℕ → ℕ → ℕ
 
 length : List ℕ → ℕ
 """
-MODULES = {"cond": "mathlib.Core.Bool", "not": "mathlib.Core.Bool", "eqb": "lib.Dec", "leb": "lib.Dec",
-           "suc": "Prim.Native.Nat", "length": "lib.ListN", "_≡_": "mathlib.Core.Path"}
+PRELUDE = "Rattle.std.specs.Prelude"
 COND = ["Bool", "A", "A", "A"]
 OTHER_OPERATOR = {"&&": "||", "||": "&&", "+": "-", "-": "+", "*": "+", "/": "%", "%": "/", "^": "*", "≤": "<", "<": "≤"}
-EVEN = {"eqb", "same"}  # an exchange of their arguments means the same, and so does one of the rows of `commands`
+EVEN = {"eqb", "nat_eq", "same"}  # an exchange of their arguments means the same, and so does one of the rows of `commands`
 NOTHING = {"ℕ": "0", "List ℕ": "[]", "Bool": "false", "Transfer": "closed", "Buffer": "emptied"}
 
 
@@ -47,7 +50,7 @@ def grouped(text):
 
 
 def brought(s, *names):
-    return s.needing(**{name: MODULES[name] for name in names})
+    return s.needing(**{name: PRELUDE for name in names})
 
 
 # ---- the rules: each takes the definitions d, a file s, an equation e and a piece n of its right side. It yields edits, each with what
@@ -68,12 +71,14 @@ def a_name_for_its_sibling(d, s, e, n):
             alike = [name for name in known if d.types[name] == d.types[n.more] and d.values.get(name, name) != d.values.get(n.more)]
             for name in near(sorted({*alike, n.more}, key=family.index), n.more):
                 yield Edit(n.start, n.end, name), s.importing(name, n.more)
+    for name in ("nat_lt", "nat_le") if n.kind == "chain" and n.more[0].text == "==" else []:
+        yield Edit(n.start, n.end, " ".join([name, *(grouped(s.of(part)) for part in n.parts)])), brought(s, name)
 
 
 def an_operator_for_its_sibling(d, s, e, n):
     for sign in n.more if n.kind == "chain" else []:
         if other := OTHER_OPERATOR.get(sign.text):
-            yield Edit(sign.start, sign.end, other), s.importing(f"_{other}_", f"_{sign.text}_")
+            yield Edit(sign.start, sign.end, other), s.importing(f"◌{other}◌", f"◌{sign.text}◌")
 
 
 def a_field_for_its_sibling(d, s, e, n):
@@ -92,7 +97,7 @@ def a_variable_for_its_sibling(d, s, e, n):
 
 def a_part_left_out(d, s, e, n):
     """A test, a row, an element, a premise, or one side of an operator."""
-    if n.kind == "chain" and n.more[0].text not in ",≡≢≤<":
+    if n.kind == "chain" and n.more[0].text not in (",", "≡", "≢", "≤", "<", "=="):
         for part, following, sign in zip(n.parts, n.parts[1:], n.more):
             if sign.text not in "-/%^" and part.kind != "binder":
                 yield Edit(part.start, following.start, ""), []
@@ -150,8 +155,8 @@ def a_part_of_a_record_kept_or_lost(d, s, e, n):
     fields, old = d.records.get(result, {}), [v for v, kind in e.types.items() if kind == result]
     if old and kinds == list(fields.values()):
         for (field, kind), part in zip(fields.items(), n.parts[1:]):
-            if s.of(part) != f"({old[0]} .{field})":
-                yield Edit(part.start, part.end, f"({old[0]} .{field})"), []
+            if s.of(part) != f"{old[0]}.{field}":
+                yield Edit(part.start, part.end, f"{old[0]}.{field}"), []
             elif kind in NOTHING:
                 yield Edit(part.start, part.end, NOTHING[kind]), [] if kind == "ℕ" else s.importing(NOTHING[kind], kind.split()[0])
 
@@ -217,14 +222,14 @@ def a_field_more(d, s, r):
                 yield Edit(r.end, r.end, f"\n  pub more : {low} {sign} {high}"), brought(s, "suc")
     for name, kind in r.arguments.items():
         for number in numbers_of(d, name, kind)[:1]:
-            yield Edit(r.end, r.end, f"\n  pub more : {number} ≡ 0"), brought(s, "_≡_", *{"length"} & {number.split()[0]})
+            yield Edit(r.end, r.end, f"\n  pub more : {number} ≡ 0"), brought(s, "◌≡◌", *{"length"} & {number.split()[0]})
 
 
 def numbers_of(d, name, kind):
     """The numbers in an argument: itself, its length, or those in its fields."""
     if kind in ("ℕ", "List ℕ"):
         return [name if kind == "ℕ" else f"length {name}"]
-    return [number for field, inner in d.records.get(kind, {}).items() if inner != "List ℕ" for number in numbers_of(d, f"{name} .{field}", inner)]
+    return [number for field, inner in d.records.get(kind, {}).items() if inner != "List ℕ" for number in numbers_of(d, f"{name}.{field}", inner)]
 
 
 # ---- the changes. The key names a change where line and number may move.

@@ -1,4 +1,4 @@
-# Programs in C for x86-64, by the kit's own clang, linker and C library; off x86-64 too. For a script at the repository's root with a function fail, behind
+# Programs in C, by the kit's own clang, linker and C library. For a script at the repository's root with a function fail, behind
 # tools/kit.sh and tools/archive.sh:
 #     . tools/compile.sh
 #     compile WORDS..                           clang, on the kit's few headers and include/
@@ -14,6 +14,6 @@ build() {
     shift 4
     compile "-std=$standard" -O1 -fPIE "$@" -c "$source" -o "$program.o" || fail "$source does not compile"
     # shellcheck disable=SC2086
-    "$own/bin/rattle-link" --target x86_64-unknown-linux-gnu --toolchain "$tools" -o "$program" "$program.o" $linked 2>"$program.log" ||
+    "$kit/bin/rattle-link" --target x86_64-unknown-linux-gnu --toolchain "$tools" -o "$program" "$program.o" $linked 2>"$program.log" ||
         { cat "$program.log" >&2; fail "$source does not link with" $linked; }
 }

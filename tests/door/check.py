@@ -36,17 +36,18 @@ CRATES = crates_of_bench()
 
 
 class Copy:
-    """A copy of what the front door needs, with a stand-in for rt first on the PATH."""
+    """A copy of what the front door needs, with stand-ins for rt and date first on the PATH."""
 
     def __init__(self, folder):
         self.folder = folder
         os.mkdir(folder)
         for name in (".ci", "tools", "crates"):
-            shutil.copytree(os.path.join(ROOT, name), self.path(name))
+            shutil.copytree(os.path.join(ROOT, name), self.path(name), ignore=shutil.ignore_patterns("out"))
         for name in ("bystrodol", "crates.txt"):
             shutil.copy(os.path.join(ROOT, name), self.path(name))
         os.mkdir(self.path("bin"))
-        shutil.copy(os.path.join(HERE, "rt"), self.path("bin/rt"))
+        for name in ("rt", "date"):
+            shutil.copy(os.path.join(HERE, name), self.path("bin"))
         os.mkdir(self.path("programs"))
         for name in ("target/bin/bench", "target/door/compare"):
             shutil.copy(os.path.join(ROOT, name), self.path("programs"))
@@ -67,7 +68,7 @@ class Copy:
             os.unlink(self.path("calls"))
         except FileNotFoundError:
             calls = []
-        check(all(call == "check " + program for call in calls), "rt is called by other words: %s" % calls)
+        check(all(call == "run " + program for call in calls), "rt is called by other words: %s" % calls)
         return len(calls)
 
 
@@ -167,7 +168,7 @@ def build_beside_reader(copy):
 def build_in_vain(copy):
     """A failure names the crate and the log, and the next start tries again."""
     shutil.rmtree(copy.path("target"))
-    failed = copy.start("bench", DURING="echo the reason; echo 'rt: reader NOT PROVED (exit 1, 3 s)'; exit 1")
+    failed = copy.start("bench", DURING="echo the reason; echo 'crate reader: modules loaded=0 checked=9'; echo logic=not-proved; exit 1")
     out, said = failed.communicate(HANDSHAKE, timeout=SECONDS)
     said = said.decode()
     check(failed.returncode == 2 and not out, "a failed build: status %d" % failed.returncode)

@@ -1,0 +1,49 @@
+// What a C firmware links that hands whole runs over, libstep.a: the two doors of the crate `step` under their own names, with the same clauses.
+// include/bystrodol.h is the C face. It stands apart from `board_c`, so that in the archive of each one function leads to the reader's call, and the compiler
+// builds the call into it.
+#![tactic(auto)]
+
+ghost use Rattle.std.specs.Prelude.{◌≡◌, List, ℕ};
+ghost use Rattle.protocol.specs.Call.{core, call_of, switch_of};
+ghost use Rattle.protocol.specs.Records.{reader_of, lent_of, ended_of, switched_of, called_at, switched_at};
+
+use protocol::{Answered, Settings};
+
+// A call of the reader on lent settings.
+#[unsafe(no_mangle)]
+pub extern "C" fn bystrodol_step(
+    settings: &mut Settings,
+    templates: &mut [u8],
+    index: &mut [u8],
+    notepad: &mut [u8],
+    buffer1: &mut [u8],
+    buffer2: &mut [u8],
+    scores: &[u16],
+    thresholds: &[u16],
+    run: &[u8],
+    reply: &mut [u8],
+) -> Answered
+    ensures { ended_of (called_at settings.new result)
+        templates.new index.new notepad.new buffer1.new buffer2.new reply.new
+        ≡ call_of core
+        (reader_of settings.old templates.old index.old notepad.old buffer1.old buffer2.old)
+        run.now (lent_of scores.now thresholds.now reply.old) }
+{
+    step::bystrodol_step(
+        settings, templates, index, notepad, buffer1, buffer2, scores, thresholds, run, reply,
+    )
+}
+
+// A line switch on lent settings.
+#[unsafe(no_mangle)]
+pub extern "C" fn bystrodol_line_switch(
+    settings: &mut Settings,
+    buffer1: &mut [u8],
+    buffer2: &mut [u8],
+) -> u8
+    ensures { (t i n : List ℕ)
+        → switched_of (switched_at settings.new result) t i n buffer1.new buffer2.new
+        ≡ switch_of (reader_of settings.old t i n buffer1.old buffer2.old) }
+{
+    step::bystrodol_line_switch(settings, buffer1, buffer2)
+}
