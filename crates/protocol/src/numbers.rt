@@ -77,7 +77,7 @@ pub const HEAD: usize = 9;
 
 pub const FRAME: usize = 11;
 
-// Where the address, the identifier and the length field stand in a packet: address_at, identifier_at and lengthAt of the definitions.
+// Where the address, the identifier and the length field stand in a packet: address_at, identifier_at and length_at of the definitions.
 pub const ADDRESS_AT: usize = 2;
 
 pub const IDENTIFIER_AT: usize = 6;
