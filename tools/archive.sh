@@ -39,7 +39,7 @@ build_archive() {
         build_over_ci "$crate" $libraries
     else
         (cd "crates/$crate" && rt lib "$crate")
-    fi >"$log" 2>&1 </dev/null || { cat "$log" >&2; fail "rt lib $crate failed"; }
+    fi >"$log" 2>&1 </dev/null || { cat "$log" >&2; fail "$crate is not proved, or not built"; }
     { cp "crates/$crate/out/lib$crate.a" "$archive" && note_made "$sum" "$archive" "$sums"; } || fail "$archive and $sums cannot be written"
 }
 
