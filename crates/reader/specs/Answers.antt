@@ -1,11 +1,10 @@
 -- What an answer means: the reply and the reader of the definitions.
 use Rattle.std.specs.Prelude.{Bool, true, false, cond, List, [], ◌∷◌, ◌++◌, ◌≡◌, ℕ, ◌*◌, ◌/◌, ◌≤◌, eqb, ltb, length, take}
 use Rattle.protocol.specs.declared.Settings.{Settings}
-use Rattle.protocol.specs.declared.Match.{Match}
 use Rattle.protocol.specs.Numbers.{highest_size}
 use Rattle.protocol.specs.Bytes.{part, zeros, follow}
 use Rattle.protocol.specs.Reader.{size_of}
-use Rattle.protocol.specs.Search.{match_bytes}
+use Rattle.protocol.specs.Search.{Match, match_bytes}
 use Rattle.protocol.specs.Data.{acknowledge, data_packets}
 use Rattle.protocol.specs.Table.{gives}
 use Rattle.protocol.specs.Step.{Said, carry}

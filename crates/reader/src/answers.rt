@@ -2,7 +2,7 @@
 ghost use Rattle.std.specs.Prelude.{◌≡◌, true, false, cond, ◌≤◌, eqb};
 ghost use Rattle.protocol.specs.Numbers.{highest_size, done, not_found};
 ghost use Rattle.protocol.specs.Bytes.{zeros};
-ghost use Rattle.protocol.specs.Search.{match_code};
+ghost use Rattle.protocol.specs.Search.{match_of, match_code};
 ghost use Rattle.reader.specs.Answers.{answer_of, code_alone, nothing_said, listed_bytes, match_list, PageGiven};
 
 use protocol::{Match, Settings, codes, numbers};
@@ -68,10 +68,12 @@ fn match_code(found: bool) -> u8
     if found { codes::DONE } else { codes::NOT_FOUND }
 }
 
-// Its code, page and score.
-pub(crate) fn matched(m: Match, settings: Settings) -> Answer
-    ensures { result ≡ answer_of true (match_code m) 4 (match_list m) 0 settings }
+// Its code, page and score; page 0 with the score 0 where none is found.
+pub(crate) fn matched(found: Option<Match>, settings: Settings) -> Answer
+    ensures { let m = match_of found in
+        result ≡ answer_of true (match_code m) 4 (match_list m) 0 settings }
 {
+    let m = found.unwrap_or(Match { page: 0, score: 0 });
     let mut bytes = [0u8; 32];
     bytes[0] = (m.page / 256) as u8;
     bytes[1] = (m.page % 256) as u8;
@@ -79,7 +81,7 @@ pub(crate) fn matched(m: Match, settings: Settings) -> Answer
     bytes[3] = (m.score % 256) as u8;
     Answer {
         speaks: true,
-        code: match_code(m.found),
+        code: match_code(found.is_some()),
         count: 4,
         bytes,
         upload: 0,

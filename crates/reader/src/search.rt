@@ -39,6 +39,6 @@ pub(crate) fn search_pages(
     }
     let threshold = search::threshold_of(thresholds, settings.level);
     let m = search::best(index, scores, threshold, start as u16, count as u16);
-    let found = bytes::flag(m.found);
+    let found = bytes::flag(m.is_some());
     answers::matched(m, settings::remembered(settings, found))
 }

@@ -153,7 +153,7 @@ pub(crate) fn count_pages(settings: Settings, index: &[u8]) -> Answer
     requires { (length index.now ≡ index_bytes) × (settings.size ≤ highest_size) }
     ensures { ObeyedIndex result settings templete_num index.now }
 {
-    let n = index::count(index, numbers::INDEX as u8);
+    let n = index::count(index, numbers::INDEX as u8).unwrap_or(numbers::NO_COUNT);
     let mut bytes = [0u8; 32];
     bytes[0] = (n / 256) as u8;
     bytes[1] = (n % 256) as u8;

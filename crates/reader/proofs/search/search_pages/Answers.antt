@@ -1,5 +1,7 @@
 -- Each test that fails stops with its code, in the row's order; otherwise the best page answers, and status bit 1 says whether there is one.
-use mathlib.Core.Path.{◌≡◌}
+use Rattle.std.proofs.Common.{Option, Some, None}
+use Rattle.std.specs.Option.{is_some}
+use mathlib.Core.Path.{◌≡◌, ◌∙◌, sym, refl}
 use mathlib.Core.Bool.{Bool, true, false, not, cond}
 use mathlib.Core.List.{List}
 use Prim.Native.Nat.{ℕ, ◌/◌, ◌*◌, ◌≤◌, ◌<◌}
@@ -8,12 +10,12 @@ use lib.Dec.{eqb, leb}
 use lib.ListN.{length}
 use borrow.Author.Tests.{lt-ltb, le-leb}
 use Rattle.protocol.specs.declared.Settings.{Settings}
-use Rattle.protocol.specs.declared.Match.{Match}
 use Rattle.protocol.specs.Numbers.{page_bytes, most_pages, index_bytes, nothing_there}
 use Rattle.protocol.specs.Tests.{verdict}
 use Rattle.protocol.specs.Bytes.{follow, two, joined}
 use Rattle.protocol.specs.Reader.{capacity, buffer_of, with_found}
-use Rattle.protocol.specs.Search.{threshold_of, search_of, match_code, match_bytes}
+use Rattle.protocol.specs.declared.Match as code
+use Rattle.protocol.specs.Search.{Match, match_of, threshold_of, search_of, match_code, match_bytes}
 use Rattle.protocol.specs.Commands.{search_for}
 use Rattle.protocol.specs.Table.{apply, rule, is_buffer}
 use Rattle.protocol.specs.Step.{says, carry, carry_as}
@@ -31,6 +33,11 @@ use Rattle.reader.proofs.Ready.{ready_alone, ready_listed, size_found}
 use Rattle.reader.proofs.ByNumber.{no_buffer, no_page_lem}
 use mathlib.Core.Path.{ap}
 use Rattle.reader.proofs.search.search_pages.Goals as goal
+
+-- whether a page is found
+found_is : (o : Option code.Match) → (match_of o).found ≡ is_some o
+found_is (Some m) = refl
+found_is None = refl
 
 module _ (s : Settings) (t i m b d c h : List ℕ) (n p k : ℕ) (a : Answer) (known : Bool) (e : known ≡ is_buffer n) (l : length c ≡ length t / page_bytes) where
   missing : a ≡ code_alone 0x0b s → not known ≡ false → length c ≤ p → said_of a t i m b d ≡ obeyed (chip_of c h) s t i m b d (search_for n p k)
@@ -70,7 +77,7 @@ returns c =
     let w = (ap not c.if-not-full.false) in
     let v = c.threshold_of-threshold.ensures in
     let r = c.best-m.ensures in
-    let fl = c.flag-found.ensures in
+    let fl = c.flag-found.ensures ∙ ap mark_of (c.is_some.ensures ∙ sym (found_is _)) in
     let y = c.remembered.ensures in
     let f = c.matched.ensures in
     let j = c.requires in
