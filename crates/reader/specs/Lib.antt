@@ -1,4 +1,4 @@
 pub mod Buffers
 pub mod Answers
-pub mod Commands
+pub mod Memory
 pub mod Calls

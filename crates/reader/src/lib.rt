@@ -3,14 +3,4 @@
 
 mod answers;
 mod buffers;
-pub mod call;
-mod fields;
-mod keys;
-mod notes;
-mod origins;
-mod parameters;
-mod reply;
-mod search;
-mod table;
-mod templates;
-mod transfer;
+pub mod memory;
