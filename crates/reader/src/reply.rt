@@ -1,0 +1,99 @@
+// What an answer writes into the reply room: the acknowledge, and a buffer's bytes in data packets of one size.
+ghost use Rattle.std.specs.Prelude.{◌≡◌, true, ◌+◌, ◌≤◌, length};
+ghost use Rattle.protocol.specs.Numbers.{page_bytes, frame_bytes, reply_room, highest_size};
+ghost use Rattle.protocol.specs.Bytes.{lay};
+ghost use Rattle.protocol.specs.Codes.{code_number, identifier_number};
+ghost use Rattle.protocol.specs.Packet.{length_of, packet, accepts};
+ghost use Rattle.protocol.specs.Reader.{size_of};
+ghost use Rattle.protocol.specs.Data.{acknowledge, data_packets};
+ghost use Rattle.reader.specs.Answers.{spoken_of, listed_bytes, upload_bytes};
+
+use crate::answers::Answer;
+use crate::buffers::Buffer;
+use crate::memory::Sound;
+use protocol::codes::Code;
+use protocol::identifiers::Identifier;
+use protocol::{Settings, numbers};
+use rules::settings;
+use wire::builder;
+
+// Writes a packet at the front of the reply room, and returns its length. The builder refuses neither its content nor the room.
+fn put_packet(address: [u8; 4], identifier: Identifier, content: &[u8], reply: &mut [u8]) -> usize
+    requires accepted { accepts (identifier_number identifier) (length_of content.now) ≡ true }
+    requires room { length content.now + frame_bytes ≤ length reply.old }
+    ensures length { result ≡ length content.now + frame_bytes }
+    ensures written { reply.new ≡ lay 0 (packet address (identifier_number identifier) content.now) reply.old }
+{
+    let made = builder::build(address, identifier as u8, content, reply);
+    made.length
+}
+
+// Writes an acknowledge at the front of the reply room, and returns its length. The number of its bytes is fixed for each kind of answer, which makes
+// the short ones quick.
+fn put_acknowledge<const N: usize>(
+    address: [u8; 4],
+    code: Code,
+    bytes: [u8; N],
+    reply: &mut [u8],
+) -> usize
+    requires few { N ≤ listed_bytes }
+    requires room { reply_room ≤ length reply.old }
+    ensures length { result ≡ length (acknowledge address (code_number code) bytes.entry) }
+    ensures written { reply.new ≡ lay 0 (acknowledge address (code_number code) bytes.entry) reply.old }
+{
+    let mut content = [0u8; 33];
+    content[0] = code as u8;
+    content[1..N + 1].copy_from_slice(&bytes);
+    put_packet(address, Identifier::Acknowledge, &content[..N + 1], reply)
+}
+
+// Writes a buffer in data packets into the reply room from place at on, and returns the place behind them.
+fn put_data(settings: Settings, bytes: &[u8], at: usize, reply: &mut [u8]) -> usize
+    requires legal { settings.size ≤ highest_size }
+    requires page { length bytes.now ≡ page_bytes }
+    requires room { at + upload_bytes ≤ length reply.old }
+    ensures end { result ≡ at + length (data_packets settings.address (size_of settings.size) bytes.now) }
+    ensures written { reply.new ≡ lay at (data_packets settings.address (size_of settings.size) bytes.now) reply.old }
+{
+    let size = settings::size_of(settings.size);
+    let step = size + numbers::FRAME;
+    let end = at + bytes.len() / size * step;
+    let mut to = at;
+    for content in bytes.chunks_exact(size) {
+        let next = to + step;
+        let identifier = if next == end {
+            Identifier::Last
+        } else {
+            Identifier::Data
+        };
+        put_packet(settings.address, identifier, content, &mut reply[to..next]);
+        to = next;
+    }
+    end
+}
+
+impl Sound<'_> {
+    // Writes what an answer says at the front of the reply room, and returns its length.
+    pub(crate) fn speak(&self, answer: Answer, reply: &mut [u8]) -> usize
+        requires { reply_room ≤ length reply.old }
+        ensures length { result ≡ length (spoken_of answer self.now.settings.now self.now.buffer1.now self.now.buffer2.now) }
+        ensures written { reply.new ≡ lay 0 (spoken_of answer self.now.settings.now self.now.buffer1.now self.now.buffer2.now) reply.old }
+    {
+        let address = self.settings.address;
+        match answer {
+            Answer::Silence => 0,
+            Answer::Alone(code) => put_acknowledge(address, code, [], reply),
+            Answer::Count(bytes) => put_acknowledge(address, Code::Done, bytes, reply),
+            Answer::Match(code, bytes) => put_acknowledge(address, code, bytes, reply),
+            Answer::Parameters(bytes) => put_acknowledge(address, Code::Done, bytes, reply),
+            Answer::Page(bytes) => put_acknowledge(address, Code::Done, bytes, reply),
+            Answer::Upload(buffer) => {
+                let end = put_acknowledge(address, Code::Done, [], reply);
+                match buffer {
+                    Buffer::First => put_data(*self.settings, &*self.buffer1, end, reply),
+                    Buffer::Second => put_data(*self.settings, &*self.buffer2, end, reply),
+                }
+            }
+        }
+    }
+}
