@@ -2,7 +2,7 @@
 ghost use Rattle.std.specs.Prelude.{◌≡◌, true, ◌+◌, ◌≤◌, length};
 ghost use Rattle.protocol.specs.Numbers.{page_bytes, frame_bytes, reply_room, highest_size};
 ghost use Rattle.protocol.specs.Bytes.{lay};
-ghost use Rattle.protocol.specs.Codes.{code_number, identifier_number};
+ghost use Rattle.protocol.specs.Codes.{code_number};
 ghost use Rattle.protocol.specs.Packet.{length_of, packet, accepts};
 ghost use Rattle.protocol.specs.Reader.{size_of};
 ghost use Rattle.protocol.specs.Data.{acknowledge, data_packets};
@@ -18,13 +18,13 @@ use rules::settings;
 use wire::builder;
 
 // Writes a packet at the front of the reply room, and returns its length. The builder refuses neither its content nor the room.
-fn put_packet(address: [u8; 4], identifier: Identifier, content: &[u8], reply: &mut [u8]) -> usize
-    requires accepted { accepts (identifier_number identifier) (length_of content.now) ≡ true }
+fn put_packet(address: [u8; 4], identifier: u8, content: &[u8], reply: &mut [u8]) -> usize
+    requires accepted { accepts identifier (length_of content.now) ≡ true }
     requires room { length content.now + frame_bytes ≤ length reply.old }
     ensures length { result ≡ length content.now + frame_bytes }
-    ensures written { reply.new ≡ lay 0 (packet address (identifier_number identifier) content.now) reply.old }
+    ensures written { reply.new ≡ lay 0 (packet address identifier content.now) reply.old }
 {
-    let made = builder::build(address, identifier as u8, content, reply);
+    let made = builder::build(address, identifier, content, reply);
     made.length
 }
 
@@ -42,9 +42,14 @@ fn put_acknowledge<const N: usize>(
     ensures written { reply.new ≡ lay 0 (acknowledge address (code_number code) bytes.entry) reply.old }
 {
     let mut content = [0u8; 33];
-    content[0] = code as u8;
+    content[0] = u8::from(code);
     content[1..N + 1].copy_from_slice(&bytes);
-    put_packet(address, Identifier::Acknowledge, &content[..N + 1], reply)
+    put_packet(
+        address,
+        Identifier::Acknowledge as u8,
+        &content[..N + 1],
+        reply,
+    )
 }
 
 // Writes a buffer in data packets into the reply room from place at on, and returns the place behind them.
@@ -62,9 +67,9 @@ fn put_data(settings: Settings, bytes: &[u8], at: usize, reply: &mut [u8]) -> us
     for content in bytes.chunks_exact(size) {
         let next = to + step;
         let identifier = if next == end {
-            Identifier::Last
+            Identifier::Last as u8
         } else {
-            Identifier::Data
+            Identifier::Data as u8
         };
         put_packet(settings.address, identifier, content, &mut reply[to..next]);
         to = next;
