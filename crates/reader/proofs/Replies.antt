@@ -168,3 +168,15 @@ module _ (a src : List ℕ) (size at end : ℕ) (out₀ out rest : List ℕ) (to
             room = behind;
             laid = rw put (lay_lay to n (packet a i x) (joined (packets a k size more)) out (omega arith) (omega (arith, behind, s.same)) ∙ g);
           }
+
+-- ---- an acknowledge, and data packets behind it
+
+module _ (a p : List ℕ) (n : ℕ) (e : n ≡ length a) where
+  pub both_long : (r : ℕ) → r ≡ n + length p → r ≡ length (follow a p)
+  both_long r k = k ∙ omega (arith, ap length (follow_append a p), length-append a p)
+
+  pub both_laid : (y y1 y2 : List ℕ) → n + length p ≤ length y → y1 ≡ lay 0 a y → y2 ≡ lay n p y1 → y2 ≡ lay 0 (follow a p) y
+  both_laid y y1 y2 h f g = rw (follow_append a p) (g ∙ ap (lay n p) f ∙ lay_lay 0 n a p y (omega arith) h)
+
+pub sent_length : (a : List ℕ) (code : ℕ) (s : List ℕ) → length a ≡ 4 → code ≤ highest_size → length s ≡ page_bytes → length (data_packets a (size_of code) s) ≤ upload_bytes
+sent_length a code s h l m = omega (arith, length_data a (size_of code) s (sizes code l) h m)

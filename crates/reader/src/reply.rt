@@ -1,12 +1,13 @@
 // What an answer writes into the reply room: the acknowledge, and a buffer's bytes in data packets of one size.
-ghost use Rattle.std.specs.Prelude.{◌≡◌, true, ◌+◌, ◌≤◌, length};
-ghost use Rattle.protocol.specs.Numbers.{page_bytes, frame_bytes, reply_room, highest_size};
-ghost use Rattle.protocol.specs.Bytes.{lay};
+ghost use Rattle.std.specs.Prelude.{◌≡◌, true, [], ◌+◌, ◌≤◌, length};
+ghost use Rattle.protocol.specs.Numbers.{page_bytes, frame_bytes, reply_room, highest_size, done};
+ghost use Rattle.protocol.specs.Bytes.{lay, follow};
 ghost use Rattle.protocol.specs.Codes.{code_number};
 ghost use Rattle.protocol.specs.Packet.{length_of, packet, accepts};
 ghost use Rattle.protocol.specs.Reader.{size_of};
 ghost use Rattle.protocol.specs.Data.{acknowledge, data_packets};
 ghost use Rattle.reader.specs.Answers.{spoken_of, listed_bytes, upload_bytes};
+ghost use Rattle.reader.specs.Buffers.{buffer_number, chosen_of};
 
 use crate::answers::Answer;
 use crate::buffers::Buffer;
@@ -41,7 +42,7 @@ fn put_acknowledge<const N: usize>(
     ensures length { result ≡ length (acknowledge address (code_number code) bytes.entry) }
     ensures written { reply.new ≡ lay 0 (acknowledge address (code_number code) bytes.entry) reply.old }
 {
-    let mut content = [0u8; 33];
+    let mut content = [0; numbers::NOTE + 1];
     content[0] = u8::from(code);
     content[1..N + 1].copy_from_slice(&bytes);
     put_packet(
@@ -77,7 +78,28 @@ fn put_data(settings: Settings, bytes: &[u8], at: usize, reply: &mut [u8]) -> us
     end
 }
 
+// Writes an acknowledge of 00h at the front of the reply room, and a buffer in data packets behind it, and returns their length.
+fn put_upload(settings: Settings, bytes: &[u8], reply: &mut [u8]) -> usize
+    requires legal { settings.size ≤ highest_size }
+    requires page { length bytes.now ≡ page_bytes }
+    requires room { reply_room ≤ length reply.old }
+    ensures length { result ≡ length (follow (acknowledge settings.address done []) (data_packets settings.address (size_of settings.size) bytes.now)) }
+    ensures written { reply.new ≡ lay 0 (follow (acknowledge settings.address done []) (data_packets settings.address (size_of settings.size) bytes.now)) reply.old }
+{
+    let at = put_acknowledge(settings.address, Code::Done, [], reply);
+    put_data(settings, bytes, at, reply)
+}
+
 impl Sound<'_> {
+    fn bytes_of(&self, buffer: Buffer) -> &[u8]
+        ensures { result.now ≡ chosen_of (buffer_number buffer) self.now.buffer1.now self.now.buffer2.now }
+    {
+        match buffer {
+            Buffer::First => &*self.buffer1,
+            Buffer::Second => &*self.buffer2,
+        }
+    }
+
     // Writes what an answer says at the front of the reply room, and returns its length.
     pub(crate) fn speak(&self, answer: Answer, reply: &mut [u8]) -> usize
         requires { reply_room ≤ length reply.old }
@@ -92,13 +114,7 @@ impl Sound<'_> {
             Answer::Match(code, bytes) => put_acknowledge(address, code, bytes, reply),
             Answer::Parameters(bytes) => put_acknowledge(address, Code::Done, bytes, reply),
             Answer::Page(bytes) => put_acknowledge(address, Code::Done, bytes, reply),
-            Answer::Upload(buffer) => {
-                let end = put_acknowledge(address, Code::Done, [], reply);
-                match buffer {
-                    Buffer::First => put_data(*self.settings, &*self.buffer1, end, reply),
-                    Buffer::Second => put_data(*self.settings, &*self.buffer2, end, reply),
-                }
-            }
+            Answer::Upload(buffer) => put_upload(*self.settings, self.bytes_of(buffer), reply),
         }
     }
 }
