@@ -3,4 +3,5 @@
 
 mod answers;
 mod buffers;
+mod fields;
 pub mod memory;
