@@ -3,4 +3,6 @@
 
 mod answers;
 mod buffers;
+mod keys;
 pub mod memory;
+mod transfer;
