@@ -1,8 +1,9 @@
 -- Legal settings with one thing changed stay so.
 use mathlib.Core.Path.{◌≡◌}
-use mathlib.Core.Bool.{true, false}
+use mathlib.Core.Bool.{Bool, true, false}
 use mathlib.Core.List.{List}
 use Prim.Native.Nat.{ℕ, ◌≤◌}
+use mir.Val.{bool_byte}
 use Rattle.protocol.specs.declared.Settings.{Settings}
 use Rattle.protocol.specs.Numbers.{highest_size}
 use Rattle.protocol.specs.Records.{fit_mark, marks_of}
@@ -27,3 +28,8 @@ module _ (s q : Settings) (l : Legal s) where
   pub found_legal : (v : ℕ) → q ≡ with_found v s → fit_mark v ≡ true → Legal q
   found_legal v e f =
       rw e record { size = l.size; which = l.which; none = l.none; marks = fit_marks_lem s.verified s.filled1 s.filled2 v (fit_verified (marks_of s) l.marks) (fit_filled1 (marks_of s) l.marks) (fit_filled2 (marks_of s) l.marks) f }
+
+-- a truth as a mark
+pub truth_fit : (b : Bool) → fit_mark (bool_byte b) ≡ true
+truth_fit true = fit_mark_lem true
+truth_fit false = fit_mark_lem false
