@@ -4,3 +4,4 @@
 mod answers;
 mod buffers;
 pub mod memory;
+mod pages;
