@@ -153,3 +153,13 @@ module _ (s q : Settings) (l : Legal s) (p : ℕ) (h : p < no_page) (t i m b c x
   pub second_loaded : q ≡ with_held 2 1 p s → reader_of q t i m b x ≡ with_numbered 2 (loaded_from p (part (page_bytes * p) page_bytes t)) (reader_of s t i m b c)
   unfolding changed loaded_from
   second_loaded e = rw (page_origin p h) at (held_reader 2 1 p s q e l (fit_mark_lem true) (λ (y : List ℕ). part (page_bytes * p) page_bytes t) t i m b c b x (rw z refl))
+
+-- ---- and the transfer moved
+
+pub moved_legal : (w k : ℕ) (s q : Settings) → q ≡ with_transfer w k s → w ≤ 2 → (w ≡ 0 → k ≡ 0) → Legal s → Legal q
+moved_legal w k s q e h n l = rw e record { size = l.size; which = h; none = n; marks = l.marks }
+
+pub moved_reader : (w k : ℕ) (v : Transfer) (s q : Settings) (t i m b c : List ℕ) → q ≡ with_transfer w k s → transfer_of (marks_of s) w k ≡ v
+    → reader_of q t i m b c ≡ reader (readers.with_transfer v (plain_of s)) (reader_of s t i m b c).guarded
+unfolding readers.with_transfer
+moved_reader w k v s q t i m b c e f = rw (e, f) refl

@@ -6,7 +6,7 @@ use Rattle.protocol.specs.Bytes.{zeros}
 use Rattle.protocol.proofs.Laws.Marks.{fit_mark_lem}
 use Rattle.reader.proofs.ByNumber.{held_legal, first_emptied, second_emptied}
 use Rattle.reader.proofs.memory.Sound.empty_buffer.Goals as goal
-use mathlib.Core.Bool.{true, false}
+use mathlib.Core.Bool.{false}
 
 pub invariant_of-self : goal.invariant_of-self
 invariant_of-self c = let f = fit_mark_lem false in search held_legal

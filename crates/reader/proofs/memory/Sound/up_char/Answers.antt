@@ -1,6 +1,5 @@
 -- A number that names no buffer, a buffer that is not filled, and one that is.
-use mathlib.Core.Path.{◌≡◌, refl, sym, ◌∙◌}
-use mathlib.Core.Bool.{false}
+use mathlib.Core.Path.{refl}
 use Rattle.protocol.specs.declared.codes.Code.TheVariants.{BadPacket, NothingToSend}
 use Rattle.protocol.specs.Tests.{verdict}
 use Rattle.protocol.specs.Table.{rule, apply}
