@@ -4,4 +4,5 @@
 mod answers;
 mod buffers;
 pub mod memory;
+mod origins;
 mod pages;
