@@ -5,4 +5,6 @@ mod answers;
 mod buffers;
 mod keys;
 pub mod memory;
+mod origins;
+mod pages;
 mod transfer;
