@@ -120,7 +120,6 @@ held_fit k on a s l f =
 pub beside_held : (k on a : ℕ) (s : Settings) → Legal s → fit_mark on ≡ true → transfer_of (marks_of (with_held k on a s)) s.transfer s.got ≡ transfer_of (marks_of s) s.transfer s.got
 beside_held k on a s l f = beside s l (with_held k on a s) (held_fit k on a s l f)
 
-
 -- legal settings stay so
 pub held_legal : (n on o : ℕ) (s q : Settings) → q ≡ with_held n on o s → Legal s → fit_mark on ≡ true → Legal q
 held_legal n on o s q e l f = rw e record { size = l.size; which = l.which; none = l.none; marks = held_fit n on o s l f }

@@ -3,7 +3,7 @@ use Rattle.std.specs.Prelude.{Bool, cond, List, ◌≡◌, ℕ, ◌/◌, eqb, le
 use Rattle.protocol.specs.declared.Settings.{Settings}
 use Rattle.protocol.specs.declared.codes.Code.{Code}
 use Rattle.protocol.specs.Numbers.{page_bytes}
-use Rattle.protocol.specs.Reader.{Buffer, with_buffer, reader}
+use Rattle.protocol.specs.Reader.{Buffer, buffer_of, with_buffer, without, without_pages, reader}
 use Rattle.protocol.specs.Reader as readers
 use Rattle.protocol.specs.Search as searches
 use Rattle.protocol.specs.Commands.{Free, Barred}
@@ -29,6 +29,10 @@ chip_at x = chip_of x.scores.now x.thresholds.now
 abbrev pub filled_of : ℕ → Sound → Bool
 filled_of n r = cond (eqb n 2) (is_set r.settings.now.filled2) (is_set r.settings.now.filled1)
 
+-- the number of a buffer's origin, by its number
+abbrev pub origin_in : ℕ → Sound → ℕ
+origin_in n r = cond (eqb n 2) r.settings.now.origin2 r.settings.now.origin1
+
 -- a call writes through the references that it is lent, and puts no other in their place
 pub record Same (x y : Reader) : Type 0 where
   pub settings : y.settings.ghost_name ≡ x.settings.ghost_name
@@ -52,6 +56,13 @@ pub record Kept (x y : Sound) : Type 0 where
 
 abbrev pub with_numbered : ℕ → Buffer → readers.Reader → readers.Reader
 with_numbered n b r = reader r.plain (with_buffer (eqb n 2) b r.guarded)
+
+-- these pages are deleted: what a buffer, by its number, and what both then are
+abbrev pub without_numbered : ℕ → (ℕ → Bool) → readers.Reader → readers.Reader
+without_numbered n pages r = with_numbered n (without pages (buffer_of (eqb n 2) r.guarded)) r
+
+abbrev pub without_all : (ℕ → Bool) → readers.Reader → readers.Reader
+without_all pages r = reader r.plain (without_pages pages r.guarded)
 
 -- ---- a command carried out: what it says and leaves is its row's
 

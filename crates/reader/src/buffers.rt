@@ -101,9 +101,10 @@ impl Sound<'_> {
             (loaded_from page (part (page_bytes * page) page_bytes self.old.templates.now)) (reader_in self.old) }
     {
         *self.settings = hold(*self.settings, buffer, 1, page as u16);
+        let templates = &mut *self.templates;
         match buffer {
-            Buffer::First => pages::read_page(self.buffer1, &*self.templates, page),
-            Buffer::Second => pages::read_page(self.buffer2, &*self.templates, page),
+            Buffer::First => pages::read_page(self.buffer1, templates, page),
+            Buffer::Second => pages::read_page(self.buffer2, templates, page),
         }
     }
 

@@ -7,11 +7,11 @@ use Prim.Native.Nat.{ℕ}
 use lib.Dec.{eqb}
 use borrow.Author.Tests.{eqb-true}
 use Rattle.protocol.specs.declared.Settings.{Settings}
-use Rattle.protocol.specs.declared.Called.{Called}
-use Rattle.protocol.specs.declared.Switched.{Switched}
+use Rattle.protocol.specs.Records.{Called}
+use Rattle.protocol.specs.Records.{Switched}
 use Rattle.protocol.specs.declared.Built.{Built}
-use Rattle.protocol.specs.declared.Received.{Received}
-use Rattle.protocol.specs.declared.Emptied.{Emptied}
+use Rattle.protocol.specs.Records.{Received}
+use Rattle.protocol.specs.Records.{Emptied}
 use Rattle.protocol.specs.Numbers.{no_page}
 use Rattle.protocol.specs.Packet.{Made}
 use Rattle.protocol.specs.BringOver.{Brought}

@@ -25,7 +25,7 @@ returns-then-not-is_filled c =
 
 pub returns : goal.returns
 unfolding rule verdict buffer_of carry carry_as apply
-returns c = 
+returns c =
     let f = c.in_ok-buffer.ensures in
     let h = c.if-not-is_filled.ensures in
     rw (f.1, chosen_filled, f.0, ← h, chosen_bytes) refl
