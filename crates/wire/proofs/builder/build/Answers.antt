@@ -3,11 +3,12 @@ use Rattle.std.proofs.Common.{◌≡◌, ℕ, ◌+◌, ◌<◌, ◌≤◌, Bool,
 use borrow.Author.Tests.{lt-leb}
 use Rattle.protocol.specs.declared.Built.{Built}
 use Rattle.protocol.specs.Numbers.{frame_bytes, four_bytes, bad_room, bad_content}
+use Rattle.protocol.specs.Bytes.{lay}
 use Rattle.protocol.specs.Tests.{verdict}
 use Rattle.protocol.specs.Packet.{length_of, accepts, packet, build_of, build_refusal, build_as}
 use Rattle.protocol.specs.Records.{made_of}
 use Rattle.protocol.proofs.Laws.Finder.{length_packet, longest_word, too_long}
-use Rattle.wire.specs.Laying.{Laid, built}
+use Rattle.wire.specs.Laying.{built}
 use Rattle.wire.proofs.builder.build.Goals as goal
 
 -- the content c for the room d, b what is returned
@@ -28,9 +29,9 @@ module _ (a : List ℕ) (i : ℕ) (c d : List ℕ) (b : Built) where
     no_room y h e = rw (e, ← f, y, lt-leb _ _ h)
 
     made : (n : ℕ) (x : List ℕ) → fit ≡ true → length c + frame_bytes ≤ length d → length a ≡ four_bytes
-        → Laid (length c + frame_bytes) 0 (packet a i c) d n x → b ≡ built 0 n → made_of b x ≡ build_of a i c d
+        → n ≡ length c + frame_bytes → x ≡ lay 0 (packet a i c) d → b ≡ built 0 n → made_of b x ≡ build_of a i c d
     unfolding build_of build_refusal build_as verdict
-    made n x y h l k e = rw (e, k.laid, k.given, ← f, y, le-leb _ _ h, length_packet a i c l)
+    made n x y h l g k e = rw (e, k, g, ← f, y, le-leb _ _ h, length_packet a i c l)
 
 pub returns-then-n-gt65535 : goal.returns-then-n-gt65535
 returns-then-n-gt65535 c = search far_too_long
