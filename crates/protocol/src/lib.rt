@@ -3,6 +3,7 @@
 
 pub mod codes;
 pub mod command_codes;
+pub mod identifiers;
 pub mod numbers;
 pub mod refusals;
 

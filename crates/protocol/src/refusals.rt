@@ -1,4 +1,33 @@
-// The numbers that a caller gets back, each named once; specs/Numbers.antt has them for the definitions.
+// Why a call is refused. A caller in C gets the number, which specs/Numbers.antt names for the definitions, and 0 for a call that is carried out.
+ghost use Rattle.std.specs.Prelude.{◌≡◌};
+ghost use Rattle.protocol.specs.Codes.{refusal_number, refusal_of};
+
+#[derive(Clone, Copy, Debug, PartialEq, Eq)]
+pub enum Refusal {
+    BadLength = 1,
+    BadRoom = 2,
+    BadSetting = 3,
+    BadContent = 4,
+}
+
+impl From<Refusal> for u8 {
+    ghost from_gives = { λ refusal number. number ≡ refusal_number refusal };
+
+    fn from(refusal: Refusal) -> u8 {
+        refusal as u8
+    }
+}
+
+/// The number for a caller in C.
+pub fn refusal_of<T>(outcome: &Result<T, Refusal>) -> u8
+    ensures { result ≡ refusal_of outcome.now }
+{
+    match outcome {
+        Ok(_) => 0,
+        Err(refusal) => u8::from(*refusal),
+    }
+}
+
 pub const ACCEPTED: u8 = 0;
 
 pub const BAD_LENGTH: u8 = 1;
