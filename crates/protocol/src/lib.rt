@@ -7,16 +7,9 @@ pub mod identifiers;
 pub mod numbers;
 pub mod refusals;
 
-// The first place with EF followed by 01 (step 1 of finding).
-#[derive(Clone, Copy)]
-pub enum Start {
-    Nowhere,
-    At { place: usize },
-}
-
 // What stands in a run (steps 1 to 4): nothing that starts a packet; one that is not all there yet; a start that no packet has;
 // or a whole packet, with its place and its length field.
-#[derive(Clone, Copy)]
+#[derive(Clone, Copy, Debug, PartialEq, Eq)]
 pub enum Found {
     Noise { used: usize },
     Unfinished { at: usize },

@@ -16,9 +16,9 @@ unfolding lay
 put_mid-lay i k d x s e h = rw (e, h, drop-drop)
 
 -- the bytes of the number that is cut to 16 bits
-pub word-two : (n : ℕ) → to_be_bytes w16 (n % 65536) ≡ two n
+pub word_two : (n : ℕ) → to_be_bytes w16 (n % 65536) ≡ two n
 unfolding two
-word-two n =
+word_two n =
     let high : n % 65536 / 256 % 256 ≡ n / 256 % 256 = omega arith in
     let low : n % 65536 % 256 ≡ n % 256 = omega arith in
     rw (high, low)

@@ -25,4 +25,3 @@ same_four a b x y la lb ha hb ex ey = go (same a b) refl
     go : (t : Bool) → same a b ≡ t → eqb x y ≡ t
     go true e = eq-eqb x y (ex ∙ ap (from_le_bytes w32) (same_eq a b e) ∙ sym ey)
     go false e = ne_eqb x y (λ k. absurd (true≢false (sym (same_of a b (sym (le_bytes_4 a x la ha ex) ∙ ap (to_le_bytes w32) k ∙ le_bytes_4 b y lb hb ey)) ∙ e)))
-

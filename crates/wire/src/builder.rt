@@ -10,6 +10,7 @@ use crate::{bytes, finder};
 use protocol::{Built, numbers, refusals};
 
 // A number as two bytes, high byte first.
+#[tactic(auto, using(crate::proofs::Packets::word_two))]
 fn word_of(n: usize) -> [u8; 2]
     ensures { result ≡ two n }
 {
@@ -17,6 +18,7 @@ fn word_of(n: usize) -> [u8; 2]
 }
 
 // The nine bytes before a packet's content, n its length field.
+#[tactic(auto, using(crate::proofs::Packets::head_list))]
 fn head_of(address: [u8; 4], identifier: u8, n: usize) -> [u8; numbers::HEAD]
     ensures { result ≡ head_of address identifier n }
 {
@@ -45,6 +47,7 @@ pub fn packet_sum(identifier: u8, content: &[u8]) -> usize
 }
 
 // A packet at the front of the room, and its length.
+#[tactic(auto, using(crate::proofs::Packets::pieces))]
 fn lay_packet(room: &mut [u8], address: [u8; 4], identifier: u8, content: &[u8]) -> usize
     requires { length content.now + frame_bytes ≤ length room.old }
     ensures given { result ≡ length content.now + frame_bytes }

@@ -5,14 +5,16 @@ ghost use Rattle.wire.specs.Laying.{lay_front};
 
 // A byte as a number.
 pub fn wide(x: u8) -> usize
-    ensures { (result ≡ x) × (result < 256) }
+    ensures value { result ≡ x }
+    ensures small { result < 256 }
 {
     usize::from(x)
 }
 
 // The number of two bytes.
 pub fn word(high: u8, low: u8) -> usize
-    ensures { (result ≡ high * 256 + low) × (result < 65536) }
+    ensures value { result ≡ high * 256 + low }
+    ensures small { result < 65536 }
 {
     usize::from(u16::from_be_bytes([high, low]))
 }
@@ -28,7 +30,8 @@ pub fn flag(on: bool) -> u8
 pub fn sum(s: &[u8]) -> u16
     ensures { result ≡ total s.now % 65536 }
 {
-    s.iter().fold(0, |acc: u16, &x| acc.wrapping_add(u16::from(x)))
+    s.iter()
+        .fold(0, |acc: u16, &x| acc.wrapping_add(u16::from(x)))
 }
 
 // Whether two words of four bytes are the same. Each is compared as one number: every byte is looked at, whatever the others are.
