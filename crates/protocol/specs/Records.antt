@@ -1,15 +1,16 @@
 -- From the code's records and lent memory to the reader and the outcomes of the definitions. Different records give different readers.
-use Rattle.std.specs.Prelude.{Bool, false, ◌&&◌, cond, List, [], ℕ, eqb, ltb}
+use Rattle.std.specs.Prelude.{Bool, false, ◌&&◌, cond, List, [], ℕ, eqb, ltb, Result, Ok, Err}
 use Rattle.protocol.specs.declared.Settings.{Settings}
 use Rattle.protocol.specs.declared.Called.{Called}
 use Rattle.protocol.specs.declared.Answered.{Answered}
 use Rattle.protocol.specs.declared.Switched.{Switched}
-use Rattle.protocol.specs.declared.Built.{Built}
+use Rattle.protocol.specs.declared.refusals.Refusal.{Refusal}
 use Rattle.protocol.specs.declared.Line.{Line}
 use Rattle.protocol.specs.declared.Received.{Received}
 use Rattle.protocol.specs.declared.Taken.{Taken}
 use Rattle.protocol.specs.declared.Emptied.{Emptied}
 use Rattle.protocol.specs.Numbers.{no_page}
+use Rattle.protocol.specs.Codes.{refusal_number}
 use Rattle.protocol.specs.Packet.{Made}
 use Rattle.protocol.specs.BringOver.{Brought}
 use Rattle.protocol.specs.Reader.{Marks, Transfer, closed, opened, unfit, Plain, Origin, no_origin, from_page, Buffer, Reader, settings, fresh, contents, reader}
@@ -119,6 +120,15 @@ emptied_at x refusal = record { line = x; refusal = refusal }
 -- fresh settings have their filled marks and status bit 1 clear too, and no origins
 abbrev pub fresh_of : List ℕ → List ℕ → List ℕ → List ℕ → List ℕ → Reader
 fresh_of t i n b d = reader fresh (contents t i n (buffer b false no_page) (buffer d false no_page) false)
+
+-- what the builder returns: the refusal or 0, and the packet's length
+pub record Built : Type 0 where
+  pub refusal : ℕ
+  pub length : ℕ
+
+abbrev pub built_of : Result ℕ Refusal → Built
+built_of (Ok n) = record { refusal = 0; length = n }
+built_of (Err e) = record { refusal = refusal_number e; length = 0 }
 
 abbrev pub made_of : Built → List ℕ → Made
 made_of b room = record { refusal = b.refusal; length = b.length; room = room }

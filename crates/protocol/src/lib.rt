@@ -71,13 +71,6 @@ pub struct Switched {
     pub refusal: u8,
 }
 
-// What the builder returns: the refusal or 0, and the packet's length.
-#[derive(Clone, Copy)]
-pub struct Built {
-    pub refusal: u8,
-    pub length: usize,
-}
-
 // The bytes that are held between calls: the first `count` cells. The spare byte means nothing; every call that is not refused leaves it 0.
 #[repr(C)]
 #[derive(Clone, Copy)]

@@ -1,57 +1,35 @@
 -- What is written into the reply room: one packet, data packets of one size, and an acknowledge with them behind it.
-use mathlib.Core.Path.{◌≡◌, refl, sym, ap, ◌∙◌}
+use mathlib.Core.Path.{◌≡◌, sym, ap, ◌∙◌}
 use mathlib.Core.Bool.{Bool, true, false, cond}
 use mathlib.Core.List.{List, ◌∷◌, append-nil}
 use Prim.Native.Nat.{ℕ, zero, suc, ◌+◌, ◌-◌, ◌*◌, ◌/◌, ◌≤◌, ◌<◌}
 use native.Mathlib.Nat.{suc-mul, not-suc-le-zero}
 use native.Mathlib.Omega.{arith}
-use lib.Dec.{T, eqb}
+use lib.Dec.{eqb}
 use lib.ListN.{length, take, drop, set, replicate, length-append, length-take, length-drop}
 use lib.Seq.{drop-drop, length-take-le}
-use borrow.Author.Tests.{le-leb}
 use borrow.Rule.Slice.PartMut.{put_mid}
-use Rattle.protocol.specs.declared.Built.{Built}
 use Rattle.protocol.specs.Reader.{size_of}
-use Rattle.protocol.specs.Numbers.{page_bytes, highest_size, frame_bytes, acknowledge_packet, data_packet, last_packet}
+use Rattle.protocol.specs.Numbers.{page_bytes, highest_size, frame_bytes, data_packet, last_packet}
 use Rattle.protocol.specs.Bytes.{lay, follow, joined}
-use Rattle.protocol.specs.Tests.{verdict}
-use Rattle.protocol.specs.Packet.{length_of, packet, is_identifier, limit, accepts, Made, build_refusal, build_as, build_of}
+use Rattle.protocol.specs.Packet.{packet, accepts}
 use Rattle.protocol.specs.Data.{acknowledge, packets, data_packets}
-use Rattle.protocol.specs.Records.{made_of}
 use Rattle.protocol.proofs.Laws.Logic.{T→true}
 use Rattle.protocol.proofs.Laws.Lists.{follow_append, lay_lay, lay_whole}
-use Rattle.protocol.proofs.Laws.Finder.{length_packet, accepts_of}
+use Rattle.protocol.proofs.Laws.Finder.{length_packet}
 use Rattle.protocol.proofs.Laws.Sizes.{Size, sizes, length_packets, length_data}
 use Rattle.library.proofs.Parts.{part_laid}
 use Rattle.reader.specs.Answers.{listed_bytes, upload_bytes}
 
--- ---- a packet that the builder does not refuse
+-- ---- a packet in a part that is as long as it
 
--- an acknowledge: a code, and listed bytes behind it
-pub accepted : (c : List ℕ) → 1 ≤ length c → length c ≤ 1 + listed_bytes → T (accepts acknowledge_packet (length_of c))
-unfolding is_identifier limit
-accepted c l h = accepts_of acknowledge_packet (length_of c) tt (omega arith) (omega arith)
-
-pub build_laid : (a : List ℕ) (i : ℕ) (c room : List ℕ) → T (accepts i (length_of c)) → length c + frame_bytes ≤ length room
-    → build_of a i c room ≡ record { refusal = 0; length = length (packet a i c); room = lay 0 (packet a i c) room }
-unfolding build_of build_refusal build_as verdict
-build_laid a i c room t h = rw (T→true (accepts i (length_of c)) t, le-leb (length c + frame_bytes) (length room) h) refl
-
--- at the front of a room
-pub front_packet : (a : List ℕ) (i : ℕ) (c room ys : List ℕ) (m : Built) → length a ≡ 4 → T (accepts i (length_of c)) → length c + frame_bytes ≤ length room
-    → made_of m ys ≡ build_of a i c room → (m.length ≡ length c + frame_bytes) × (ys ≡ lay 0 (packet a i c) room)
-front_packet a i c room ys m e t h f =
-    let g = f ∙ build_laid a i c room t h in
-    (ap (λ (x : Made). x.length) g ∙ length_packet a i c e, ap (λ (x : Made). x.room) g)
-
--- in a part as long as the packet
-pub part_packet : (a : List ℕ) (i : ℕ) (c xs ys : List ℕ) (m : Built) (at : ℕ) → length a ≡ 4 → T (accepts i (length_of c)) → at + length c + frame_bytes ≤ length xs
-    → made_of m ys ≡ build_of a i c (take (at + length c + frame_bytes - at) (drop at xs)) → put_mid at (at + length c + frame_bytes - at) xs ys ≡ lay at (packet a i c) xs
-part_packet a i c xs ys m at e t h f =
+pub part_packet : (a : List ℕ) (i : ℕ) (c xs ys : List ℕ) (at : ℕ) → length a ≡ 4 → at + length c + frame_bytes ≤ length xs
+    → ys ≡ lay 0 (packet a i c) (take (at + length c + frame_bytes - at) (drop at xs)) → put_mid at (at + length c + frame_bytes - at) xs ys ≡ lay at (packet a i c) xs
+part_packet a i c xs ys at e h f =
     let room : List ℕ = take (at + length c + frame_bytes - at) (drop at xs) in
     let long : length room ≡ length c + frame_bytes = simp (length-take, length-drop) (omega arith) in
     let p : length (packet a i c) ≡ length c + frame_bytes = length_packet a i c e in
-    let laid : ys ≡ packet a i c = (front_packet a i c room ys m e t (omega arith) f).1 ∙ lay_whole (packet a i c) room (omega arith) in
+    let laid : ys ≡ packet a i c = f ∙ lay_whole (packet a i c) room (omega arith) in
     rw laid (part_laid at (at + length c + frame_bytes) xs (packet a i c) (omega arith) (omega arith))
 
 -- ---- a code and 32 bytes

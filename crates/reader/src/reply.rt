@@ -34,26 +34,20 @@ fn put_acknowledge(a: Answer, reply: &mut [u8]) -> usize
     let s = a.settings;
     let address = s.address;
     if n == 0 {
-        let alone = [a.code];
-        let made = builder::build(address, numbers::ACKNOWLEDGE_PACKET, &alone, reply);
-        return made.length;
+        return builder::lay_packet(address, numbers::ACKNOWLEDGE_PACKET, &[a.code], reply);
     }
     let bytes = a.bytes;
     if n == 2 {
-        let high = bytes[0];
-        let low = bytes[1];
-        let word = [a.code, high, low];
-        let made = builder::build(address, numbers::ACKNOWLEDGE_PACKET, &word, reply);
-        return made.length;
+        let word = [a.code, bytes[0], bytes[1]];
+        return builder::lay_packet(address, numbers::ACKNOWLEDGE_PACKET, &word, reply);
     }
     let content = content_of(a.code, bytes);
-    let made = builder::build(
+    builder::lay_packet(
         address,
         numbers::ACKNOWLEDGE_PACKET,
         &content[..n + 1],
         reply,
-    );
-    made.length
+    )
 }
 
 fn data_identifier(left: usize) -> u8
@@ -81,8 +75,7 @@ fn put_packet(
         × (reply.new ≡ lay at (packet address identifier content.now) reply.old) }
 {
     let e = at + content.len() + numbers::FRAME;
-    builder::build(address, identifier, content, &mut reply[at..e]);
-    e
+    at + builder::lay_packet(address, identifier, content, &mut reply[at..e])
 }
 
 // Writes count data packets of one size into the reply room from place at on.

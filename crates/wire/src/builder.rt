@@ -3,11 +3,12 @@ ghost use Rattle.std.specs.Prelude.{◌≡◌, ◌+◌, ◌≤◌, length};
 ghost use Rattle.protocol.specs.Numbers.{head_bytes, frame_bytes};
 ghost use Rattle.protocol.specs.Bytes.{two, lay};
 ghost use Rattle.protocol.specs.Packet.{sum_of, packet, build_of};
-ghost use Rattle.protocol.specs.Records.{made_of};
-ghost use Rattle.wire.specs.Laying.{head_of, built};
+ghost use Rattle.protocol.specs.Records.{built_of, made_of};
+ghost use Rattle.wire.specs.Laying.{head_of};
 
 use crate::{bytes, finder};
-use protocol::{Built, numbers, refusals};
+use protocol::numbers;
+use protocol::refusals::Refusal;
 
 // A number as two bytes, high byte first.
 #[tactic(auto, using(crate::proofs::Packets::word_two))]
@@ -48,9 +49,9 @@ pub fn packet_sum(identifier: u8, content: &[u8]) -> usize
 
 // A packet at the front of the room, and its length.
 #[tactic(auto, using(crate::proofs::Packets::pieces))]
-fn lay_packet(room: &mut [u8], address: [u8; 4], identifier: u8, content: &[u8]) -> usize
+pub fn lay_packet(address: [u8; 4], identifier: u8, content: &[u8], room: &mut [u8]) -> usize
     requires { length content.now + frame_bytes ≤ length room.old }
-    ensures given { result ≡ length content.now + frame_bytes }
+    ensures len { result ≡ length content.now + frame_bytes }
     ensures laid { room.new ≡ lay 0 (packet address identifier content.now) room.old }
 {
     let n = content.len() + 2;
@@ -61,30 +62,21 @@ fn lay_packet(room: &mut [u8], address: [u8; 4], identifier: u8, content: &[u8])
     end + 2
 }
 
-fn built_of(refusal: u8, length: usize) -> Built
-    ensures { result ≡ built refusal length }
-{
-    Built { refusal, length }
-}
-
-// Builds a packet at the front of the room. Refusal 4: identifier or content; then 2: the room is too short.
-pub fn build(address: [u8; 4], identifier: u8, content: &[u8], room: &mut [u8]) -> Built
-    ensures { made_of result room.new
+// Builds a packet at the front of the room, where identifier and content are a packet's and the room is long enough, in this order.
+pub fn build(
+    address: [u8; 4],
+    identifier: u8,
+    content: &[u8],
+    room: &mut [u8],
+) -> Result<usize, Refusal>
+    ensures { made_of (built_of result) room.new
         ≡ build_of address identifier content.now room.old }
 {
-    let n = content.len();
-    if 65535 < n {
-        return built_of(refusals::BAD_CONTENT, 0);
+    if !finder::is_head(identifier, content.len() + 2) {
+        return Err(Refusal::BadContent);
     }
-    let fit = finder::is_head(identifier, n + 2);
-    if fit {
-        if room.len() < n + numbers::FRAME {
-            return built_of(refusals::BAD_ROOM, 0);
-        }
-        return built_of(
-            refusals::ACCEPTED,
-            lay_packet(room, address, identifier, content),
-        );
+    if room.len() < content.len() + numbers::FRAME {
+        return Err(Refusal::BadRoom);
     }
-    built_of(refusals::BAD_CONTENT, 0)
+    Ok(lay_packet(address, identifier, content, room))
 }

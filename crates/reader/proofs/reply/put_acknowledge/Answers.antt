@@ -4,35 +4,25 @@ use mathlib.Core.List.{List, [], ◌∷◌}
 use Prim.Native.Nat.{ℕ, ◌+◌, ◌≤◌}
 use native.Mathlib.Omega.{arith}
 use lib.ListN.{length, get_or, take}
-use Rattle.protocol.specs.declared.Built.{Built}
-use Rattle.protocol.specs.Numbers.{four_bytes, frame_bytes, reply_room, acknowledge_packet}
+use Rattle.protocol.specs.Numbers.{frame_bytes, acknowledge_packet}
 use Rattle.protocol.specs.Bytes.{lay}
-use Rattle.protocol.specs.Packet.{packet, build_of}
+use Rattle.protocol.specs.Packet.{packet}
 use Rattle.protocol.specs.Data.{acknowledge}
-use Rattle.protocol.specs.Records.{made_of}
 use Rattle.reader.specs.declared.answers.Answer.{Answer}
 use Rattle.reader.specs.Answers.{listed_bytes}
-use Rattle.reader.proofs.Replies.{accepted, front_packet}
 use lib.Seq.{length-take-le}
 use native.Mathlib.Numerals.{add-one}
 use borrow.Author.Rules.{rules}
 use Rattle.reader.proofs.reply.put_acknowledge.Goals as goal
 
-module _ (a : Answer) (y y' : List ℕ) (m : Built) (four : length a.settings.address ≡ four_bytes) (all : length a.bytes ≡ listed_bytes) (few : a.count ≤ listed_bytes) (room : reply_room ≤ length y) where
+module _ (a : Answer) (all : length a.bytes ≡ listed_bytes) (few : a.count ≤ listed_bytes) (x : List ℕ) (f : x ≡ a.code ∷ take a.count a.bytes) where
   -- a content that is the code and the bytes
-  module _ (x : List ℕ) (f : x ≡ a.code ∷ take a.count a.bytes) (e : made_of m y' ≡ build_of a.settings.address acknowledge_packet x y) where
-    bytes : length x ≡ a.count + 1
-    bytes = ap length f ∙ omega (arith, length-take-le a.count a.bytes (omega arith))
+  long : (r : ℕ) → r ≡ length x + frame_bytes → r ≡ a.count + 1 + frame_bytes
+  long r e = let bytes : length x ≡ a.count + 1 = ap length f ∙ omega (arith, length-take-le a.count a.bytes (omega arith)) in omega arith
 
-    front : (m.length ≡ length x + frame_bytes) × (y' ≡ lay 0 (packet a.settings.address acknowledge_packet x) y)
-    front = front_packet a.settings.address acknowledge_packet x y y' m four (accepted x (omega (arith, bytes)) (omega (arith, bytes))) (omega (arith, bytes)) e
-
-    long : m.length ≡ a.count + 1 + frame_bytes
-    long = front.0 ∙ omega (arith, bytes)
-
-    laid : y' ≡ lay 0 (acknowledge a.settings.address a.code (take a.count a.bytes)) y
-    unfolding acknowledge
-    laid = rw f at front.1
+  laid : (y y' : List ℕ) → y' ≡ lay 0 (packet a.settings.address acknowledge_packet x) y → y' ≡ lay 0 (acknowledge a.settings.address a.code (take a.count a.bytes)) y
+  unfolding acknowledge
+  laid y y' e = rw f at e
 
 -- no byte, two, and any number of them
 module _ (k n : ℕ) (w : List ℕ) where
@@ -51,13 +41,13 @@ module _ (k n : ℕ) (w : List ℕ) where
   some x f = rw (f, add-one) refl
 
 pub returns-then-n-eq0 : goal.returns-then-n-eq0
-returns-then-n-eq0 c = let f : length c.args.a.settings.address ≡ four_bytes = search (rules, c.well_formed) in let h : length c.args.a.bytes ≡ listed_bytes = search (rules, c.well_formed) in let p = c.requires in (search (long, alone), search (laid, alone))
+returns-then-n-eq0 c = let h : length c.args.a.bytes ≡ listed_bytes = search (rules, c.well_formed) in let p = c.requires in let l = c.lay_packet.ensures in (search (long, alone), search (laid, alone))
 
 pub returns-then-n-eq2 : goal.returns-then-n-eq2
-returns-then-n-eq2 c = let f : length c.args.a.settings.address ≡ four_bytes = search (rules, c.well_formed) in let h : length c.args.a.bytes ≡ listed_bytes = search (rules, c.well_formed) in let p = c.requires in (search (long, two), search (laid, two))
+returns-then-n-eq2 c = let h : length c.args.a.bytes ≡ listed_bytes = search (rules, c.well_formed) in let p = c.requires in let l = c.lay_packet-then-n-eq2.ensures in (search (long, two), search (laid, two))
 
-pub slice_bounds-build-end-2 : goal.slice_bounds-build-end-2
-slice_bounds-build-end-2 c = sym (length-take-le _ _ (omega arith))
+pub slice_bounds-lay_packet-end-2 : goal.slice_bounds-lay_packet-end-2
+slice_bounds-lay_packet-end-2 c = sym (length-take-le _ _ (omega arith))
 
 pub returns : goal.returns
-returns c = let f : length c.args.a.settings.address ≡ four_bytes = search (rules, c.well_formed) in let h : length c.args.a.bytes ≡ listed_bytes = search (rules, c.well_formed) in let p = c.requires in (search (long, some), search (laid, some))
+returns c = let h : length c.args.a.bytes ≡ listed_bytes = search (rules, c.well_formed) in let p = c.requires in let l = c.lay_packet-2.ensures in (search (long, some), search (laid, some))
