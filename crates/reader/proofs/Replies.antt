@@ -1,51 +1,29 @@
 -- What is written into the reply room: one packet, data packets of one size, and an acknowledge with them behind it.
 use mathlib.Core.Path.{◌≡◌, refl, sym, ap, ◌∙◌}
-use mathlib.Core.Bool.{Bool, true, false, cond}
-use mathlib.Core.List.{List, ◌∷◌, ◌++◌, append-nil}
+use mathlib.Core.Bool.{cond}
+use mathlib.Core.List.{List, ◌∷◌, ◌++◌}
 use Prim.Native.Nat.{ℕ, zero, suc, ◌+◌, ◌-◌, ◌*◌, ◌/◌, ◌≤◌, ◌<◌}
 use native.Mathlib.Nat.{suc-mul}
 use native.Mathlib.Numerals.{add-one}
 use native.Mathlib.Omega.{arith}
-use lib.Dec.{T, eqb}
-use lib.ListN.{length, take, drop, set, replicate, length-append, length-take, length-drop}
+use lib.Dec.{eqb}
+use lib.ListN.{length, take, drop, length-append, length-take, length-drop}
 use lib.Seq.{take-append_seam, drop-append_seam}
-use borrow.Author.Tests.{le-leb, ne_eqb}
+use borrow.Author.Tests.{ne_eqb}
 use borrow.Rule.Slice.PartMut.{put_mid}
-use Rattle.protocol.specs.declared.Built.{Built}
 use Rattle.protocol.specs.Reader.{size_of}
 use Rattle.protocol.specs.Numbers.{page_bytes, highest_size, frame_bytes, acknowledge_packet, data_packet, last_packet, wraps_at}
 use Rattle.protocol.specs.Bytes.{lay, follow, joined}
-use Rattle.protocol.specs.Tests.{verdict}
-use Rattle.protocol.specs.Packet.{length_of, packet, is_identifier, limit, accepts, Made, build_refusal, build_as, build_of}
+use Rattle.protocol.specs.Packet.{packet}
 use Rattle.protocol.specs.Data.{acknowledge, packets, data_packets}
-use Rattle.protocol.specs.Records.{made_of}
-use Rattle.protocol.proofs.Laws.Logic.{T→true, eqb_same}
+use Rattle.protocol.proofs.Laws.Logic.{eqb_same}
 use Rattle.protocol.proofs.Laws.Lists.{follow_append, length_lay, lay_lay, lay_whole, lay_nothing}
-use Rattle.protocol.proofs.Laws.Finder.{length_packet, accepts_of}
+use Rattle.protocol.proofs.Laws.Finder.{length_packet}
 use Rattle.rules.specs.Settings.{SizeOf}
 use Rattle.rules.proofs.Sizes.{size_legal}
 use Rattle.protocol.proofs.Laws.Sizes.{Size, sizes, length_packets, length_data}
 use Rattle.library.proofs.Parts.{part_laid}
-use Rattle.reader.specs.Answers.{listed_bytes, upload_bytes}
-
--- ---- a packet that the builder does not refuse
-
--- an acknowledge: a code, and listed bytes behind it
-pub accepted : (c : List ℕ) → 1 ≤ length c → length c ≤ 1 + listed_bytes → accepts acknowledge_packet (length_of c) ≡ true
-unfolding is_identifier limit
-accepted c l h = T→true (accepts acknowledge_packet (length_of c)) (accepts_of acknowledge_packet (length_of c) tt (omega arith) (omega arith))
-
-build_laid : (a : List ℕ) (i : ℕ) (c room : List ℕ) → accepts i (length_of c) ≡ true → length c + frame_bytes ≤ length room
-    → build_of a i c room ≡ record { refusal = 0; length = length (packet a i c); room = lay 0 (packet a i c) room }
-unfolding build_of build_refusal build_as verdict
-build_laid a i c room t h = rw (t, le-leb (length c + frame_bytes) (length room) h) refl
-
-module _ (a : List ℕ) (i : ℕ) (c room ys : List ℕ) (m : Built) (e : length a ≡ 4) (t : accepts i (length_of c) ≡ true) (h : length c + frame_bytes ≤ length room) (f : made_of m ys ≡ build_of a i c room) where
-  pub packet_long : m.length ≡ length c + frame_bytes
-  packet_long = ap (λ (x : Made). x.length) (f ∙ build_laid a i c room t h) ∙ length_packet a i c e
-
-  pub packet_laid : ys ≡ lay 0 (packet a i c) room
-  packet_laid = ap (λ (x : Made). x.room) (f ∙ build_laid a i c room t h)
+use Rattle.reader.specs.Answers.{upload_bytes}
 
 -- ---- an acknowledge
 
@@ -62,7 +40,6 @@ acknowledge_long a k b h = length_packet a acknowledge_packet (k ∷ b) h
 -- the sizes, in the code's numbers
 pub record CodeSize (z : ℕ) : Type 0 where
   pub some : 1 ≤ z
-  pub carries : (last : Bool) → accepts (cond last last_packet data_packet) (z + 2) ≡ true
   pub all : page_bytes / z * z ≡ page_bytes
   pub room : page_bytes / z * (z + frame_bytes) ≤ upload_bytes
 
@@ -71,7 +48,6 @@ code_size code z e h =
     let y : Size (size_of code) = sizes code h in
     rw (size_legal code z e h) record {
       some = y.some;
-      carries = λ last. elim last as (λ b. accepts (cond b last_packet data_packet) (size_of code + 2) ≡ true) [ true ↦ T→true _ y.ends | false ↦ T→true _ y.carries ];
       all = ap (λ (k : ℕ). k * size_of code) y.count ∙ y.whole;
       room = rw y.count (omega (arith, y.room));
     }
@@ -142,9 +118,6 @@ module _ (a src : List ℕ) (size at end : ℕ) (out₀ out rest : List ℕ) (to
     next_fits h = omega (arith, behind)
 
     module _ (i : ℕ) (b : i ≡ cond (eqb (to + (size + frame_bytes)) end) last_packet data_packet) where
-      pub next_accepted : accepts i (length_of x) ≡ true
-      next_accepted = rw (b, l) (z.carries (eqb (to + (size + frame_bytes)) end))
-
       -- it is laid
       pub again : (ys : List ℕ) → length a ≡ 4 → end ≤ length out₀ → ys ≡ lay 0 (packet a i x) (take (to + (size + frame_bytes) - to) (drop to out))
           → Sending a src size at end out₀ (put_mid to (to + (size + frame_bytes) - to) out ys) more (to + (size + frame_bytes))
