@@ -1,0 +1,58 @@
+ghost use Rattle.std.specs.Prelude.{◌≡◌, ◌≤◌, length};
+ghost use Rattle.protocol.specs.Numbers.{reply_room};
+ghost use Rattle.protocol.specs.Bytes.{lay};
+ghost use Rattle.protocol.specs.Commands.{search_for, store, load_char, delet_char, empty, set_sys_para, read_sys_para, write_notepad, read_notepad, templete_num, read_index_table};
+ghost use Rattle.reader.specs.Answers.{answer_in, spoken_of};
+ghost use Rattle.reader.specs.Memory.{Kept, said_of, obeyed, freed};
+use crate::answers::Answer;
+use crate::memory::Sound;
+use protocol::codes::Code;
+
+#[tactic(none)]
+impl Sound<'_> {
+    pub(crate) fn search_for(&mut self, number: u8, start: u16, count: u16) -> Result<Answer, Code>
+        ensures kept { Kept self.old self.new }
+        ensures obeyed { said_of (answer_in result) self.new ≡ obeyed self.old (search_for number start count) }
+    { Err(Code::BadPacket) }
+    pub(crate) fn store(&mut self, number: u8, page: u16) -> Result<Answer, Code>
+        ensures kept { Kept self.old self.new }
+        ensures obeyed { said_of (answer_in result) self.new ≡ obeyed self.old (store number page) }
+    { Err(Code::BadPacket) }
+    pub(crate) fn load_char(&mut self, number: u8, page: u16) -> Result<Answer, Code>
+        ensures kept { Kept self.old self.new }
+        ensures obeyed { said_of (answer_in result) self.new ≡ obeyed self.old (load_char number page) }
+    { Err(Code::BadPacket) }
+    pub(crate) fn delet_char(&mut self, page: u16, count: u16) -> Result<Answer, Code>
+        ensures kept { Kept self.old self.new }
+        ensures obeyed { said_of (answer_in result) self.new ≡ obeyed self.old (delet_char page count) }
+    { Err(Code::BadPacket) }
+    pub(crate) fn empty(&mut self) -> Answer
+        ensures kept { Kept self.old self.new }
+        ensures obeyed { said_of result self.new ≡ obeyed self.old empty }
+    { Answer::Silence }
+    pub(crate) fn set_sys_para(&mut self, number: u8, value: u8) -> Result<Answer, Code>
+        ensures kept { Kept self.old self.new }
+        ensures obeyed { said_of (answer_in result) self.new ≡ obeyed self.old (set_sys_para number value) }
+    { Err(Code::BadPacket) }
+    pub(crate) fn read_sys_para(&self) -> Answer
+        ensures { said_of result self.now ≡ freed self.now read_sys_para }
+    { Answer::Silence }
+    pub(crate) fn write_notepad(&mut self, page: u8, note: [u8; 32]) -> Result<Answer, Code>
+        ensures kept { Kept self.old self.new }
+        ensures obeyed { said_of (answer_in result) self.new ≡ obeyed self.old (write_notepad page note) }
+    { Err(Code::BadPacket) }
+    pub(crate) fn read_notepad(&self, page: u8) -> Result<Answer, Code>
+        ensures { said_of (answer_in result) self.now ≡ obeyed self.now (read_notepad page) }
+    { Err(Code::BadPacket) }
+    pub(crate) fn templete_num(&self) -> Answer
+        ensures { said_of result self.now ≡ obeyed self.now templete_num }
+    { Answer::Silence }
+    pub(crate) fn read_index_table(&self, page: u8) -> Result<Answer, Code>
+        ensures { said_of (answer_in result) self.now ≡ obeyed self.now (read_index_table page) }
+    { Err(Code::BadPacket) }
+    pub(crate) fn speak(&self, answer: Answer, reply: &mut [u8]) -> usize
+        requires { reply_room ≤ length reply.old }
+        ensures length { result ≡ length (spoken_of answer self.now.settings.now self.now.buffer1.now self.now.buffer2.now) }
+        ensures written { reply.new ≡ lay 0 (spoken_of answer self.now.settings.now self.now.buffer1.now self.now.buffer2.now) reply.old }
+    { 0 }
+}
