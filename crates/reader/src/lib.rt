@@ -6,3 +6,4 @@ mod buffers;
 pub mod memory;
 mod origins;
 mod pages;
+mod templates;
