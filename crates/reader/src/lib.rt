@@ -12,3 +12,4 @@ mod pages;
 mod stubs;
 mod table;
 mod transfer;
+mod templates;
