@@ -9,6 +9,7 @@ mod keys;
 pub mod memory;
 mod origins;
 mod pages;
+mod reply;
 mod stubs;
 mod table;
 mod transfer;
