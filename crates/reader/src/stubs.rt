@@ -14,29 +14,6 @@ impl Sound<'_> {
         ensures kept { Kept self.old self.new }
         ensures obeyed { said_of (answer_in result) self.new ≡ obeyed self.old (search_for number start count) }
     { Err(Code::BadPacket) }
-    pub(crate) fn store(&mut self, number: u8, page: u16) -> Result<Answer, Code>
-        ensures kept { Kept self.old self.new }
-        ensures obeyed { said_of (answer_in result) self.new ≡ obeyed self.old (store number page) }
-    { Err(Code::BadPacket) }
-    pub(crate) fn load_char(&mut self, number: u8, page: u16) -> Result<Answer, Code>
-        ensures kept { Kept self.old self.new }
-        ensures obeyed { said_of (answer_in result) self.new ≡ obeyed self.old (load_char number page) }
-    { Err(Code::BadPacket) }
-    pub(crate) fn delet_char(&mut self, page: u16, count: u16) -> Result<Answer, Code>
-        ensures kept { Kept self.old self.new }
-        ensures obeyed { said_of (answer_in result) self.new ≡ obeyed self.old (delet_char page count) }
-    { Err(Code::BadPacket) }
-    pub(crate) fn empty(&mut self) -> Answer
-        ensures kept { Kept self.old self.new }
-        ensures obeyed { said_of result self.new ≡ obeyed self.old empty }
-    { Answer::Silence }
-    pub(crate) fn set_sys_para(&mut self, number: u8, value: u8) -> Result<Answer, Code>
-        ensures kept { Kept self.old self.new }
-        ensures obeyed { said_of (answer_in result) self.new ≡ obeyed self.old (set_sys_para number value) }
-    { Err(Code::BadPacket) }
-    pub(crate) fn read_sys_para(&self) -> Answer
-        ensures { said_of result self.now ≡ freed self.now read_sys_para }
-    { Answer::Silence }
     pub(crate) fn write_notepad(&mut self, page: u8, note: [u8; 32]) -> Result<Answer, Code>
         ensures kept { Kept self.old self.new }
         ensures obeyed { said_of (answer_in result) self.new ≡ obeyed self.old (write_notepad page note) }
@@ -44,15 +21,4 @@ impl Sound<'_> {
     pub(crate) fn read_notepad(&self, page: u8) -> Result<Answer, Code>
         ensures { said_of (answer_in result) self.now ≡ obeyed self.now (read_notepad page) }
     { Err(Code::BadPacket) }
-    pub(crate) fn templete_num(&self) -> Answer
-        ensures { said_of result self.now ≡ obeyed self.now templete_num }
-    { Answer::Silence }
-    pub(crate) fn read_index_table(&self, page: u8) -> Result<Answer, Code>
-        ensures { said_of (answer_in result) self.now ≡ obeyed self.now (read_index_table page) }
-    { Err(Code::BadPacket) }
-    pub(crate) fn speak(&self, answer: Answer, reply: &mut [u8]) -> usize
-        requires { reply_room ≤ length reply.old }
-        ensures length { result ≡ length (spoken_of answer self.now.settings.now self.now.buffer1.now self.now.buffer2.now) }
-        ensures written { reply.new ≡ lay 0 (spoken_of answer self.now.settings.now self.now.buffer1.now self.now.buffer2.now) reply.old }
-    { 0 }
 }
