@@ -7,4 +7,5 @@ mod keys;
 pub mod memory;
 mod origins;
 mod pages;
+mod parameters;
 mod transfer;
