@@ -3,9 +3,13 @@
 
 mod answers;
 mod buffers;
+pub mod call;
+mod fields;
 mod keys;
 pub mod memory;
 mod origins;
 mod pages;
 mod parameters;
+mod stubs;
+mod table;
 mod transfer;
