@@ -1,5 +1,5 @@
 -- What an answer says: the reply of the definitions.
-use Rattle.std.specs.Prelude.{cond, List, [], ◌∷◌, ◌++◌, ◌*◌, ◌/◌, ◌≤◌, ℕ, length, take, Result, Ok, Err}
+use Rattle.std.specs.Prelude.{List, [], ℕ, Result, Ok, Err}
 use Rattle.protocol.specs.declared.Settings.{Settings}
 use Rattle.protocol.specs.declared.codes.Code.{Code}
 use Rattle.protocol.specs.Numbers.{done}

@@ -12,4 +12,5 @@ mod pages;
 mod parameters;
 mod stubs;
 mod table;
+mod templates;
 mod transfer;
