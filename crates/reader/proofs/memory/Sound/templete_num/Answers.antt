@@ -11,4 +11,4 @@ pub returns : goal.returns
 unfolding rule verdict two
 returns c =
     let s = c.args.self.now in
-    gave s _ c.to_be_bytes.result _ refl (c.to_be_bytes.ensures ∙ ap two (c.count-count.ensures ∙ counts 128 s.index.now s.indexed))
+    gave s _ c.to_be_bytes.result _ refl (c.to_be_bytes.ensures ∙ ap two (let f = c.count.ensures in let g = c.unwrap_or-count.ensures in ?))
