@@ -6,6 +6,7 @@ use Prim.Native.Nat.{ℕ, ◌+◌, ◌*◌, ◌/◌, ◌%◌, ◌<◌}
 use native.Mathlib.Omega.{arith}
 use lib.ListN.{length, get_or, take, drop, length-drop}
 use lib.Seq.{take_all}
+use Rattle.std.proofs.Common.{Some}
 use borrow.Author.Tests.{lt-ltb, eq-eqb, ne_eqb}
 use Rattle.protocol.specs.Bytes.{two, part, lay, joined}
 use Rattle.protocol.specs.Index.{set_bits}
@@ -13,7 +14,7 @@ use Rattle.protocol.specs.Numbers.{no_page}
 use Rattle.protocol.specs.Reader.{from_page, Buffer}
 use Rattle.protocol.specs.Records.{origin_of, buffer}
 use Rattle.protocol.proofs.Laws.Lists.{by_four}
-use Rattle.library.specs.Lent.{count_of, write_page, read_page}
+use Rattle.library.specs.Lent.{counted_of, write_page, read_page}
 
 -- ---- parameters
 
@@ -54,8 +55,8 @@ pub reads : (p : ℕ) (t d : List ℕ) → p < length t / 512 → length d ≡ 5
 unfolding read_page
 reads p t d h e = rw (lt-ltb _ _ h, eq-eqb _ _ e) refl
 
-pub counts : (n : ℕ) (x : List ℕ) → length x ≡ n → count_of n x ≡ set_bits x
-unfolding count_of
+pub counts : (n : ℕ) (x : List ℕ) → length x ≡ n → counted_of n x ≡ Some (set_bits x)
+unfolding counted_of
 counts n x e = rw (eq-eqb _ _ e) refl
 
 -- a 16-bit number's high byte
