@@ -11,7 +11,7 @@ ghost use Rattle.protocol.specs.Receiver.{receive_of, line_switch_of};
 ghost use Rattle.protocol.specs.Records.{reader_of, line_of, fresh_of, lent_of, received_of, emptied_of, received_at, emptied_at, brought_of};
 
 use library::index;
-use protocol::{Line, Settings, Taken, numbers};
+use protocol::{Line, Settings, Taken, numbers, refusals};
 use rules::settings;
 use wire::{builder, bytes, finder};
 
@@ -50,7 +50,7 @@ pub extern "C" fn bystrodol_build(
 pub extern "C" fn bystrodol_count(index: &[u8]) -> u16
     ensures { result ≡ count_service index.now }
 {
-    index::count(index, numbers::INDEX as u8)
+    index::count(index, numbers::INDEX as u8).unwrap_or(numbers::NO_COUNT)
 }
 
 // Brings an index that was stored before request [6] over to a lent one: the refusal or 0.
@@ -58,7 +58,7 @@ pub extern "C" fn bystrodol_count(index: &[u8]) -> u16
 pub extern "C" fn bystrodol_bring_over(old: &[u8], index: &mut [u8]) -> u8
     ensures { brought_of result index.new ≡ bring_over old.now index.old }
 {
-    index::bring_over(old, index)
+    refusals::refusal_of(&index::bring_over(old, index))
 }
 
 // A call of the receiver on a lent line.

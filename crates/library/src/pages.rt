@@ -2,31 +2,24 @@
 ghost use Rattle.std.specs.Prelude.{◌≡◌};
 ghost use Rattle.library.specs.Lent.{is_span, write_page, read_page, zero_page, zero_pages};
 
-use protocol::numbers;
-use wire::bytes;
+use protocol::numbers::PAGE;
 
 // Whether n pages from a page on are there, of so many. The sum of two 16-bit numbers is taken in full.
 pub fn is_span(page: u16, n: u16, pages: usize) -> bool
     ensures { result ≡ is_span page n pages }
 {
-    let from = page as usize;
-    let count = n as usize;
-    if pages <= from {
-        return false;
-    }
-    from + count <= pages
+    let from = usize::from(page);
+    let count = usize::from(n);
+    from < pages && from + count <= pages
 }
 
 // Copies 512 bytes to a page.
 pub fn write_page(templates: &mut [u8], page: usize, src: &[u8])
     ensures { templates.new ≡ write_page page src.now templates.old }
 {
-    if page < templates.len() / numbers::PAGE {
-        if src.len() == numbers::PAGE {
-            let a = numbers::PAGE * page;
-            let e = a + numbers::PAGE;
-            bytes::put(&mut templates[a..e], src);
-        }
+    if page < templates.len() / PAGE && src.len() == PAGE {
+        let at = PAGE * page;
+        templates[at..at + PAGE].copy_from_slice(src);
     }
 }
 
@@ -34,12 +27,9 @@ pub fn write_page(templates: &mut [u8], page: usize, src: &[u8])
 pub fn read_page(dst: &mut [u8], templates: &[u8], page: usize)
     ensures { dst.new ≡ read_page page templates.now dst.old }
 {
-    if page < templates.len() / numbers::PAGE {
-        if dst.len() == numbers::PAGE {
-            let a = numbers::PAGE * page;
-            let e = a + numbers::PAGE;
-            bytes::put(dst, &templates[a..e]);
-        }
+    if page < templates.len() / PAGE && dst.len() == PAGE {
+        let at = PAGE * page;
+        dst.copy_from_slice(&templates[at..at + PAGE]);
     }
 }
 
@@ -47,10 +37,9 @@ pub fn read_page(dst: &mut [u8], templates: &[u8], page: usize)
 pub fn zero_page(templates: &mut [u8], page: usize)
     ensures { templates.new ≡ zero_page page templates.old }
 {
-    if page < templates.len() / numbers::PAGE {
-        let a = numbers::PAGE * page;
-        let e = a + numbers::PAGE;
-        bytes::zero(&mut templates[a..e]);
+    if page < templates.len() / PAGE {
+        let at = PAGE * page;
+        templates[at..at + PAGE].fill(0);
     }
 }
 
@@ -58,11 +47,8 @@ pub fn zero_page(templates: &mut [u8], page: usize)
 pub fn zero_pages(templates: &mut [u8], page: u16, n: u16)
     ensures { templates.new ≡ zero_pages page n templates.old }
 {
-    let mut q = page as usize;
-    let mut left = n as usize;
-    while 0 < left {
-        zero_page(templates, q);
-        q += 1;
-        left = left - 1;
+    let start = usize::from(page);
+    for p in start..start + usize::from(n) {
+        zero_page(templates, p);
     }
 }

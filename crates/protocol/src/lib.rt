@@ -39,10 +39,9 @@ pub struct Settings {
     pub origin2: u16,
 }
 
-// What Search finds (request [8]): a page and its score; none is page 0 with the score 0.
+// What Search finds (request [8]): a page and its score.
 #[derive(Clone, Copy)]
 pub struct Match {
-    pub found: bool,
     pub page: u16,
     pub score: u16,
 }

@@ -1,28 +1,24 @@
 -- The buffers by number: what one that is changed and marked makes of the reader.
 use mathlib.Core.Path.{◌≡◌, refl, ap}
-use mathlib.Core.Bool.{Bool, true, false, not, ◌||◌, cond}
+use mathlib.Core.Bool.{Bool, true, false, ◌||◌, cond}
 use mathlib.Core.Logic.{◌⊎◌, inl, inr, ⊎_elim}
-use mathlib.Core.List.{List, ◌∷◌}
-use Prim.Native.Nat.{ℕ, ◌*◌, ◌/◌, ◌≤◌, ◌<◌}
-use lib.Dec.{eqb, ltb}
-use lib.ListN.{length}
-use borrow.Author.Tests.{eqb-true, ne_eqb, le-ltb}
+use mathlib.Core.List.{List}
+use Prim.Native.Nat.{ℕ, ◌*◌, ◌≤◌, ◌<◌}
+use lib.Dec.{eqb}
+use borrow.Author.Tests.{eqb-true, ne_eqb}
 use Rattle.protocol.specs.declared.Settings.{Settings}
-use Rattle.protocol.specs.Numbers.{page_bytes, no_page, bad_packet, bad_page}
-use Rattle.protocol.specs.Tests.{Test, verdict}
+use Rattle.protocol.specs.Numbers.{page_bytes, no_page}
 use Rattle.protocol.specs.Bytes.{zeros, part}
 use Rattle.protocol.specs.Reader.{Marks, Transfer, Guarded, capacity, emptied, loaded_from, with_buffer, contents, reader}
 use Rattle.protocol.specs.Reader as readers
-use Rattle.protocol.specs.Table.{is_buffer, Effect}
-use Rattle.protocol.specs.Step.{says, carry, carry_as}
-use Rattle.protocol.proofs.Laws.Logic.{not_true, not_false}
+use Rattle.protocol.specs.Table.{is_buffer}
 use Rattle.protocol.proofs.Laws.Marks.{fit_mark_lem, fit_marks_lem, fit_verified, fit_filled1, fit_filled2, fit_found}
 use Rattle.protocol.specs.Records.{fit_mark, fit_marks, is_set, marks_of, transfer_of, origin_of, plain_of, buffer, reader_of}
 use Rattle.rules.specs.Settings.{with_transfer, Legal}
 use Rattle.rules.proofs.Marks.{beside}
 use Rattle.reader.specs.Memory.{with_numbered}
 use Rattle.reader.specs.Buffers.{chosen_of, Buffers, buffers, changed, with_fill, with_held}
-use Rattle.reader.proofs.Laws.{chosen_long, page_origin}
+use Rattle.reader.proofs.Laws.{page_origin}
 
 -- ---- a number that names a buffer
 

@@ -2,3 +2,4 @@ pub mod Buffers
 pub mod Answers
 pub mod Memory
 pub mod Calls
+pub mod Parameters

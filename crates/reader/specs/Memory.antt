@@ -1,20 +1,17 @@
 -- The reader of the definitions that lies in what is lent, and what a call leaves of it.
-use Rattle.std.specs.Prelude.{Bool, cond, List, ◌≡◌, ℕ, ◌/◌, eqb, length, Result}
-use Rattle.protocol.specs.declared.Settings.{Settings}
-use Rattle.protocol.specs.declared.codes.Code.{Code}
-use Rattle.protocol.specs.Numbers.{page_bytes}
+use Rattle.std.specs.Prelude.{Bool, cond, ◌≡◌, ℕ, eqb}
 use Rattle.protocol.specs.Reader.{Buffer, buffer_of, with_buffer, without, without_pages, reader}
 use Rattle.protocol.specs.Reader as readers
 use Rattle.protocol.specs.Search as searches
 use Rattle.protocol.specs.Commands.{Free, Barred}
-use Rattle.protocol.specs.Table.{rule, free_rule, public_of}
+use Rattle.protocol.specs.Table.{fill_page, apply, rule, free_rule, public_of}
 use Rattle.protocol.specs.Step.{Said, carry, carry_free}
 use Rattle.protocol.specs.Records.{is_set, reader_of, chip_of}
 use Rattle.reader.specs.declared.answers.Answer.{Answer}
 use Rattle.reader.specs.declared.memory.Chip.{Chip}
 use Rattle.reader.specs.declared.memory.Reader.{Reader}
 use Rattle.reader.specs.declared.memory.Sound.{Sound}
-use Rattle.reader.specs.Answers.{spoken_of, answer_in}
+use Rattle.reader.specs.Answers.{spoken_of}
 
 abbrev pub reader_at : Reader → readers.Reader
 reader_at r = reader_of r.settings.now r.templates.now r.index.now r.notepad.now r.buffer1.now r.buffer2.now
@@ -56,6 +53,10 @@ pub record Kept (x y : Sound) : Type 0 where
 
 abbrev pub with_numbered : ℕ → Buffer → readers.Reader → readers.Reader
 with_numbered n b r = reader r.plain (with_buffer (eqb n 2) b r.guarded)
+
+-- a buffer, by its number, stored on a page
+abbrev pub stored_numbered : ℕ → ℕ → readers.Reader → readers.Reader
+stored_numbered n p r = apply (fill_page (eqb n 2) p) r
 
 -- these pages are deleted: what a buffer, by its number, and what both then are
 abbrev pub without_numbered : ℕ → (ℕ → Bool) → readers.Reader → readers.Reader

@@ -1,8 +1,7 @@
 -- The buffer has the page's bytes, its mark is set, and the page is its origin; legal settings stay so.
-use mathlib.Core.Path.{◌≡◌, ap, ◌∙◌}
+use mathlib.Core.Path.{◌∙◌}
 use mathlib.Core.Bool.{true}
 use native.Mathlib.Omega.{arith}
-use borrow.Author.Rules.{rules}
 use Rattle.protocol.proofs.Laws.Marks.{fit_mark_lem}
 use Rattle.reader.proofs.Laws.{reads}
 use Rattle.reader.proofs.ByNumber.{held_legal, first_loaded, second_loaded}
