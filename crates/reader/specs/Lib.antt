@@ -1,4 +1,5 @@
 pub mod Buffers
 pub mod Answers
-pub mod Commands
+pub mod Memory
 pub mod Calls
+pub mod Parameters

@@ -9,10 +9,10 @@ use lib.Dec.{leb}
 use lib.ListN.{length, take, drop, length-take}
 use borrow.Author.Tests.{le-leb, lt-leb}
 use Rattle.protocol.specs.declared.Settings.{Settings}
-use Rattle.protocol.specs.declared.Switched.{Switched}
+use Rattle.protocol.specs.Records.{Switched}
 use Rattle.protocol.specs.declared.Receiver.{Receiver}
-use Rattle.protocol.specs.declared.Received.{Received}
-use Rattle.protocol.specs.declared.Emptied.{Emptied}
+use Rattle.protocol.specs.Records.{Received}
+use Rattle.protocol.specs.Records.{Emptied}
 use Rattle.protocol.specs.Numbers.{holds, reply_room, bad_length, bad_room, bad_setting}
 use Rattle.protocol.specs.Tests.{verdict}
 use Rattle.protocol.specs.Reader.{Reader, capacity}

@@ -2,8 +2,8 @@
 use Rattle.std.specs.Prelude.{ℕ}
 use Rattle.protocol.specs.declared.Settings.{Settings}
 use Rattle.protocol.specs.declared.Receiver.{Receiver}
-use Rattle.protocol.specs.declared.Received.{Received}
-use Rattle.protocol.specs.declared.Emptied.{Emptied}
+use Rattle.protocol.specs.Records.{Received}
+use Rattle.protocol.specs.Records.{Emptied}
 
 abbrev pub received : Receiver → Settings → ℕ → ℕ → ℕ → Received
 received h s refusal taken length = record { line = record { settings = s; receiver = h }; refusal = refusal; taken = taken; length = length }
