@@ -19,7 +19,7 @@ use Rattle.rules.specs.Settings.{Legal}
 use Rattle.reader.specs.declared.parameters.Parameter.{Parameter}
 use Rattle.reader.specs.declared.parameters.Parameter.TheVariants.{Baud, Level, Size}
 use Rattle.reader.specs.Parameters.{parameter_number, tuned}
-use Rattle.reader.proofs.Rows.{is_err, refused}
+use Rattle.reader.proofs.Rows.{is_err, refused, did_parts}
 use Rattle.reader.proofs.Settled.{tuned_legal}
 use Rattle.reader.proofs.memory.Sound.set_sys_para.Goals as goal
 
@@ -54,11 +54,10 @@ pub invariant_of-self : goal.invariant_of-self
 invariant_of-self c = let h = c.if-not-admits.ensures in search legal
 
 pub returns-clause-obeyed : goal.returns-clause-obeyed
-unfolding carry carry_as rule verdict follow apply
+unfolding rule verdict apply
 returns-clause-obeyed c =
     let f = c.in_ok-parameter.ensures in
-    let h = c.if-not-admits.ensures in
     let s = c.args.self.now in
-    rw (f.1, f.0, ← h, c.set-self.ensures)
-    (ap (λ (z : Reader). record { reply = acknowledge z.plain.address done []; after = z })
-    (reader_tuned c.in_ok-parameter.parameter c.args.value s.settings.now s.templates.now s.index.now s.notepad.now s.buffer1.now s.buffer2.now))
+    let e = reader_tuned c.in_ok-parameter.parameter c.args.value s.settings.now s.templates.now s.index.now s.notepad.now s.buffer1.now s.buffer2.now in
+    did_parts s _ s.templates.now s.index.now s.notepad.now s.buffer1.now s.buffer2.now _ _ (rw (f.1, f.0, ← c.if-not-admits.ensures) refl)
+    (rw (f.0, c.set-self.ensures) e)
