@@ -101,6 +101,7 @@ impl Sound<'_> {
             (loaded_from page (part (page_bytes * page) page_bytes self.old.templates.now)) (reader_in self.old) }
     {
         *self.settings = hold(*self.settings, buffer, 1, page as u16);
+        // Of a field that is lent to be read, the proof keeps the length alone, but of this the bytes.
         let templates = &mut *self.templates;
         match buffer {
             Buffer::First => pages::read_page(self.buffer1, templates, page),

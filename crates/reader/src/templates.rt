@@ -33,6 +33,7 @@ impl Sound<'_> {
         let place = usize::from(page);
         *self.settings = buffers::hold(*self.settings, buffer, 1, page);
         index::set_bit(self.index, place);
+        // Of a field that is lent to be read, the proof keeps the length alone, but of `src` the bytes.
         match buffer {
             Buffer::First => {
                 let src = &mut *self.buffer1;
