@@ -1,7 +1,7 @@
 // A whole call of the reader, and the line switch.
-ghost use Rattle.std.specs.Prelude.{◌≡◌, ◌&&◌, List, ℕ, ◌+◌, ◌≤◌, leb, length};
+ghost use Rattle.std.specs.Prelude.{◌≡◌, ◌&&◌, List, ℕ, ◌+◌, ◌/◌, ◌≤◌, leb, length};
 ghost use Rattle.protocol.specs.declared.Found.TheVariants.{Whole};
-ghost use Rattle.protocol.specs.Numbers.{head_bytes, most_pages, reply_room};
+ghost use Rattle.protocol.specs.Numbers.{page_bytes, head_bytes, most_pages, reply_room};
 ghost use Rattle.protocol.specs.Bytes.{same};
 ghost use Rattle.protocol.specs.Codes.{refusal_of};
 ghost use Rattle.protocol.specs.Packet.{address_at, right_at};
@@ -89,43 +89,68 @@ impl Sound<'_> {
 }
 
 // Whether settings, transfer, index bits and origins are legal (refusal 3).
+#[tactic(auto, unfolding(rules::specs::Settings::sound_of))]
 fn is_sound(settings: Settings, index: &[u8], pages: usize) -> bool
     requires { pages ≤ most_pages }
     ensures { result ≡ sound_of pages index.now settings }
 {
-    settings::is_legal(settings)
-        && index::is_clear_from(index, pages)
-        && origins::are_fit(settings, index, pages)
+    if !settings::is_legal(settings) {
+        return false;
+    }
+    if !index::is_clear_from(index, pages) {
+        return false;
+    }
+    origins::are_fit(settings, index, pages)
 }
 
 /// The same for any number of pages: of more than a library may have none passes.
 pub fn is_sound_of(settings: Settings, index: &[u8], pages: usize) -> bool
     ensures { result ≡ (leb pages most_pages && sound_of pages index.now settings) }
 {
-    pages <= numbers::MOST_PAGES && is_sound(settings, index, pages)
+    if numbers::MOST_PAGES < pages {
+        return false;
+    }
+    is_sound(settings, index, pages)
 }
 
 impl Reader<'_> {
     /// Whether the lent lengths are right, the reply room's apart (refusal 1), where the notepad is to have `noted` bytes.
+    #[tactic(auto, using(wire::proofs::Picks::picks), unfolding(crate::specs::Calls::lengths_fit, protocol::specs::Tests::within))]
     pub fn has_fit_lengths(&self, noted: usize, chip: Chip<'_>) -> bool
-        ensures { result ≡ reader_fits noted self.now chip }
+        ensures { result ≡ reader_fits noted self.now chip.entry }
     {
         let pages = self.templates.len() / numbers::PAGE;
-        self.templates.len() == numbers::PAGE * pages
-            && 1 <= pages
-            && pages <= numbers::MOST_PAGES
-            && self.index.len() == numbers::INDEX
-            && self.notepad.len() == noted
-            && self.buffer1.len() == numbers::PAGE
-            && self.buffer2.len() == numbers::PAGE
-            && chip.scores.len() == pages
-            && chip.thresholds.len() == numbers::LEVELS
+        if self.templates.len() != numbers::PAGE * pages {
+            return false;
+        }
+        if pages < 1 {
+            return false;
+        }
+        if numbers::MOST_PAGES < pages {
+            return false;
+        }
+        if self.index.len() != numbers::INDEX {
+            return false;
+        }
+        if self.notepad.len() != noted {
+            return false;
+        }
+        if self.buffer1.len() != numbers::PAGE {
+            return false;
+        }
+        if self.buffer2.len() != numbers::PAGE {
+            return false;
+        }
+        if chip.scores.len() != pages {
+            return false;
+        }
+        chip.thresholds.len() == numbers::LEVELS
     }
 
     // Whether its settings, transfer, index bits and origins are legal.
     fn is_sound(&self) -> bool
-        requires { length self.now.templates.now / 512 ≤ most_pages }
-        ensures { result ≡ sound_of (length self.now.templates.now / 512) self.now.index.now self.now.settings.now }
+        requires { length self.now.templates.now / page_bytes ≤ most_pages }
+        ensures { result ≡ sound_of (length self.now.templates.now / page_bytes) self.now.index.now self.now.settings.now }
     {
         is_sound(*self.settings, self.index, self.templates.len() / numbers::PAGE)
     }
@@ -140,7 +165,7 @@ impl Reader<'_> {
     ) -> Result<Lengths, Refusal>
         ensures same { Same self.old self.new }
         ensures ended { ended_at result self.new reply.new
-            ≡ call_of (shaped noted) (reader_at self.old) run.now (lent_at chip reply.old) }
+            ≡ call_of (shaped noted) (reader_at self.old) run.now (lent_at chip.entry reply.old) }
     {
         if !self.has_fit_lengths(noted, chip) {
             return Err(Refusal::BadLength);
@@ -179,7 +204,7 @@ impl Reader<'_> {
     ) -> Result<Lengths, Refusal>
         ensures same { Same self.old self.new }
         ensures ended { ended_at result self.new reply.new
-            ≡ call_of core (reader_at self.old) run.now (lent_at chip reply.old) }
+            ≡ call_of core (reader_at self.old) run.now (lent_at chip.entry reply.old) }
     {
         self.step_shaped(numbers::NOTEPAD, chip, run, reply)
     }
@@ -194,7 +219,10 @@ pub fn line_switch(
     ensures { (t i n : List ℕ) → switched_of (switched_at settings.new (refusal_of result)) t i n buffer1.new buffer2.new
         ≡ switch_of (reader_of settings.old t i n buffer1.old buffer2.old) }
 {
-    if buffer1.len() != numbers::PAGE || buffer2.len() != numbers::PAGE {
+    if buffer1.len() != numbers::PAGE {
+        return Err(Refusal::BadLength);
+    }
+    if buffer2.len() != numbers::PAGE {
         return Err(Refusal::BadLength);
     }
     buffer1.fill(0);

@@ -18,6 +18,7 @@ use rules::commands;
 
 impl Sound<'_> {
     // The row of a command that the lock lets pass.
+    #[tactic(auto, using(crate::proofs::Obeying::free_row, crate::proofs::Obeying::barred_row), unfolding(rules::specs::Commands::len_of, rules::specs::Commands::read_of, rules::specs::Commands::is_free, protocol::specs::Commands::row_of, protocol::specs::Commands::commands))]
     fn obey(&mut self, command: CommandCode, content: &[u8]) -> Result<Answer, Code>
         requires { Admitted (command_number command) (length_of content.now) (plain_of self.old.settings.now) }
         ensures kept { Kept self.old self.new }

@@ -112,7 +112,7 @@ impl Sound<'_> {
     pub(crate) fn templete_num(&self) -> Answer
         ensures { said_of result self.now ≡ obeyed self.now templete_num }
     {
-        let count = index::count(self.index, numbers::INDEX as u8).unwrap_or(0);
+        let count = index::count(self.index, numbers::INDEX as u8).unwrap();
         Answer::Count(count.to_be_bytes())
     }
 
