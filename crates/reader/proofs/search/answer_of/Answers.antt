@@ -1,5 +1,5 @@
 -- 00h, page and score, each high byte first; and 09h and zeros.
-use mathlib.Core.Path.{◌≡◌, refl}
+use mathlib.Core.Path.{refl}
 use Rattle.protocol.specs.Bytes.{two, joined}
 use Rattle.protocol.specs.Search.{match_code, match_bytes}
 use Rattle.reader.proofs.search.answer_of.Goals as goal

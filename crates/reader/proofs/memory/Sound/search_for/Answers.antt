@@ -1,30 +1,25 @@
 -- Each test that fails stops with its code, in the row's order; otherwise the best page answers, and status bit 1 says whether there is one.
-use mathlib.Core.Path.{◌≡◌, refl, sym, ap, ◌∙◌}
-use mathlib.Core.Bool.{Bool, true, false}
+use mathlib.Core.Path.{◌≡◌, refl, ap, ◌∙◌}
+use mathlib.Core.Bool.{true, false}
 use mathlib.Core.List.{List}
-use Prim.Native.Nat.{ℕ, ◌*◌, ◌/◌, ◌≤◌}
-use native.Mathlib.Omega.{arith}
+use Prim.Native.Nat.{ℕ}
 use mir.Val.{bool_byte}
-use lib.Dec.{leb}
-use lib.ListN.{length}
-use borrow.Author.Tests.{lt-ltb, le-ltb, le-leb}
+use borrow.Author.Tests.{lt-ltb, le-ltb}
 use Rattle.std.proofs.Common.{Option, Some, None}
 use Rattle.std.specs.Option.{is_some}
 use Rattle.protocol.specs.declared.Match as code
 use Rattle.protocol.specs.declared.Settings.{Settings}
 use Rattle.protocol.specs.declared.codes.Code.TheVariants.{BadPage, NothingThere}
-use Rattle.protocol.specs.Numbers.{page_bytes, most_pages, index_bytes}
 use Rattle.protocol.specs.Tests.{Test, verdict}
 use Rattle.protocol.specs.Bytes.{follow}
-use Rattle.protocol.specs.Reader.{Reader, reader, capacity, buffer_of, with_found}
-use Rattle.protocol.specs.Search.{match_of, match_code, match_bytes, threshold_of, search_of}
+use Rattle.protocol.specs.Reader.{Reader, capacity, buffer_of, with_found}
+use Rattle.protocol.specs.Search.{match_of, match_code, match_bytes}
 use Rattle.protocol.specs.Search as searches
 use Rattle.protocol.specs.Data.{acknowledge}
 use Rattle.protocol.specs.Table.{finds, remember, apply, rule}
 use Rattle.protocol.specs.Step.{carry, carry_as}
 use Rattle.protocol.specs.Records.{fit_mark, reader_of}
 use Rattle.protocol.proofs.Laws.Marks.{fit_mark_lem}
-use Rattle.library.specs.Search.{best_in}
 use Rattle.rules.specs.Settings.{Legal}
 use Rattle.rules.specs.Settings as records
 use Rattle.rules.proofs.Marks.{beside_found}

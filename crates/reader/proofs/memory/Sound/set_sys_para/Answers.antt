@@ -1,19 +1,15 @@
 -- A number that is no parameter is 1Ah, a value out of its range 1Bh; otherwise the one parameter is set, and legal settings stay so.
-use mathlib.Core.Path.{◌≡◌, refl, sym, ap}
+use mathlib.Core.Path.{◌≡◌, refl, sym}
 use mathlib.Core.Bool.{true}
-use mathlib.Core.List.{List, []}
-use Prim.Native.Nat.{ℕ, ◌≤◌}
-use lib.Dec.{leb}
+use mathlib.Core.List.{List}
+use Prim.Native.Nat.{ℕ}
 use borrow.Author.Tests.{leb-true}
 use Rattle.protocol.specs.declared.Settings.{Settings}
 use Rattle.protocol.specs.declared.codes.Code.TheVariants.{BadParameter, BadValue}
-use Rattle.protocol.specs.Numbers.{highest_size, done}
+use Rattle.protocol.specs.Numbers.{highest_size}
 use Rattle.protocol.specs.Tests.{verdict}
-use Rattle.protocol.specs.Bytes.{follow}
-use Rattle.protocol.specs.Reader.{Reader, reader, with_tuning}
-use Rattle.protocol.specs.Data.{acknowledge}
+use Rattle.protocol.specs.Reader.{reader, with_tuning}
 use Rattle.protocol.specs.Table.{apply, rule, in_range, with_parameter}
-use Rattle.protocol.specs.Step.{carry, carry_as}
 use Rattle.protocol.specs.Records.{plain_of, reader_of}
 use Rattle.rules.specs.Settings.{Legal}
 use Rattle.reader.specs.declared.parameters.Parameter.{Parameter}
