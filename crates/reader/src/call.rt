@@ -6,7 +6,7 @@ ghost use Rattle.protocol.specs.Bytes.{same};
 ghost use Rattle.protocol.specs.Codes.{refusal_of};
 ghost use Rattle.protocol.specs.Packet.{address_at, right_at};
 ghost use Rattle.protocol.specs.Step.{hear_as, hear_at, answer};
-ghost use Rattle.protocol.specs.Call.{core, shaped, call_of, switch_of};
+ghost use Rattle.protocol.specs.Call.{shaped, call_of, switch_of};
 ghost use Rattle.protocol.specs.Records.{reader_of, switched_of, switched_at};
 ghost use Rattle.rules.specs.Settings.{sound_of};
 ghost use Rattle.reader.specs.Memory.{Kept, reader_at, reader_in, chip_at, said_of};
@@ -155,8 +155,8 @@ impl Reader<'_> {
         is_sound(*self.settings, self.index, self.templates.len() / numbers::PAGE)
     }
 
-    /// A call of a reader whose notepad has `noted` bytes: the chip's scores and thresholds, a received run, and a reply room.
-    pub fn step_shaped(
+    /// A call of a reader whose notepad has `noted` bytes, document 01's with 512: the chip's scores and thresholds, a received run, and a reply room.
+    pub fn step(
         self,
         noted: usize,
         chip: Chip<'_>,
@@ -200,14 +200,6 @@ impl Reader<'_> {
             chip,
         };
         Ok(sound.hear_packet(run, at, len, reply))
-    }
-
-    /// A call of document 01's reader, whose notepad has 512.
-    pub fn step(self, chip: Chip<'_>, run: &[u8], reply: &mut [u8]) -> Result<Lengths, Refusal>
-        ensures { ended_at result self.exit reply.new
-            ≡ call_of core (reader_at self.entry) run.now (lent_at chip.entry reply.old) }
-    {
-        self.step_shaped(numbers::NOTEPAD, chip, run, reply)
     }
 }
 

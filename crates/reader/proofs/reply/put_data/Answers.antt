@@ -1,14 +1,10 @@
 -- A buffer is a whole number of packets of each size, and they fit the room.
-use mathlib.Core.Path.{◌≡◌, refl, sym, ap, ◌∙◌}
-use mathlib.Core.Bool.{cond}
-use Prim.Native.Nat.{ℕ, ◌+◌}
-use native.Mathlib.Omega.{arith}
-use lib.Dec.{eqb}
+use mathlib.Core.Path.{◌≡◌, refl, ◌∙◌}
 use lib.ListN.{length}
 use borrow.Author.Rules.{rules}
-use Rattle.protocol.specs.Numbers.{four_bytes, frame_bytes, data_packet, last_packet}
+use Rattle.protocol.specs.Numbers.{four_bytes}
 use Rattle.rules.proofs.Sizes.{size_legal}
-use Rattle.reader.proofs.Replies.{is_last, is_not_last, CodeSize, code_size, Sending, sending, sent, next_in, next_fits, next_accepted, again, data_in, data_long}
+use Rattle.reader.proofs.Replies.{is_last, is_not_last, code_size, sending, sent, next_in, next_accepted, again, data_in, data_long}
 use Rattle.reader.proofs.reply.put_data.Goals as goal
 use Rattle.reader.proofs.reply.put_data.Goals.{then-next-end, else-next-end}
 

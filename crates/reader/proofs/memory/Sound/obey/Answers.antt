@@ -1,15 +1,11 @@
 -- The rows that take all of the content behind the code, and the one that does nothing.
-use mathlib.Core.Path.{◌≡◌, refl, ap, ◌∙◌}
-use mathlib.Core.List.{List}
+use mathlib.Core.Path.{refl, ap, ◌∙◌}
 use native.Mathlib.Omega.{arith}
-use lib.ListN.{length}
 use Rattle.protocol.specs.Codes.{command_number}
-use Rattle.protocol.specs.Commands.{commands, row_of, set_password, set_address, write_notepad, verify_password, hand_shake}
-use Rattle.protocol.specs.Bytes.{byte_at}
+use Rattle.protocol.specs.Commands.{commands, row_of, hand_shake}
 use Rattle.protocol.specs.Table.{free_rule, public_of}
 use Rattle.protocol.specs.Step.{carry_free}
 use Rattle.rules.specs.Commands.{len_of, read_of, is_free}
-use Rattle.reader.specs.Memory.{freed, obeyed}
 use Rattle.reader.proofs.Laws.{take_rest}
 use Rattle.reader.proofs.Obeying.{free_row, barred_row}
 use Rattle.reader.proofs.memory.Sound.obey.Goals as goal

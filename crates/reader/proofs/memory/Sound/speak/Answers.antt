@@ -1,5 +1,5 @@
 -- Silence is nothing; a buffer that is sent is a page long.
-use mathlib.Core.Path.{◌≡◌, sym}
+use mathlib.Core.Path.{sym}
 use Rattle.protocol.specs.Numbers.{page_bytes}
 use Rattle.protocol.proofs.Laws.Lists.{lay_nothing}
 use Rattle.reader.proofs.Laws.{chosen_long}
