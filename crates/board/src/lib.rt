@@ -39,17 +39,10 @@ pub extern "C" fn bystrodol_build(
     content: &[u8],
     room: &mut [u8],
 ) -> usize
-    ensures { let m = build_service address identifier content.now room.old in
-        (result ≡ m.length) × (room.new ≡ m.room) }
+    ensures length { result ≡ (build_service address identifier content.now room.old).length }
+    ensures room { room.new ≡ (build_service address identifier content.now room.old).room }
 {
-    let four = [
-        (address / 16777216 % 256) as u8,
-        (address / 65536 % 256) as u8,
-        (address / 256 % 256) as u8,
-        (address % 256) as u8,
-    ];
-    let made = builder::build(four, identifier, content, room);
-    made.length
+    builder::build(address.to_be_bytes(), identifier, content, room).unwrap_or(0)
 }
 
 // The number of set bits in an index, FFFFh if it is not 128 bytes long.

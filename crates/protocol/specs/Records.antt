@@ -2,7 +2,6 @@
 use Rattle.std.specs.Prelude.{Bool, false, ◌&&◌, cond, List, [], ℕ, eqb, ltb, Result, Ok, Err}
 use Rattle.protocol.specs.declared.Settings.{Settings}
 use Rattle.protocol.specs.declared.Answered.{Answered}
-use Rattle.protocol.specs.declared.Built.{Built}
 use Rattle.protocol.specs.declared.Lengths.{Lengths}
 use Rattle.protocol.specs.declared.refusals.Refusal.{Refusal}
 use Rattle.protocol.specs.declared.Line.{Line}
@@ -150,6 +149,15 @@ emptied_at x refusal = record { line = x; refusal = refusal }
 -- fresh settings have their filled marks and status bit 1 clear too, and no origins
 abbrev pub fresh_of : List ℕ → List ℕ → List ℕ → List ℕ → List ℕ → Reader
 fresh_of t i n b d = reader fresh (contents t i n (buffer b false no_page) (buffer d false no_page) false)
+
+-- what the builder returns: the refusal or 0, and the packet's length
+pub record Built : Type 0 where
+  pub refusal : ℕ
+  pub length : ℕ
+
+abbrev pub built_of : Result ℕ Refusal → Built
+built_of (Ok n) = record { refusal = 0; length = n }
+built_of (Err e) = record { refusal = refusal_number e; length = 0 }
 
 abbrev pub made_of : Built → List ℕ → Made
 made_of b room = record { refusal = b.refusal; length = b.length; room = room }

@@ -8,16 +8,9 @@ pub mod numbers;
 mod outcomes;
 pub mod refusals;
 
-// The first place with EF followed by 01 (step 1 of finding).
-#[derive(Clone, Copy)]
-pub enum Start {
-    Nowhere,
-    At { place: usize },
-}
-
 // What stands in a run (steps 1 to 4): nothing that starts a packet; one that is not all there yet; a start that no packet has;
 // or a whole packet, with its place and its length field.
-#[derive(Clone, Copy)]
+#[derive(Clone, Copy, Debug, PartialEq, Eq)]
 pub enum Found {
     Noise { used: usize },
     Unfinished { at: usize },
@@ -66,13 +59,6 @@ pub struct Lengths {
 pub struct Answered {
     pub refusal: u8,
     pub used: usize,
-    pub length: usize,
-}
-
-// What the builder returns: the refusal or 0, and the packet's length.
-#[derive(Clone, Copy)]
-pub struct Built {
-    pub refusal: u8,
     pub length: usize,
 }
 

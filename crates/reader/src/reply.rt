@@ -1,9 +1,8 @@
 // What an answer writes into the reply room: the acknowledge, and a buffer's bytes in data packets of one size.
-ghost use Rattle.std.specs.Prelude.{◌≡◌, true, [], ◌+◌, ◌≤◌, length};
-ghost use Rattle.protocol.specs.Numbers.{page_bytes, frame_bytes, reply_room, highest_size, done};
+ghost use Rattle.std.specs.Prelude.{◌≡◌, [], ◌+◌, ◌≤◌, length};
+ghost use Rattle.protocol.specs.Numbers.{page_bytes, reply_room, highest_size, done};
 ghost use Rattle.protocol.specs.Bytes.{lay, follow};
 ghost use Rattle.protocol.specs.Codes.{code_number};
-ghost use Rattle.protocol.specs.Packet.{length_of, packet, accepts};
 ghost use Rattle.protocol.specs.Reader.{size_of};
 ghost use Rattle.protocol.specs.Data.{acknowledge, data_packets};
 ghost use Rattle.reader.specs.Answers.{spoken_of, listed_bytes, upload_bytes};
@@ -17,17 +16,6 @@ use protocol::identifiers::Identifier;
 use protocol::{Settings, numbers};
 use rules::settings;
 use wire::builder;
-
-// Writes a packet at the front of the reply room, and returns its length. The builder refuses neither its content nor the room.
-fn put_packet(address: [u8; 4], identifier: u8, content: &[u8], reply: &mut [u8]) -> usize
-    requires accepted { accepts identifier (length_of content.now) ≡ true }
-    requires room { length content.now + frame_bytes ≤ length reply.old }
-    ensures length { result ≡ length content.now + frame_bytes }
-    ensures written { reply.new ≡ lay 0 (packet address identifier content.now) reply.old }
-{
-    let made = builder::build(address, identifier, content, reply);
-    made.length
-}
 
 // Writes an acknowledge at the front of the reply room, and returns its length. The number of its bytes is fixed for each kind of answer, which makes
 // the short ones quick.
@@ -45,7 +33,7 @@ fn put_acknowledge<const N: usize>(
     let mut content = [0; numbers::NOTE + 1];
     content[0] = u8::from(code);
     content[1..N + 1].copy_from_slice(&bytes);
-    put_packet(
+    builder::lay_packet(
         address,
         Identifier::Acknowledge as u8,
         &content[..N + 1],
@@ -72,7 +60,7 @@ fn put_data(settings: Settings, bytes: &[u8], at: usize, reply: &mut [u8]) -> us
         } else {
             Identifier::Data as u8
         };
-        put_packet(settings.address, identifier, content, &mut reply[to..next]);
+        builder::lay_packet(settings.address, identifier, content, &mut reply[to..next]);
         to = next;
     }
     end

@@ -7,6 +7,5 @@ use Rattle.reader.proofs.reply.put_data.Given as goal
 abbrev pub invariant-loop-content : goal.invariant-loop-content
 invariant-loop-content l =
     (goal.iterator-loop-content).can_next l.content-iterator ×
-    (goal.iterator-loop-content).is_finite l.content-iterator ×
     (chunks_exact_size l.content-iterator ≡ l.size) ×
     Sending l.settings.address l.bytes l.size l.at l.end l.initial.reply l.reply (chunks_exact_rest l.content-iterator) l.to

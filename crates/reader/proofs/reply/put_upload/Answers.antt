@@ -16,7 +16,7 @@ put_data-requires-clause-room c =
     omega arith
 
 pub returns-clause-length : goal.returns-clause-length
-returns-clause-length c = both_long _ _ _ c.put_acknowledge-at.ensures.length _ c.put_data.ensures.end
+returns-clause-length c = search both_long
 
 pub returns-clause-written : goal.returns-clause-written
 returns-clause-written c =
