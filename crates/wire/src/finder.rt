@@ -6,7 +6,6 @@ ghost use Rattle.protocol.specs.Finder.{start_of, all_but, find_of, used_of};
 ghost use Rattle.protocol.specs.Services.{used_service};
 ghost use Rattle.wire.specs.Limits.{limit_of};
 
-use crate::bytes;
 use protocol::identifiers::Identifier;
 use protocol::{Found, numbers};
 
@@ -59,7 +58,7 @@ pub fn find(s: &[u8]) -> Found
     let [_, _, _, _, _, _, identifier, high, low, behind @ ..] = packet else {
         return Found::Unfinished { at };
     };
-    let len = bytes::word(*high, *low);
+    let len = usize::from(u16::from_be_bytes([*high, *low]));
     if !is_head(*identifier, len) {
         return Found::Unfit { at };
     }
