@@ -44,7 +44,7 @@ pub fn limit_of(i: u8) -> Option<usize>
 pub fn is_head(i: u8, n: usize) -> bool
     ensures { result ≡ accepts i n }
 {
-    limit_of(i).is_some_and(|most| numbers::SHORTEST <= n && n <= most)
+    limit_of(i).is_some_and(|most| (numbers::SHORTEST..=most).contains(&n))
 }
 
 // Steps 1 to 4.
