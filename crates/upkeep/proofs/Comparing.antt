@@ -2,7 +2,7 @@
 use mathlib.Core.Path.{◌≡◌, refl, sym, ap, ap₂, ◌∙◌}
 use mathlib.Core.Bool.{Bool, true, false, ◌&&◌, not}
 use mathlib.Core.Logic.{◌≢◌}
-use mathlib.Core.List.{List, ◌++◌}
+use mathlib.Core.List.{List, [], ◌∷◌, ◌++◌}
 use Prim.Native.Nat.{ℕ, ◌+◌, ◌-◌, ◌*◌, ◌/◌, ◌≤◌, ◌<◌}
 use native.Mathlib.Numerals.{add-one}
 use native.Mathlib.Omega.{arith}
@@ -12,6 +12,7 @@ use lib.ListN.{length, take, drop, get_or, set, length-set, length-append, lengt
 use lib.Seq.{take_all, take-suc, length-take-le}
 use borrow.Rule.Slice.PartMut.{put_mid}
 use borrow.Author.Tests.{eq-eqb, ne_eqb, eqb-true, eqb-false}
+use Rattle.std.specs.List.{fold, zip}
 use Rattle.protocol.specs.Bytes.{part, same, lay}
 use Rattle.protocol.specs.Tests.{listed}
 use Rattle.protocol.specs.Index.{stored}
@@ -42,23 +43,25 @@ xor_none a b = go (eqb a b) refl
         eq-eqb (bit_xor a b) 0 (omega (arith, xor_add_and a b))
     go false e = ne_eqb (bit_xor a b) 0 (λ z. eqb-false a b e (omega (arith, xor_add_and a b, and_le_l a b, and_le_r a b)))
 
-module _ (a b : List ℕ) (l : length a ≡ length b) where
-  -- what was found in the first i places is 0 just where they are the same
-  pub equal_none : eqb 0 0 ≡ same (take 0 a) (take 0 b)
-  unfolding same
-  equal_none = refl
-
-  pub equal_more : (found i : ℕ) → eqb found 0 ≡ same (take i a) (take i b) → i < length a
-      → eqb (bit_or found (bit_xor (get_or a i 0) (get_or b i 0))) 0 ≡ same (take (i + 1) a) (take (i + 1) b)
-  equal_more found i e h =
-      let m : i < length b = omega arith in
-      let x : length (take i a) ≡ length (take i b) = length-take-le i a (omega arith) ∙ sym (length-take-le i b (omega arith)) in
-      rw (add-one, take-suc a i 0 h, take-suc b i 0 m)
-      (or_none found (bit_xor (get_or a i 0) (get_or b i 0)) ∙ ap₂ ◌&&◌ e (xor_none (get_or a i 0) (get_or b i 0))
-      ∙ sym (same_one (take i a) (take i b) (get_or a i 0) (get_or b i 0) x))
-
-  pub equal_all : (found i : ℕ) → eqb found 0 ≡ same (take i a) (take i b) → i ≤ length a → length a ≤ i → eqb found 0 ≡ same a b
-  equal_all found i e h k = e ∙ ap₂ same (take_all i a k) (take_all i b (omega arith))
+-- what is found in two runs of equally many bytes is 0 just where nothing was found before and they are the same
+pub none_differ : (found : ℕ) (a b : List ℕ) → length a ≡ length b
+    → eqb (fold (λ found p. bit_or found (bit_xor p.0 p.1)) found (zip a b)) 0 ≡ (eqb found 0 && same a b)
+unfolding same
+none_differ found [] [] l = go (eqb found 0)
+  where
+    go : (p : Bool) → p ≡ (p && true)
+    go true = refl
+    go false = refl
+none_differ found [] (y ∷ b) l = absurd (omega arith)
+none_differ found (x ∷ a) [] l = absurd (omega arith)
+none_differ found (x ∷ a) (y ∷ b) l =
+    none_differ (bit_or found (bit_xor x y)) a b (omega arith)
+    ∙ ap (λ (p : Bool). p && same a b) (or_none found (bit_xor x y) ∙ ap (λ (p : Bool). eqb found 0 && p) (xor_none x y))
+    ∙ sym (assoc (eqb found 0) (eqb x y) (same a b))
+  where
+    assoc : (p q r : Bool) → (p && (q && r)) ≡ ((p && q) && r)
+    assoc true q r = refl
+    assoc false q r = refl
 
 pub not_long : (a b : List ℕ) → length a ≢ length b → false ≡ same a b
 not_long a b n = sym (same_no a b (λ e. n (ap length e)))

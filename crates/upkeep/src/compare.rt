@@ -32,12 +32,7 @@ fn is_equal(a: &[u8], b: &[u8]) -> bool
     if a.len() != b.len() {
         return false;
     }
-    let mut found = 0u8;
-    let mut i = 0;
-    while i < a.len() {
-        found = found | (a[i] ^ b[i]);
-        i += 1;
-    }
+    let found = a.iter().zip(b).fold(0u8, |found, (x, y)| found | (x ^ y));
     found == 0
 }
 
