@@ -27,7 +27,8 @@ use Rattle.protocol.specs.Index.{clear_from}
 use Rattle.protocol.specs.Tests.{verdict}
 use Rattle.offline.specs.Compare.{library, page_code, page_says, note_says, report_of, Compared, fits_beside, fit_compare, clear_beyond, compare_refusal, compare_as, compare_of}
 use Rattle.offline.specs.Records.{compared_of}
-use Rattle.upkeep.specs.Compare.{note_code, fits_notes, note_codes, Shelves, fits_with_notepad, fits_two}
+use Rattle.upkeep.specs.declared.compare.Difference.{Difference}
+use Rattle.upkeep.specs.Compare.{difference_number, note_code, fits_notes, note_codes, Shelves, fits_two}
 use Rattle.upkeep.specs.Lent.{fits_pages}
 
 -- ---- two runs of bytes
@@ -63,40 +64,16 @@ none_differ found (x ∷ a) (y ∷ b) l =
     assoc true q r = refl
     assoc false q r = refl
 
-pub not_long : (a b : List ℕ) → length a ≢ length b → false ≡ same a b
-not_long a b n = sym (same_no a b (λ e. n (ap length e)))
+pub not_long : (a b : List ℕ) → length a ≢ length b → eqb (length a) (length b) ≡ same a b
+not_long a b n = ne_eqb (length a) (length b) n ∙ sym (same_no a b (λ e. n (ap length e)))
 
--- ---- the codes, by whether each library has the page and whether its bytes are the same
+-- ---- the codes
 
-module _ (one two x y : Bool) (p : one ≡ x) (q : two ≡ y) where
-  module _ (z : Bool) where
-    pub second_alone : not one ≡ true → two ≡ true → 2 ≡ page_code x y z
-    unfolding page_code
-    second_alone a b = rw (sym p ∙ not_true one a, sym q ∙ b) refl
-
-    pub neither : not one ≡ true → two ≡ false → 0 ≡ page_code x y z
-    unfolding page_code
-    neither a b = rw (sym p ∙ not_true one a, sym q ∙ b) refl
-
-    pub first_alone : not one ≡ false → not two ≡ true → 1 ≡ page_code x y z
-    unfolding page_code
-    first_alone a b = rw (sym p ∙ not_false one a, sym q ∙ not_true two b) refl
-
-  module _ (equal z : Bool) (e : equal ≡ z) (a : not one ≡ false) (b : not two ≡ false) where
-    pub both_equal : equal ≡ true → 0 ≡ page_code x y z
-    unfolding page_code
-    both_equal f = rw (sym p ∙ not_false one a, sym q ∙ not_false two b, sym e ∙ f) refl
-
-    pub both_different : equal ≡ false → 3 ≡ page_code x y z
-    unfolding page_code
-    both_different f = rw (sym p ∙ not_false one a, sym q ∙ not_false two b, sym e ∙ f) refl
-
-module _ (equal : Bool) (s t : List ℕ) (e : equal ≡ same s t) where
-  pub note_equal : equal ≡ true → 0 ≡ note_code s t
-  note_equal f = rw (sym e ∙ f) refl
-
-  pub note_different : equal ≡ false → 3 ≡ note_code s t
-  note_different f = rw (sym e ∙ f) refl
+-- of a page that both libraries have, d being what is found of its bytes
+pub both_there : (x y : Bool) → true ≡ x → true ≡ y → (s t : List ℕ) (d e : Difference) (k : ℕ) → difference_number d ≡ note_code s t → e ≡ d → k ≡ difference_number e
+    → k ≡ page_code x y (same s t)
+unfolding page_code
+both_there x y a b s t d e k f g h = rw (sym a, sym b) (h ∙ ap difference_number g ∙ f)
 
 -- ---- codes put one behind the other
 
@@ -186,33 +163,18 @@ module _ (n m v : List ℕ) where
         pub none_noted : Listing (note_says n m) 16 v v 0
         none_noted = none_listed (note_says n m) 16 v (omega arith)
 
-        pub one_noted : (w : List ℕ) (k : ℕ) → Listing (note_says n m) 16 v w k → k < 16 → (j : ℕ)
-            → j ≡ note_code (take (32 * k + 32 - 32 * k) (drop (32 * k) n)) (take (32 * k + 32 - 32 * k) (drop (32 * k) m)) → Listing (note_says n m) 16 v (set w k j) (k + 1)
+        pub one_noted : (w : List ℕ) (k : ℕ) → Listing (note_says n m) 16 v w k → k < length v → (i j : ℕ)
+            → i ≡ note_code (take (32 * k + 32 - 32 * k) (drop (32 * k) n)) (take (32 * k + 32 - 32 * k) (drop (32 * k) m)) → j ≡ i → Listing (note_says n m) 16 v (set w k j) (k + 1)
         unfolding note_says
-        one_noted w k h l j e =
-            let i : 32 * k + 32 - 32 * k ≡ 32 = omega arith in
-            one_listed (note_says n m) 16 v w k h l j (e ∙ ap (λ (z : ℕ). note_code (take z (drop (32 * k) n)) (take z (drop (32 * k) m))) i)
+        one_noted w k h l i j e f =
+            let z : 32 * k + 32 - 32 * k ≡ 32 = omega arith in
+            one_listed (note_says n m) 16 v w k h (omega arith) j (f ∙ e ∙ ap (λ (z : ℕ). note_code (take z (drop (32 * k) n)) (take z (drop (32 * k) m))) z)
 
-        pub all_noted : (w : List ℕ) (k : ℕ) → Listing (note_says n m) 16 v w k → 16 ≤ k → w ≡ note_codes n m v
+        pub all_noted : (w : List ℕ) (k : ℕ) → Listing (note_says n m) 16 v w k → length v ≤ k → w ≡ note_codes n m v
         all_noted w k h l =
-            all_listed (note_says n m) 16 v w k h l ∙ lay_whole (listed (note_says n m) 16) v (length_listed (note_says n m) 16 ∙ sym c) ∙ sym (notes_fit n m v a b c)
+            all_listed (note_says n m) 16 v w k h (omega arith) ∙ lay_whole (listed (note_says n m) 16) v (length_listed (note_says n m) 16 ∙ sym c) ∙ sym (notes_fit n m v a b c)
 
 -- ---- the lengths of two libraries and of a report
-
-module _ (one x : Bool) (p : one ≡ x) where
-  pub first_unfit : (b c d : Bool) → not one ≡ true → false ≡ (x && b && c && d)
-  first_unfit b c d f = rw (sym p ∙ not_true one f) refl
-
-  module _ (two y : Bool) (q : two ≡ y) (f : not one ≡ false) where
-    pub second_unfit : (c d : Bool) → not two ≡ true → false ≡ (x && y && c && d)
-    second_unfit c d g = rw (sym p ∙ not_false one f, sym q ∙ not_true two g) refl
-
-    module _ (g : not two ≡ false) (t u : ℕ) where
-      pub unequal : (d : Bool) → t ≢ u → false ≡ (x && y && eqb t u && d)
-      unequal d h = rw (sym p ∙ not_false one f, sym q ∙ not_false two g, ne_eqb t u h) refl
-
-      pub report_last : (d : Bool) → t ≡ u → d ≡ (x && y && eqb t u && d)
-      report_last d h = rw (sym p ∙ not_false one f, sym q ∙ not_false two g, eq-eqb t u h) refl
 
 -- what fit lengths say
 pub record Fit (n t m u v : ℕ) : Type 0 where
@@ -222,11 +184,11 @@ pub record Fit (n t m u v : ℕ) : Type 0 where
   pub second : m ≡ 512
   pub entries : v ≡ t / 512 + 16
 
-module _ (i n t j m u v : ℕ) (fit : Bool) (e : fit ≡ fits_two i n t j m u v) (f : not fit ≡ false) where
+module _ (i n t j m u v : ℕ) (fit : Bool) (e : fit ≡ fits_two i n t j m u v) (f : fit ≡ true) where
   pub fit_lengths_lem : Fit n t m u v
-  unfolding fits_two fits_with_notepad fits_pages core
+  unfolding fits_two fits_pages core
   fit_lengths_lem =
-      let a : T (fits_two i n t j m u v) = rw (sym e ∙ not_false fit f) tt in
+      let a : T (fits_two i n t j m u v) = rw (sym e ∙ f) tt in
       let long : t ≡ 512 * (t / 512) = eqb→eq t (512 * (t / 512)) (search (and_l, and_r) depth 12) in
       let other : u ≡ 512 * (u / 512) = eqb→eq u (512 * (u / 512)) (search (and_l, and_r) depth 12) in
       let pages : t / 512 ≡ u / 512 = eqb→eq (t / 512) (u / 512) (search (and_l, and_r) depth 12) in
@@ -238,7 +200,7 @@ module _ (i n t j m u v : ℕ) (fit : Bool) (e : fit ≡ fits_two i n t j m u v)
         entries = eqb→eq v (t / 512 + 16) (search (and_l, and_r) depth 12);
       }
 
-pub shelved : (i n j m : ℕ) (t u v : List ℕ) (fit : Bool) → fit ≡ fits_two i n (length t) j m (length u) (length v) → not fit ≡ false → Shelves t u v
+pub shelved : (i n j m : ℕ) (t u v : List ℕ) (fit : Bool) → fit ≡ fits_two i n (length t) j m (length u) (length v) → fit ≡ true → Shelves t u v
 shelved i n j m t u v fit e f =
     let h = fit_lengths_lem i n (length t) j m (length u) (length v) fit e f in
     record { long = h.long; alike = h.alike; room = omega (arith, h.entries) }
@@ -249,32 +211,32 @@ module _ (x n t y m u v : List ℕ) (fit : Bool) (e : fit ≡ fits_two (length x
   abbrev is : Compared
   is = compare_of core (library x n t) (library y m u) v
 
-  pub unfit : not fit ≡ true → compared_of 1 v ≡ is
-  unfolding compare_of compare_refusal compare_as fit_compare fits_beside fits_two fits_with_notepad fits_pages core verdict
-  unfit f = rw (sym e ∙ not_true fit f) refl
+  pub unfit : fit ≡ false → compared_of 1 v ≡ is
+  unfolding compare_of compare_refusal compare_as fit_compare fits_beside fits_two fits_pages core verdict
+  unfit f = rw (sym e ∙ f) refl
 
-  module _ (f : not fit ≡ false) where
+  module _ (f : fit ≡ true) where
     abbrev lengths : Fit (length n) (length t) (length m) (length u) (length v)
     lengths = fit_lengths_lem (length x) (length n) (length t) (length y) (length m) (length u) (length v) fit e f
 
     module _ (p : Bool) (g : p ≡ clear_from x (length t / 512)) where
-      pub first_beyond : not p ≡ true → compared_of 3 v ≡ is
-      unfolding compare_of compare_refusal compare_as fit_compare fits_beside fits_two fits_with_notepad fits_pages clear_beyond core verdict
-      first_beyond h = rw (sym e ∙ not_false fit f, sym g ∙ not_true p h) refl
+      pub first_beyond : p ≡ false → compared_of 3 v ≡ is
+      unfolding compare_of compare_refusal compare_as fit_compare fits_beside fits_two fits_pages clear_beyond core verdict
+      first_beyond h = rw (sym e ∙ f, sym g ∙ h) refl
 
-      module _ (h : not p ≡ false) (q : Bool) (k : q ≡ clear_from y (length t / 512)) where
-        pub second_beyond : not q ≡ true → compared_of 3 v ≡ is
-        unfolding compare_of compare_refusal compare_as fit_compare fits_beside fits_two fits_with_notepad fits_pages clear_beyond core verdict
+      module _ (h : p ≡ true) (q : Bool) (k : q ≡ clear_from y (length t / 512)) where
+        pub second_beyond : q ≡ false → compared_of 3 v ≡ is
+        unfolding compare_of compare_refusal compare_as fit_compare fits_beside fits_two fits_pages clear_beyond core verdict
         second_beyond l =
-            let z : clear_from y (length u / 512) ≡ false = ap (clear_from y) (ap (λ (i : ℕ). i / 512) lengths.alike) ∙ sym k ∙ not_true q l in
-            rw (sym e ∙ not_false fit f, sym g ∙ not_false p h, z) refl
+            let z : clear_from y (length u / 512) ≡ false = ap (clear_from y) (ap (λ (i : ℕ). i / 512) lengths.alike) ∙ sym k ∙ l in
+            rw (sym e ∙ f, sym g ∙ h, z) refl
 
-        pub reported : not q ≡ false → (w z : List ℕ) → ((a b : List ℕ) → w ≡ lay 0 (listed (page_says (library x a t) (library y b u)) (length t / 512)) v)
+        pub reported : q ≡ true → (w z : List ℕ) → ((a b : List ℕ) → w ≡ lay 0 (listed (page_says (library x a t) (library y b u)) (length t / 512)) v)
             → z ≡ note_codes n m (take (length w - length t / 512) (drop (length t / 512) w)) → compared_of 0 (put_mid (length t / 512) (length w - length t / 512) w z) ≡ is
-        unfolding compare_of compare_refusal compare_as fit_compare fits_beside fits_two fits_with_notepad fits_pages clear_beyond core verdict report_of
+        unfolding compare_of compare_refusal compare_as fit_compare fits_beside fits_two fits_pages clear_beyond core verdict report_of
         reported l w z i j =
-            let c : clear_from y (length u / 512) ≡ true = ap (clear_from y) (ap (λ (i : ℕ). i / 512) lengths.alike) ∙ sym k ∙ not_false q l in
-            rw (sym e ∙ not_false fit f, sym g ∙ not_false p h, c) (ap (compared_of 0) (joined w z (i n m) j))
+            let c : clear_from y (length u / 512) ≡ true = ap (clear_from y) (ap (λ (i : ℕ). i / 512) lengths.alike) ∙ sym k ∙ l in
+            rw (sym e ∙ f, sym g ∙ h, c) (ap (compared_of 0) (joined w z (i n m) j))
           where
             s : List ℕ
             s = listed (page_says (library x n t) (library y m u)) (length t / 512)

@@ -34,7 +34,3 @@ pub record Tidied (t x u y w : List ℕ) : Type 0 where
 -- an origin's number by the table; a number that is none of its pages stays
 unfoldable pub followed_in : List ℕ → ℕ → ℕ
 followed_in w o = cond (ltb o (length w)) (get_or w o 0) o
-
--- lengths of templates, index and table
-unfoldable pub fits_of : ℕ → ℕ → ℕ → Bool
-fits_of t i n = closing_fits core (t / page_bytes) t i n
