@@ -7,12 +7,6 @@ use Rattle.protocol.specs.Call.{core}
 use Rattle.offline.specs.Compare.{note_says, note_pages}
 use Rattle.offline.specs.Print.{letter_t, letter_n, line_of, lines_of, refusal_line}
 
--- the line of a page with a code: the first len bytes of all
-pub record LineIs (letter page code len : ℕ) (all : List ℕ) : Type 0 where
-  pub bytes : take len all ≡ line_of letter page code
-  pub few : len ≤ 7
-  pub long : 7 ≡ length all
-
 -- the lines of the first n codes v
 abbrev pub code_lines : ℕ → List ℕ → ℕ → List ℕ
 code_lines letter v n = lines_of letter (λ q. get_or v q 0) n
