@@ -1,6 +1,6 @@
 // Comparing (request [11]): what two libraries of equal capacity have, page by page and notepad page by notepad page.
 ghost use Rattle.std.specs.Prelude.{◌≡◌, List, ℕ, ◌/◌, length};
-ghost use Rattle.protocol.specs.Numbers.{page_bytes};
+ghost use Rattle.protocol.specs.Numbers.{page_bytes, notepad_bytes};
 ghost use Rattle.protocol.specs.Bytes.{same, lay};
 ghost use Rattle.protocol.specs.Index.{stored};
 ghost use Rattle.protocol.specs.Tests.{listed};
@@ -9,6 +9,7 @@ ghost use Rattle.protocol.specs.Call.{core};
 ghost use Rattle.offline.specs.Compare.{library, page_code, page_says, compare_of};
 ghost use Rattle.offline.specs.Records.{compared_of};
 ghost use Rattle.upkeep.specs.Compare.{difference_number, note_code, note_codes, Shelves, fits_two};
+ghost use Rattle.upkeep.specs.Lent.{fits_lent};
 
 use crate::lent;
 use library::index;
@@ -17,6 +18,14 @@ use protocol::refusals::Refusal;
 
 // The notepad's pages.
 pub const NOTES: usize = numbers::NOTEPAD / numbers::NOTE;
+
+// A library with its notepad, lent to be read.
+#[derive(Clone, Copy)]
+pub struct Library<'a> {
+    pub index: &'a [u8],
+    pub notepad: &'a [u8],
+    pub templates: &'a [u8],
+}
 
 // How a page of two libraries differs, or a page of their notepads, by its number in the report.
 #[derive(Clone, Copy, Debug, PartialEq, Eq)]
@@ -61,23 +70,17 @@ pub fn page_code(index1: &[u8], index2: &[u8], p: usize, a: &[u8], b: &[u8]) -> 
 }
 
 // What is said of every page, at the front of the report.
-fn compare_pages(
-    index1: &[u8],
-    templates1: &[u8],
-    index2: &[u8],
-    templates2: &[u8],
-    report: &mut [u8],
-)
-    requires { Shelves templates1.now templates2.now report.old }
+fn compare_pages(one: Library, two: Library, report: &mut [u8])
+    requires { Shelves one.templates.now two.templates.now report.old }
     ensures { (n m : List ℕ) → report.new
-        ≡ lay 0 (listed (page_says (library index1.now n templates1.now) (library index2.now m templates2.now))
-        (length templates1.now / page_bytes)) report.old }
+        ≡ lay 0 (listed (page_says (library one.entry.index.now n one.entry.templates.now) (library two.entry.index.now m two.entry.templates.now))
+        (length one.entry.templates.now / page_bytes)) report.old }
 {
-    let end = templates1.len() / numbers::PAGE;
+    let end = one.templates.len() / numbers::PAGE;
     for p in 0..end {
         let a = numbers::PAGE * p;
         let e = a + numbers::PAGE;
-        report[p] = page_code(index1, index2, p, &templates1[a..e], &templates2[a..e]);
+        report[p] = page_code(one.index, two.index, p, &one.templates[a..e], &two.templates[a..e]);
     }
 }
 
@@ -101,51 +104,50 @@ pub fn note_codes(notepad1: &[u8], notepad2: &[u8], codes: &mut [u8])
     }
 }
 
-// Whether the lengths of two libraries and their notepads are right, the capacities equal, and the report as long as it must be.
-fn are_fit(i1: usize, n1: usize, t1: usize, i2: usize, n2: usize, t2: usize, entries: usize) -> bool
-    ensures { result ≡ fits_two i1 n1 t1 i2 n2 t2 entries }
+// Whether the lengths of a library and its notepad are right.
+fn is_fit(a: Library) -> bool
+    ensures { result ≡ fits_lent (length a.entry.templates.now) (length a.entry.index.now) (length a.entry.notepad.now) notepad_bytes }
 {
-    lent::is_fit(t1, i1, n1, numbers::NOTEPAD)
-        && lent::is_fit(t2, i2, n2, numbers::NOTEPAD)
-        && t1 / numbers::PAGE == t2 / numbers::PAGE
-        && entries == t1 / numbers::PAGE + NOTES
+    lent::is_fit(
+        a.templates.len(),
+        a.index.len(),
+        a.notepad.len(),
+        numbers::NOTEPAD,
+    )
+}
+
+// Whether the lengths of two libraries and their notepads are right, the capacities equal, and the report as long as it must be.
+fn are_fit(one: Library, two: Library, entries: usize) -> bool
+    ensures { result ≡ fits_two
+        (length one.entry.index.now) (length one.entry.notepad.now) (length one.entry.templates.now)
+        (length two.entry.index.now) (length two.entry.notepad.now) (length two.entry.templates.now)
+        entries }
+{
+    let pages = one.templates.len() / numbers::PAGE;
+    is_fit(one)
+        && is_fit(two)
+        && pages == two.templates.len() / numbers::PAGE
+        && entries == pages + NOTES
 }
 
 // Two libraries of equal capacity with their notepads, and a report of C + 16 bytes.
-pub fn compare(
-    index1: &[u8],
-    notepad1: &[u8],
-    templates1: &[u8],
-    index2: &[u8],
-    notepad2: &[u8],
-    templates2: &[u8],
-    report: &mut [u8],
-) -> Result<(), Refusal>
+pub fn compare(one: Library, two: Library, report: &mut [u8]) -> Result<(), Refusal>
     ensures { compared_of (refusal_of result) report.new ≡ compare_of core
-        (library index1.now notepad1.now templates1.now)
-        (library index2.now notepad2.now templates2.now)
+        (library one.entry.index.now one.entry.notepad.now one.entry.templates.now)
+        (library two.entry.index.now two.entry.notepad.now two.entry.templates.now)
         report.old }
 {
-    let fit = are_fit(
-        index1.len(),
-        notepad1.len(),
-        templates1.len(),
-        index2.len(),
-        notepad2.len(),
-        templates2.len(),
-        report.len(),
-    );
-    if !fit {
+    if !are_fit(one, two, report.len()) {
         return Err(Refusal::BadLength);
     }
-    let c = templates1.len() / numbers::PAGE;
-    if !index::is_clear_from(index1, c) {
+    let c = one.templates.len() / numbers::PAGE;
+    if !index::is_clear_from(one.index, c) {
         return Err(Refusal::BadSetting);
     }
-    if !index::is_clear_from(index2, c) {
+    if !index::is_clear_from(two.index, c) {
         return Err(Refusal::BadSetting);
     }
-    compare_pages(index1, templates1, index2, templates2, report);
-    note_codes(notepad1, notepad2, &mut report[c..]);
+    compare_pages(one, two, report);
+    note_codes(one.notepad, two.notepad, &mut report[c..]);
     Ok(())
 }

@@ -17,7 +17,8 @@ use wire::bytes;
 
 // Copies a page to another place, by way of an array of its own: the compiler makes one memmove of it, and does not go byte by byte.
 fn move_page(templates: &mut [u8], from: usize, to: usize)
-    requires { (from < length templates.old / page_bytes) × (to < length templates.old / page_bytes) }
+    requires source { from < length templates.old / page_bytes }
+    requires target { to < length templates.old / page_bytes }
     ensures { templates.new ≡ move_page from to templates.old }
 {
     let mut page = [0u8; numbers::PAGE];

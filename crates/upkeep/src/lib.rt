@@ -10,6 +10,7 @@ ghost use Rattle.offline.specs.Salvage.{salvage_of};
 ghost use Rattle.offline.specs.Compare.{library, compare_of};
 ghost use Rattle.offline.specs.Records.{closed_of, moved_at, salvaged_of, compared_of};
 
+use compare::Library;
 use protocol::Settings;
 use protocol::refusals::refusal_of;
 
@@ -58,7 +59,15 @@ pub extern "C" fn bystrodol_compare(
         (library index2.now notepad2.now templates2.now)
         report.old }
 {
-    refusal_of(&compare::compare(
-        index1, notepad1, templates1, index2, notepad2, templates2, report,
-    ))
+    let one = Library {
+        index: index1,
+        notepad: notepad1,
+        templates: templates1,
+    };
+    let two = Library {
+        index: index2,
+        notepad: notepad2,
+        templates: templates2,
+    };
+    refusal_of(&compare::compare(one, two, report))
 }

@@ -17,6 +17,9 @@ use wire::bytes;
 // The entries of a report: one for each bit of the index.
 const ENTRIES: usize = 8 * numbers::INDEX;
 
+// An index byte of eight stored pages.
+const ALL_STORED: u8 = 255;
+
 // What was done to a page or a bit, by its number in the report.
 #[derive(Clone, Copy, Debug, PartialEq, Eq)]
 enum Entry {
@@ -24,9 +27,6 @@ enum Entry {
     BitCleared = 1,
     PageZeroed = 2,
 }
-
-// An index byte of eight stored pages.
-const ALL_STORED: u8 = 255;
 
 impl From<Entry> for u8 {
     ghost from_gives = { λ entry number. number ≡ entry_number entry };
@@ -66,7 +66,7 @@ fn salvage_page(templates: &mut [u8], index: &[u8], report: &mut [u8], p: usize)
     p + 1
 }
 
-// Zeroes the report, and salvages all pages.
+// Zeroes the report, and salvages all pages. It goes on by one page or to the next byte of the index, as no range does.
 fn salvage_pages(templates: &mut [u8], index: &[u8], report: &mut [u8])
     requires { Reporting templates.old index.now report.old }
     ensures { PagesSalvaged templates.old index.now
@@ -80,7 +80,7 @@ fn salvage_pages(templates: &mut [u8], index: &[u8], report: &mut [u8])
     }
 }
 
-// An entry for each bit from c on: 1 for one that is set, and is to be cleared.
+// An entry for each bit from c on. One that is set is to be cleared.
 fn report_bits(index: &[u8], report: &mut [u8], c: usize)
     requires { length report.old ≡ 8 * length index.now }
     ensures { BitsReported c index.now report.old report.new }
