@@ -5,7 +5,7 @@ use Rattle.protocol.specs.Bytes.{lay}
 use Rattle.protocol.specs.Index.{clear_from}
 use Rattle.protocol.specs.Call.{core}
 use Rattle.offline.specs.Compare.{note_says, note_pages}
-use Rattle.offline.specs.Print.{letter_t, letter_n, line_of, lines_of, refusal_line}
+use Rattle.offline.specs.Print.{letter_t, letter_n, lines_of, refusal_line}
 
 -- the lines of the first n codes v
 abbrev pub code_lines : ℕ → List ℕ → ℕ → List ℕ

@@ -112,9 +112,7 @@ fn tell<F: Read>(one: &mut Option<F>, two: &mut Option<F>, text: &mut [u8]) -> u
         &mut notepad2,
         &mut codes,
     );
-    print::text(
-        &index1, &notepad1, &index2, &notepad2, pages, &codes, text,
-    )
+    print::text(&index1, &notepad1, &index2, &notepad2, pages, &codes, text)
 }
 
 // Opens the file that an argument names; none where there is no such argument, or the file cannot be opened. Only a name that is

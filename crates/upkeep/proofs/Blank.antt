@@ -1,37 +1,14 @@
--- Bytes that are zero: a run of them, a page of them, and such a page zeroed.
-use mathlib.Core.Path.{◌≡◌, refl, sym, ap, ap₂, ◌∙◌}
-use mathlib.Core.Bool.{Bool, true, false, ◌&&◌}
-use mathlib.Core.List.{List, [], ◌∷◌, ◌++◌}
-use Prim.Native.Nat.{ℕ, ◌+◌, ◌-◌, ◌*◌, ◌/◌, ◌≤◌, ◌<◌}
-use native.Mathlib.Numerals.{add-one}
+-- A page whose bytes are all zero, and such a page zeroed.
+use mathlib.Core.Path.{◌≡◌, sym, ap, ◌∙◌}
+use mathlib.Core.Bool.{Bool, false}
+use mathlib.Core.List.{List, ◌++◌}
+use Prim.Native.Nat.{ℕ, ◌+◌, ◌-◌, ◌*◌, ◌/◌, ◌<◌}
 use native.Mathlib.Omega.{arith}
-use lib.Dec.{eqb}
-use lib.Bits.{bit_or}
-use lib.ListN.{length, take, drop, get_or, length-replicate, length-take, length-drop, take-append-drop, replicate-append-replicate}
-use lib.Seq.{take_all, take-suc, drop-drop, length-take-le, get_or-take, get_or-drop}
+use lib.ListN.{length, take, drop, get_or, length-replicate, take-append-drop}
+use lib.Seq.{drop-drop, get_or-take, get_or-drop}
 use Rattle.protocol.specs.Bytes.{part, zeros, same, lay}
 use Rattle.protocol.proofs.Laws.Lists.{same_no}
-use Rattle.library.proofs.Bits.{or_none}
 use Rattle.offline.specs.Salvage.{is_blank}
-
--- ---- a run of bytes that are zero
-
-pub same_one : (s t : List ℕ) (x y : ℕ) → length s ≡ length t → same (s ++ (x ∷ [])) (t ++ (y ∷ [])) ≡ (same s t && eqb x y)
-unfolding same
-same_one [] [] x y e = go (eqb x y)
-  where
-    go : (b : Bool) → (b && true) ≡ b
-    go true = refl
-    go false = refl
-same_one [] (b ∷ t) x y e = absurd (omega arith)
-same_one (a ∷ s) [] x y e = absurd (omega arith)
-same_one (a ∷ s) (b ∷ t) x y e = ap (λ (z : Bool). eqb a b && z) (same_one s t x y (omega arith)) ∙ assoc (eqb a b) (same s t) (eqb x y)
-  where
-    assoc : (p q r : Bool) → (p && (q && r)) ≡ ((p && q) && r)
-    assoc true q r = refl
-    assoc false q r = refl
-
--- ---- a page
 
 module _ (t : List ℕ) (p : ℕ) (l : p < length t / 512) where
   pub first_not_zero : (get_or t (512 * p) 0 ≡ 0 → ⊥) → false ≡ is_blank t p

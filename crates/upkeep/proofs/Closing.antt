@@ -1,6 +1,6 @@
 -- The call that closes the gaps, at each way out.
 use mathlib.Core.Path.{◌≡◌, refl, sym, ap, ◌∙◌}
-use mathlib.Core.Bool.{Bool, true, false, ◌&&◌, not, cond}
+use mathlib.Core.Bool.{Bool, true, false, ◌&&◌, cond}
 use mathlib.Core.List.{List}
 use Prim.Native.Nat.{ℕ, ◌*◌, ◌/◌, ◌≤◌, ◌<◌}
 use native.Mathlib.Omega.{arith}
@@ -18,7 +18,7 @@ use Rattle.offline.specs.CloseGaps.{rank, new_page, followed, closed_up, table_o
 use Rattle.protocol.specs.Records.{is_set, origin_of, reader_of}
 use Rattle.offline.specs.Records.{closed_of, moved_at}
 use Rattle.protocol.proofs.Laws.Below.{at_listed, length_listed}
-use Rattle.protocol.proofs.Laws.Logic.{T→true, and_l, and_r, not_true, not_false}
+use Rattle.protocol.proofs.Laws.Logic.{T→true, and_l, and_r}
 use Rattle.offline.proofs.Laws.Gaps.{rank_le}
 use Rattle.rules.specs.Settings.{origins_fit, sound_of, with_origins}
 use Rattle.rules.proofs.Transfers.{sound_legal}

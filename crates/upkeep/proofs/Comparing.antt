@@ -1,15 +1,14 @@
 -- Comparing: two runs of bytes place by place, a page's code at each way out, codes put one behind the other, and the call at each way out.
 use mathlib.Core.Path.{◌≡◌, refl, sym, ap, ap₂, ◌∙◌}
-use mathlib.Core.Bool.{Bool, true, false, ◌&&◌, not}
+use mathlib.Core.Bool.{Bool, true, false, ◌&&◌}
 use mathlib.Core.Logic.{◌≢◌}
 use mathlib.Core.List.{List, [], ◌∷◌, ◌++◌}
 use Prim.Native.Nat.{ℕ, ◌+◌, ◌-◌, ◌*◌, ◌/◌, ◌≤◌, ◌<◌}
-use native.Mathlib.Numerals.{add-one}
 use native.Mathlib.Omega.{arith}
 use lib.Dec.{T, eqb, eqb→eq}
 use lib.Bits.{bit_and, bit_or, bit_xor, xor_add_and, and_self, and_le_l, and_le_r}
 use lib.ListN.{length, take, drop, get_or, set, length-set, length-append, length-take, length-drop}
-use lib.Seq.{take_all, take-suc, length-take-le}
+use lib.Seq.{take_all}
 use borrow.Rule.Slice.PartMut.{put_mid}
 use borrow.Author.Tests.{eq-eqb, ne_eqb, eqb-true, eqb-false}
 use Rattle.std.specs.List.{fold, zip}
@@ -18,11 +17,10 @@ use Rattle.protocol.specs.Tests.{listed}
 use Rattle.protocol.specs.Index.{stored}
 use Rattle.protocol.proofs.Laws.Lists.{same_no, length_lay, lay_lay, lay_nothing, lay_more, lay_whole}
 use Rattle.protocol.specs.Call.{core}
-use Rattle.protocol.proofs.Laws.Logic.{and_l, and_r, not_true, not_false}
+use Rattle.protocol.proofs.Laws.Logic.{and_l, and_r}
 use Rattle.protocol.proofs.Laws.Below.{length_listed, at_listed}
 use Rattle.library.proofs.Bits.{or_none}
 use Rattle.library.proofs.Parts.{part_laid}
-use Rattle.upkeep.proofs.Blank.{same_one}
 use Rattle.protocol.specs.Index.{clear_from}
 use Rattle.protocol.specs.Tests.{verdict}
 use Rattle.offline.specs.Compare.{library, page_code, page_says, note_says, report_of, Compared, fits_beside, fit_compare, clear_beyond, compare_refusal, compare_as, compare_of}

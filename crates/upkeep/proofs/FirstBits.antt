@@ -81,7 +81,3 @@ bits_set m count z f h e g =
     in
     ap₂ (λ (w : List ℕ) (b : ℕ). set w (count / 8) (b - 1)) front (shift_byte (count % 8) (omega arith))
     ∙ sym (some_bits m (count / 8) (omega arith) (count % 8) (omega arith)) ∙ ap (first_bits m) n
-
--- what one is taken from
-pub shifted : (k : ℕ) → 1 ≤ 1 * 2 ^ (k % 8) % 256
-shifted k = rw (shift_byte (k % 8) (omega arith)) (pow_pos (k % 8))

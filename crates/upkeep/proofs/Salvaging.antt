@@ -1,6 +1,6 @@
 -- Salvage: what one page and one bit more come to.
 use mathlib.Core.Path.{◌≡◌, refl, sym, ap, ap₂, ◌∙◌}
-use mathlib.Core.Bool.{Bool, true, false, ◌||◌, not, cond}
+use mathlib.Core.Bool.{Bool, true, false, ◌||◌, cond}
 use mathlib.Core.List.{List}
 use Prim.Native.Nat.{ℕ, zero, suc, ◌+◌, ◌-◌, ◌*◌, ◌/◌, ◌%◌, ◌^◌, ◌≤◌, ◌<◌}
 use native.Mathlib.Omega.{arith}
@@ -15,7 +15,7 @@ use Rattle.protocol.specs.Bytes.{Bytes, byte_at, part, zeros, same, lay}
 use Rattle.protocol.specs.Tests.{within, verdict, listed}
 use Rattle.protocol.specs.Index.{bit, stored, clear_bits, bits, clear_from}
 use Rattle.protocol.specs.Call.{core}
-use Rattle.protocol.proofs.Laws.Logic.{and_l, and_r, not_true, not_false}
+use Rattle.protocol.proofs.Laws.Logic.{and_l, and_r}
 use Rattle.protocol.proofs.Laws.Lists.{same_eq, length_lay}
 use Rattle.protocol.proofs.Laws.Index.{clear_above, byte_zeros}
 use Rattle.protocol.proofs.Laws.Below.{length_listed, at_listed}
@@ -296,14 +296,8 @@ module _ (t x v : List ℕ) (fit : Bool) (e : fit ≡ fits_lent (length t) (leng
           salvaged y w' (g ∙ ap₂ (λ (c n : ℕ). clear_bits x c (n - c)) same (sym all))
           (whole w' (k.entries ∙ h.entries ∙ omega (arith, m.wide)) (λ j a. k.before j (omega arith) ∙ h.reported j a) (λ j a l. k.reported j (omega arith) (omega (arith, m.wide))))
 
-      pub long_enough : length w ≡ 8 * length x
-      long_enough = h.entries
-
       pub few_pages : length u / 512 ≤ 1024
       few_pages = omega (arith, lengths.few, h.same)
 
       pub few_fit : Fits w16 (length u / 512)
       few_fit = record { fits = omega (arith, few_pages) }
-
-      pub rest_fit : Fits w16 (1024 - length u / 512)
-      rest_fit = record { fits = omega arith }

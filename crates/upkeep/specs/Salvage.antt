@@ -1,12 +1,11 @@
 -- Salvage: what its functions need and leave.
-use Rattle.std.specs.Prelude.{Bool, true, cond, ◌≢◌, List, ◌≡◌, ℕ, ◌*◌, ◌/◌, ◌≤◌, ◌<◌, length, get_or}
+use Rattle.std.specs.Prelude.{true, cond, ◌≢◌, List, ◌≡◌, ℕ, ◌*◌, ◌/◌, ◌≤◌, ◌<◌, length, get_or}
 use Rattle.protocol.specs.Numbers.{page_bytes}
 use Rattle.protocol.specs.Bytes.{zeros, lay}
 use Rattle.protocol.specs.Index.{stored}
-use Rattle.protocol.specs.Call.{core}
 use Rattle.upkeep.specs.declared.salvage.Entry.{Entry}
 use Rattle.upkeep.specs.declared.salvage.Entry.TheVariants.{Unchanged, BitCleared, PageZeroed}
-use Rattle.offline.specs.Salvage.{salvaged_pages, page_entry, bit_cleared, page_zeroed, unchanged, salvage_fits}
+use Rattle.offline.specs.Salvage.{salvaged_pages, page_entry, bit_cleared, page_zeroed, unchanged}
 
 -- the number of an entry in the report
 abbrev pub entry_number : Entry → ℕ

@@ -80,7 +80,13 @@ fn compare_pages(one: Library, two: Library, report: &mut [u8])
     for p in 0..end {
         let a = numbers::PAGE * p;
         let e = a + numbers::PAGE;
-        report[p] = page_code(one.index, two.index, p, &one.templates[a..e], &two.templates[a..e]);
+        report[p] = page_code(
+            one.index,
+            two.index,
+            p,
+            &one.templates[a..e],
+            &two.templates[a..e],
+        );
     }
 }
 

@@ -96,11 +96,7 @@ fn report_bits(index: &[u8], report: &mut [u8], c: usize)
 }
 
 // A stored index and templates salvaged, and a report of 1024 bytes.
-pub fn salvage(
-    templates: &mut [u8],
-    index: &mut [u8],
-    report: &mut [u8],
-) -> Result<(), Refusal>
+pub fn salvage(templates: &mut [u8], index: &mut [u8], report: &mut [u8]) -> Result<(), Refusal>
     ensures { salvaged_of (refusal_of result) templates.new index.new report.new
         ≡ salvage_of core templates.old index.old report.old }
 {

@@ -12,25 +12,25 @@ returns c =
     let code = c.args.code in
     let first : c.push.new.self.items ≡ letter ∷ [] = c.push.ensures.items ∙ ap (λ (s : List ℕ). s ++ (letter ∷ [])) c.new-line.ensures in
     let front : c.if-page-ge10.line.items ≡ head letter page code =
-        elim c.if-page-ge100.branch [
-          | then-page-ge100 v ↦
-            let second : c.if-page-ge100.line.items ≡ letter ∷ hundreds letter page code ∷ [] =
-                rw v.line-is (v.push-then-page-ge100.ensures.items ∙ ap (λ (s : List ℕ). s ++ (hundreds letter page code ∷ [])) first) in
-            elim c.if-page-ge10.branch [
-              | then-page-ge10 w ↦
+    elim c.if-page-ge100.branch [
+      | then-page-ge100 v ↦
+          let second : c.if-page-ge100.line.items ≡ letter ∷ hundreds letter page code ∷ [] =
+          rw v.line-is (v.push-then-page-ge100.ensures.items ∙ ap (λ (s : List ℕ). s ++ (hundreds letter page code ∷ [])) first) in
+          elim c.if-page-ge10.branch [
+            | then-page-ge10 w ↦
                 rw w.line-is
                 (w.push-then-page-ge10.ensures.items ∙ ap (λ (s : List ℕ). s ++ (tens letter page code ∷ [])) second
                 ∙ sym (three_digits letter page code (omega arith) (omega arith)))
-              | else-page-ge10 w ↦ absurd (omega arith)
-            ]
-          | else-page-ge100 v ↦
-            let second : c.if-page-ge100.line.items ≡ letter ∷ [] = rw v.line-is first in
-            elim c.if-page-ge10.branch [
-              | then-page-ge10 w ↦
+            | else-page-ge10 w ↦ absurd (omega arith)
+          ]
+      | else-page-ge100 v ↦
+          let second : c.if-page-ge100.line.items ≡ letter ∷ [] = rw v.line-is first in
+          elim c.if-page-ge10.branch [
+            | then-page-ge10 w ↦
                 rw w.line-is
                 (w.push-then-page-ge10.ensures.items ∙ ap (λ (s : List ℕ). s ++ (tens letter page code ∷ [])) second
                 ∙ sym (two_digits letter page code (omega arith) (omega arith)))
-              | else-page-ge10 w ↦ rw w.line-is (second ∙ sym (one_digit letter page code (omega arith)))
-            ]
-        ] in
+            | else-page-ge10 w ↦ rw w.line-is (second ∙ sym (one_digit letter page code (omega arith)))
+          ]
+    ] in
     lined letter page code _ _ _ _ _ front c.push-2.ensures.items c.push-3.ensures.items c.push-4.ensures.items c.push-5.ensures.items

@@ -17,8 +17,8 @@ returns-else-i-eq-INDEX c =
     elim c.if-pages-le-MOST_PAGES.branch [
       | then-pages-le-MOST_PAGES w ↦ search (picks, rules)
       | else-pages-le-MOST_PAGES w ↦
-        elim c.if-pages-ge1.branch [
-          | then-pages-ge1 v ↦ search (picks, rules)
-          | else-pages-ge1 v ↦ elim c.if-t-pages.branch [ then-t-pages u ↦ search (picks, rules) | else-t-pages u ↦ search (picks, rules) ]
-        ]
+          elim c.if-pages-ge1.branch [
+            | then-pages-ge1 v ↦ search (picks, rules)
+            | else-pages-ge1 v ↦ elim c.if-t-pages.branch [ then-t-pages u ↦ search (picks, rules) | else-t-pages u ↦ search (picks, rules) ]
+          ]
     ]
