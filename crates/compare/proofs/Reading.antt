@@ -1,13 +1,17 @@
 -- What was read, page by page; and the text of it is what request [11] prints of two files.
 use mathlib.Core.Path.{◌≡◌, refl, sym, ap, ap₂, ◌∙◌}
 use mathlib.Core.Logic.{◌≢◌}
+use mathlib.Core.Bool.{Bool, true, false}
 use mathlib.Core.List.{List, [], ◌++◌}
-use Prim.Native.Nat.{ℕ, ◌+◌, ◌*◌, ◌<◌}
+use Prim.Native.Nat.{ℕ, ◌+◌, ◌*◌, ◌≤◌, ◌<◌}
+use Rattle.std.proofs.Common.{Option, None}
 use native.Mathlib.Omega.{arith}
 use native.Mathlib.Decide.{ℕ_discrete}
 use lib.ListN.{length, take, get_or, set, length-set, length-append}
 use lib.Seq.{get_or-set_same, get_or-set_other, take_all, length-take-le}
 use borrow.Author.Tests.{eq-eqb, ne_eqb}
+use Rattle.std.specs.Bool.{then_some}
+use Rattle.std.specs.Option.{unwrap_or}
 use Rattle.protocol.specs.Bytes.{part, same}
 use Rattle.protocol.specs.Index.{stored}
 use Rattle.protocol.specs.Call.{core}
@@ -55,6 +59,15 @@ module _ (x y v a b : List ℕ) (p : ℕ) (h : PagesRead x y p v) where
           let low : j < p = omega arith in
           get_or-set_other v p j k 0 q ∙ h.codes j low
           ∙ ap₂ (λ (s t : List ℕ). page_code (stored x j) (stored y j) (same s t)) (sym (page_before h.first a p j h.first_long low)) (sym (page_before h.second b p j h.second_long low))
+
+-- where they are not as they must be, none count
+pub unread : (x y v : List ℕ) (c : ℕ) → PagesRead x y c v → (r : Option ℕ) → r ≡ None → PagesRead x y (unwrap_or r 0) v
+unread x y v c h r e = rw e (none_read x y v h.long)
+
+-- all pages there can be were read; they count where the files end there
+pub at_end : (x y v : List ℕ) (c : ℕ) → PagesRead x y c v → 1000 ≤ c → (b : Bool) (r : Option ℕ) → r ≡ then_some b 1000 → PagesRead x y (unwrap_or r 0) v
+at_end x y v c h m true r e = let few = h.few in let f : c ≡ 1000 = omega arith in rw e (rw f at h)
+at_end x y v c h m false r e = unread x y v c h r e
 
 -- ---- the text of what was read
 

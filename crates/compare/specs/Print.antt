@@ -5,13 +5,7 @@ use Rattle.protocol.specs.Bytes.{lay}
 use Rattle.protocol.specs.Index.{clear_from}
 use Rattle.protocol.specs.Call.{core}
 use Rattle.offline.specs.Compare.{note_says, note_pages}
-use Rattle.offline.specs.Print.{letter_t, letter_n, line_of, lines_of, refusal_line}
-
--- the line of a page with a code: the first len bytes of all
-pub record LineIs (letter page code len : ℕ) (all : List ℕ) : Type 0 where
-  pub bytes : take len all ≡ line_of letter page code
-  pub few : len ≤ 7
-  pub long : 7 ≡ length all
+use Rattle.offline.specs.Print.{letter_t, letter_n, lines_of, refusal_line}
 
 -- the lines of the first n codes v
 abbrev pub code_lines : ℕ → List ℕ → ℕ → List ℕ

@@ -4,7 +4,7 @@
 
 mod print;
 
-ghost use Rattle.std.specs.Prelude.{◌≡◌, length};
+ghost use Rattle.std.specs.Prelude.{◌≡◌, length, unwrap_or};
 ghost use Rattle.compare.specs.Reading.{PagesRead, PrintedOfTwo};
 
 use protocol::numbers;
@@ -16,53 +16,25 @@ use upkeep::compare;
 // The bytes that the system takes for a file's name at most.
 const NAME: usize = 4096;
 
-// What a file gave when it was asked for so many bytes: all of them; none, at its end; or fewer, or an error.
-#[derive(Clone, Copy)]
+// What a file gave when it was asked for so many bytes: all of them; or none, at its end.
+#[derive(Clone, Copy, Debug, PartialEq, Eq)]
 enum Piece {
     Whole,
     End,
-    Broken,
 }
 
-// Fills a slice from a file. Of one that could not be opened nothing can be read.
-fn fill<F: Read>(file: &mut Option<F>, out: &mut [u8]) -> Piece {
-    let Some(file) = file else {
-        return Piece::Broken;
-    };
+// Fills a slice from a file. None where the file could not be opened or read, or ends within the slice.
+fn fill<F: Read>(file: &mut Option<F>, out: &mut [u8]) -> Option<Piece> {
+    let file = file.as_mut()?;
     let mut n = 0;
     while n < out.len() {
-        match file.read(&mut out[n..]) {
-            Ok(0) => {
-                if n == 0 {
-                    return Piece::End;
-                }
-                return Piece::Broken;
-            }
-            Ok(k) => n += k,
-            Err(_) => return Piece::Broken,
+        let more = file.read(&mut out[n..]).ok()?;
+        if more == 0 {
+            return (n == 0).then_some(Piece::End);
         }
+        n += more;
     }
-    Piece::Whole
-}
-
-fn is_whole(piece: Piece) -> bool {
-    if let Piece::Whole = piece {
-        true
-    } else {
-        false
-    }
-}
-
-fn is_end(piece: Piece) -> bool {
-    if let Piece::End = piece { true } else { false }
-}
-
-fn is_broken(piece: Piece) -> bool {
-    if let Piece::Broken = piece {
-        true
-    } else {
-        false
-    }
+    Some(Piece::Whole)
 }
 
 // A piece of each of two files: whole or at the end only where both are.
@@ -71,54 +43,32 @@ fn fill_both<F: Read>(
     a: &mut [u8],
     two: &mut Option<F>,
     b: &mut [u8],
-) -> Piece {
-    let x = fill(one, a);
-    if is_broken(x) {
-        return Piece::Broken;
-    }
-    let y = fill(two, b);
-    if is_whole(x) {
-        if is_whole(y) {
-            return Piece::Whole;
-        }
-        return Piece::Broken;
-    }
-    if is_end(y) {
-        return Piece::End;
-    }
-    Piece::Broken
+) -> Option<Piece> {
+    let piece = fill(one, a)?;
+    (fill(two, b)? == piece).then_some(piece)
 }
 
-// The pages of both files, and the code of each. It returns their number, 0 where the files are not as they must be.
+// The pages of both files, and the code of each. It returns their number, none where the files are not as they must be.
 fn read_pages<F: Read>(
     one: &mut Option<F>,
     two: &mut Option<F>,
     index1: &[u8],
     index2: &[u8],
     codes: &mut [u8],
-) -> usize
+) -> Option<usize>
     requires { length codes.old ≡ 1000 }
-    ensures { PagesRead index1.now index2.now result codes.new }
+    ensures { PagesRead index1.now index2.now (unwrap_or result 0) codes.new }
 {
     let mut a = [0u8; numbers::PAGE];
     let mut b = [0u8; numbers::PAGE];
-    let mut p = 0;
-    while p < numbers::MOST_PAGES {
-        let piece = fill_both(one, &mut a, two, &mut b);
-        if is_end(piece) {
-            return p;
-        }
-        if !is_whole(piece) {
-            return 0;
+    for p in 0..numbers::MOST_PAGES {
+        if fill_both(one, &mut a, two, &mut b)? == Piece::End {
+            return Some(p);
         }
         codes[p] = compare::page_code(index1, index2, p, &a, &b);
-        p += 1;
     }
-    let piece = fill_both(one, &mut a, two, &mut b);
-    if is_end(piece) {
-        return p;
-    }
-    0
+    let last = fill_both(one, &mut a, two, &mut b)?;
+    (last == Piece::End).then_some(numbers::MOST_PAGES)
 }
 
 // Both files whole: the indexes, the notepads, and the code of each page. It returns the number of pages, as above.
@@ -130,17 +80,15 @@ fn read<F: Read>(
     notepad1: &mut [u8],
     notepad2: &mut [u8],
     codes: &mut [u8],
-) -> usize
+) -> Option<usize>
     requires { length codes.old ≡ 1000 }
-    ensures { PagesRead index1.new index2.new result codes.new }
+    ensures { PagesRead index1.new index2.new (unwrap_or result 0) codes.new }
 {
-    let indexes = fill_both(one, index1, two, index2);
-    if !is_whole(indexes) {
-        return 0;
+    if fill_both(one, index1, two, index2)? == Piece::End {
+        return None;
     }
-    let notepads = fill_both(one, notepad1, two, notepad2);
-    if !is_whole(notepads) {
-        return 0;
+    if fill_both(one, notepad1, two, notepad2)? == Piece::End {
+        return None;
     }
     read_pages(one, two, index1, index2, codes)
 }
@@ -155,7 +103,7 @@ fn tell<F: Read>(one: &mut Option<F>, two: &mut Option<F>, text: &mut [u8]) -> u
     let mut notepad1 = [0u8; numbers::NOTEPAD];
     let mut notepad2 = [0u8; numbers::NOTEPAD];
     let mut codes = [0u8; numbers::MOST_PAGES];
-    let c = read(
+    let pages = read(
         one,
         two,
         &mut index1,
@@ -164,7 +112,7 @@ fn tell<F: Read>(one: &mut Option<F>, two: &mut Option<F>, text: &mut [u8]) -> u
         &mut notepad2,
         &mut codes,
     );
-    print::text(&index1, &notepad1, &index2, &notepad2, c, &codes, text)
+    print::text(&index1, &notepad1, &index2, &notepad2, pages, &codes, text)
 }
 
 // Opens the file that an argument names; none where there is no such argument, or the file cannot be opened. Only a name that is

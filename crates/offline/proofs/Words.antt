@@ -15,11 +15,10 @@ use Rattle.dialogues.specs.History.{Exchange, exchanges, Act, moved, history}
 use Rattle.dialogues.specs.Caller.{finally_on, seen}
 use Rattle.dialogues.specs.Doors.{Memory, Vault, LineVault, reader_at, Entry, last_of, events_of, told_of, Until, Steps, saw, Receives, saw_on}
 use Rattle.protocol.proofs.Promises.Words.OneResult.{one_reader}
-use Rattle.offline.specs.declared.Moved.{Moved}
 use Rattle.offline.specs.CloseGaps.{Closed, close_of}
 use Rattle.offline.specs.Salvage.{Salvaged, salvage_of, salvaged_in}
 use Rattle.offline.specs.Compare.{library, Compared}
-use Rattle.offline.specs.Records.{closed_of, moved_at, salvaged_of, compared_of}
+use Rattle.offline.specs.Records.{Moved, closed_of, moved_at, salvaged_of, compared_of}
 use Rattle.offline.specs.Life.{Work, closing, salvaging, after_work, Deed, calls, between, deed, lastly, deed_on, lastly_on, Sight, exchanged, told, work_seen, sights, sights_on, life_of, where_is, answers, kept_over, Unopened, NeverOpened, PairedDeeds}
 use Rattle.offline.specs.Turns.{Worked, Turn, call_turn, work_turn, last_turn, deeds_of, told_turns, Never, NeverTurn, UntilTurn, WentBy, ByContract, work_saw, Turns, saw_turns, LineTurns, saw_line_turns}
 

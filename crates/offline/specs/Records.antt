@@ -2,10 +2,14 @@
 use Rattle.std.specs.Prelude.{List, ℕ}
 use Rattle.protocol.specs.declared.Settings.{Settings}
 use Rattle.protocol.specs.Records.{reader_of}
-use Rattle.offline.specs.declared.Moved.{Moved}
 use Rattle.offline.specs.CloseGaps.{Closed}
 use Rattle.offline.specs.Salvage.{Salvaged}
 use Rattle.offline.specs.Compare.{Compared}
+
+-- what closing the gaps leaves: the settings, and the refusal or 0
+pub record Moved : Type 0 where
+  pub settings : Settings
+  pub refusal : ℕ
 
 -- the templates, the index, the table; and notepad and buffers, of which none is lent
 abbrev pub closed_of : Moved → List ℕ → List ℕ → List ℕ → List ℕ → List ℕ → List ℕ → Closed

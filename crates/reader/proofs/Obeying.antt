@@ -1,19 +1,15 @@
 -- A command does what its code's row says: a free one by its free row, any other by its own, since the lock lets it pass.
-use mathlib.Core.Path.{◌≡◌, refl, sym, ap, ◌∙◌}
-use mathlib.Core.Bool.{Bool, true, false, ◌||◌, not}
+use mathlib.Core.Path.{◌≡◌}
+use mathlib.Core.Bool.{true, false, ◌||◌, not}
 use mathlib.Core.List.{List}
-use Prim.Native.Nat.{ℕ, ◌+◌, ◌≤◌, ◌<◌}
-use native.Mathlib.Omega.{arith}
-use lib.Dec.{eqb, leb}
-use lib.ListN.{length, drop}
-use borrow.Author.Tests.{leb-true, eqb-true}
+use Prim.Native.Nat.{ℕ}
 use Rattle.protocol.specs.declared.command_codes.CommandCode.{CommandCode}
 use Rattle.protocol.specs.Codes.{command_number}
 use Rattle.protocol.specs.Reader.{locked}
 use Rattle.protocol.specs.Commands.{Free, Barred, free, barred, commands, row_of}
 use Rattle.protocol.specs.Step.{Said, obey}
 use Rattle.protocol.proofs.Laws.Logic.{not_true}
-use Rattle.rules.specs.Commands.{len_of, read_of, is_free}
+use Rattle.rules.specs.Commands.{read_of, is_free}
 use Rattle.reader.specs.Memory.{reader_in, chip_at, obeyed, freed}
 use Rattle.reader.specs.declared.memory.Sound.{Sound}
 

@@ -1,4 +1,4 @@
--- What is written into the reply room: one packet, data packets of one size, and an acknowledge with them behind it.
+-- What is written into the reply room: an acknowledge, data packets of one size, and the two behind one another.
 use mathlib.Core.Path.{◌≡◌, refl, sym, ap, ◌∙◌}
 use mathlib.Core.Bool.{cond}
 use mathlib.Core.List.{List, ◌∷◌, ◌++◌}

@@ -5,6 +5,7 @@ use mathlib.Core.List.{List, [], ◌∷◌}
 use Prim.Native.Nat.{ℕ, suc}
 use Rattle.std.specs.Prelude.{Result, Ok, Err}
 use Rattle.std.specs.Result.{IsErrAnd}
+use Rattle.protocol.specs.declared.Settings.{Settings}
 use Rattle.protocol.specs.declared.codes.Code.{Code}
 use Rattle.protocol.specs.declared.codes.Code.TheVariants.{BadPacket, Done}
 use Rattle.protocol.specs.Numbers.{done, bad_packet}
@@ -15,6 +16,7 @@ use Rattle.protocol.specs.Reader.{Reader}
 use Rattle.protocol.specs.Data.{acknowledge}
 use Rattle.protocol.specs.Table.{Effect, apply, Row, does, gives, is_buffer}
 use Rattle.protocol.specs.Step.{says, carry, carry_as}
+use Rattle.protocol.specs.Records.{reader_of}
 use Rattle.reader.specs.declared.answers.Answer.{Answer}
 use Rattle.reader.specs.declared.answers.Answer.TheVariants.{Alone, Page}
 use Rattle.reader.specs.declared.memory.Sound.{Sound}
@@ -41,6 +43,12 @@ nameless x n r k w ts e f t = rw (is_err r k e, f.0) (refused x BadPacket w 0 re
 pub did : (x y : Sound) (ts : List Test) (f : Effect) → verdict ts ≡ 0 → reader_in y ≡ apply f (reader_in x) → said_of (Alone Done) y ≡ carry (reader_in x) (does ts f)
 unfolding carry carry_as follow
 did x y ts f v e = rw v (ap (λ (r : Reader). record { reply = acknowledge r.plain.address done []; after = r }) e)
+
+-- and what it leaves, by its parts
+pub did_parts : (x : Sound) (q : Settings) (t i m b c : List ℕ) (ts : List Test) (f : Effect) → verdict ts ≡ 0 → reader_of q t i m b c ≡ apply f (reader_in x)
+    → record { reply = acknowledge q.address done []; after = reader_of q t i m b c } ≡ carry (reader_in x) (does ts f)
+unfolding carry carry_as follow
+did_parts x q t i m b c ts f v e = rw v (ap (λ (r : Reader). record { reply = acknowledge r.plain.address done []; after = r }) e)
 
 -- or gives something
 pub gave : (x : Sound) (ts : List Test) (b w : List ℕ) → verdict ts ≡ 0 → b ≡ w → said_of (Page b) x ≡ carry (reader_in x) (gives ts w)

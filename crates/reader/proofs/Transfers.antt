@@ -11,18 +11,17 @@ use borrow.Author.Tests.{eqb-true, ltb-true}
 use Rattle.protocol.specs.Numbers.{page_bytes, transfer_failed}
 use Rattle.protocol.specs.declared.Settings.{Settings}
 use Rattle.protocol.specs.Bytes.{lay}
-use Rattle.protocol.specs.Reader.{Transfer, closed, opened, Plain, Guarded, Reader, size_of, buffer_of, reader}
+use Rattle.protocol.specs.Reader.{closed, opened, Plain, Guarded, Reader, size_of, buffer_of, reader}
 use Rattle.protocol.specs.Reader as readers
 use Rattle.protocol.specs.Table.{is_buffer}
-use Rattle.protocol.specs.Step.{Said, says, silence, ended, rested, fits, take_as, take_in}
+use Rattle.protocol.specs.Step.{says, silence, ended, rested, fits, take_as, take_in}
 use Rattle.protocol.specs.Records.{marks_of, plain_of, reader_of}
 use Rattle.protocol.proofs.Laws.Marks.{fit_mark_lem, none_beside, into_beside}
 use Rattle.rules.specs.Settings.{with_transfer, Legal}
 use Rattle.library.proofs.Parts.{part_laid}
 use Rattle.reader.specs.Buffers.{buffers, changed, with_fill}
-use Rattle.reader.specs.Memory.{with_numbered}
 use Rattle.reader.proofs.Laws.{chosen_filled, chosen_bytes, chosen_origin}
-use Rattle.reader.proofs.ByNumber.{held_fit, changed_marked, changed_kept, moved_reader, moved_legal, filled_legal}
+use Rattle.reader.proofs.ByNumber.{held_fit, changed_marked, changed_kept, moved_legal, filled_legal}
 
 -- ---- as legal settings have it
 

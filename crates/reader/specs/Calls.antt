@@ -1,5 +1,7 @@
 -- What a call's functions need and return.
-use Rattle.std.specs.Prelude.{Bool, ◌&&◌, List, ◌≡◌, ℕ, ◌+◌, ◌/◌, ◌≤◌, length, Result}
+use Rattle.std.specs.Prelude.{Bool, ◌&&◌, List, ℕ, ◌+◌, ◌/◌, ◌≤◌, length, Result}
+use Rattle.std.specs.Borrow.{MutBor}
+use Rattle.protocol.specs.declared.Settings.{Settings}
 use Rattle.protocol.specs.declared.Lengths.{Lengths}
 use Rattle.protocol.specs.declared.refusals.Refusal.{Refusal}
 use Rattle.protocol.specs.Numbers.{page_bytes, head_bytes, shortest}
@@ -34,9 +36,12 @@ carried_of used a room = carried record { used = used; reply = a.reply; after = 
 abbrev pub lent_at : Chip → List ℕ → Lent
 lent_at x room = record { chip = chip_at x; room = room }
 
--- a call's outcome, and the reader and the reply room after it
-abbrev pub ended_at : Result Lengths Refusal → Reader → List ℕ → Ended
-ended_at o r room = ended_of (called_at r.settings.now (answered_of o)) r.templates.now r.index.now r.notepad.now r.buffer1.now r.buffer2.now room
+-- a call's outcome, what it left behind the reader's references, and the reply room after it
+abbrev pub Left : Type 0
+Left = MutBor Settings × (MutBor (List ℕ) × (MutBor (List ℕ) × (MutBor (List ℕ) × (MutBor (List ℕ) × (MutBor (List ℕ) × Unit {0})))))
+
+abbrev pub ended_at : Result Lengths Refusal → Left → List ℕ → Ended
+ended_at o x room = ended_of (called_at x.0.now (answered_of o)) x.1.0.now x.1.1.0.now x.1.1.1.0.now x.1.1.1.1.0.now x.1.1.1.1.1.0.now room
 
 -- a packet that was heard: the bytes used and the reply's length, and the reader and the reply room after it
 abbrev pub heard_at : Lengths → readers.Reader → List ℕ → Ended

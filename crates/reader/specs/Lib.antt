@@ -3,3 +3,4 @@ pub mod Answers
 pub mod Memory
 pub mod Calls
 pub mod Parameters
+pub mod Search

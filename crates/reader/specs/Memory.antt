@@ -30,16 +30,7 @@ filled_of n r = cond (eqb n 2) (is_set r.settings.now.filled2) (is_set r.setting
 abbrev pub origin_in : ℕ → Sound → ℕ
 origin_in n r = cond (eqb n 2) r.settings.now.origin2 r.settings.now.origin1
 
--- a call writes through the references that it is lent, and puts no other in their place
-pub record Same (x y : Reader) : Type 0 where
-  pub settings : y.settings.ghost_name ≡ x.settings.ghost_name
-  pub templates : y.templates.ghost_name ≡ x.templates.ghost_name
-  pub index : y.index.ghost_name ≡ x.index.ghost_name
-  pub notepad : y.notepad.ghost_name ≡ x.notepad.ghost_name
-  pub buffer1 : y.buffer1.ghost_name ≡ x.buffer1.ghost_name
-  pub buffer2 : y.buffer2.ghost_name ≡ x.buffer2.ghost_name
-
--- nor does a command, which leaves the chip's numbers too
+-- a command writes through the references that it is lent, puts no other in their place, and leaves the chip's numbers
 pub record Kept (x y : Sound) : Type 0 where
   pub settings : y.settings.ghost_name ≡ x.settings.ghost_name
   pub templates : y.templates.ghost_name ≡ x.templates.ghost_name

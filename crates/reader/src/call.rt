@@ -6,10 +6,10 @@ ghost use Rattle.protocol.specs.Bytes.{same};
 ghost use Rattle.protocol.specs.Codes.{refusal_of};
 ghost use Rattle.protocol.specs.Packet.{address_at, right_at};
 ghost use Rattle.protocol.specs.Step.{hear_as, hear_at, answer};
-ghost use Rattle.protocol.specs.Call.{core, shaped, call_of, switch_of};
+ghost use Rattle.protocol.specs.Call.{shaped, call_of, switch_of};
 ghost use Rattle.protocol.specs.Records.{reader_of, switched_of, switched_at};
 ghost use Rattle.rules.specs.Settings.{sound_of};
-ghost use Rattle.reader.specs.Memory.{Kept, Same, reader_at, reader_in, chip_at, said_of};
+ghost use Rattle.reader.specs.Memory.{Kept, reader_at, reader_in, chip_at, said_of};
 ghost use Rattle.reader.specs.Calls.{Lies, reader_fits, lent_at, ended_at, heard_at, carried_of};
 
 use crate::answers::Answer;
@@ -155,17 +155,16 @@ impl Reader<'_> {
         is_sound(*self.settings, self.index, self.templates.len() / numbers::PAGE)
     }
 
-    /// A call of a reader whose notepad has `noted` bytes: a received run, the chip's scores and thresholds, and a reply room.
-    pub fn step_shaped(
-        &mut self,
+    /// A call of a reader whose notepad has `noted` bytes, document 01's with 512: the chip's scores and thresholds, a received run, and a reply room.
+    pub fn step(
+        self,
         noted: usize,
         chip: Chip<'_>,
         run: &[u8],
         reply: &mut [u8],
     ) -> Result<Lengths, Refusal>
-        ensures same { Same self.old self.new }
-        ensures ended { ended_at result self.new reply.new
-            ≡ call_of (shaped noted) (reader_at self.old) run.now (lent_at chip.entry reply.old) }
+        ensures { ended_at result self.exit reply.new
+            ≡ call_of (shaped noted) (reader_at self.entry) run.now (lent_at chip.entry reply.old) }
     {
         if !self.has_fit_lengths(noted, chip) {
             return Err(Refusal::BadLength);
@@ -183,30 +182,24 @@ impl Reader<'_> {
                 reply: 0,
             });
         };
+        let Reader {
+            settings,
+            templates,
+            index,
+            notepad,
+            buffer1,
+            buffer2,
+        } = self;
         let mut sound = Sound {
-            settings: self.settings,
-            templates: self.templates,
-            index: self.index,
-            notepad: self.notepad,
-            buffer1: self.buffer1,
-            buffer2: self.buffer2,
+            settings,
+            templates,
+            index,
+            notepad,
+            buffer1,
+            buffer2,
             chip,
         };
         Ok(sound.hear_packet(run, at, len, reply))
-    }
-
-    /// A call of document 01's reader, whose notepad has 512.
-    pub fn step(
-        &mut self,
-        chip: Chip<'_>,
-        run: &[u8],
-        reply: &mut [u8],
-    ) -> Result<Lengths, Refusal>
-        ensures same { Same self.old self.new }
-        ensures ended { ended_at result self.new reply.new
-            ≡ call_of core (reader_at self.old) run.now (lent_at chip.entry reply.old) }
-    {
-        self.step_shaped(numbers::NOTEPAD, chip, run, reply)
     }
 }
 

@@ -1,52 +1,14 @@
--- Bytes that are zero: a run of them, a page of them, and such a page zeroed.
-use mathlib.Core.Path.{◌≡◌, refl, sym, ap, ap₂, ◌∙◌}
-use mathlib.Core.Bool.{Bool, true, false, ◌&&◌}
-use mathlib.Core.List.{List, [], ◌∷◌, ◌++◌}
-use Prim.Native.Nat.{ℕ, ◌+◌, ◌-◌, ◌*◌, ◌/◌, ◌≤◌, ◌<◌}
-use native.Mathlib.Numerals.{add-one}
+-- A page whose bytes are all zero, and such a page zeroed.
+use mathlib.Core.Path.{◌≡◌, sym, ap, ◌∙◌}
+use mathlib.Core.Bool.{Bool, false}
+use mathlib.Core.List.{List, ◌++◌}
+use Prim.Native.Nat.{ℕ, ◌+◌, ◌-◌, ◌*◌, ◌/◌, ◌<◌}
 use native.Mathlib.Omega.{arith}
-use lib.Dec.{eqb}
-use lib.Bits.{bit_or}
-use lib.ListN.{length, take, drop, get_or, length-replicate, length-take, length-drop, take-append-drop, replicate-append-replicate}
-use lib.Seq.{take_all, take-suc, drop-drop, length-take-le, get_or-take, get_or-drop}
+use lib.ListN.{length, take, drop, get_or, length-replicate, take-append-drop}
+use lib.Seq.{drop-drop, get_or-take, get_or-drop}
 use Rattle.protocol.specs.Bytes.{part, zeros, same, lay}
 use Rattle.protocol.proofs.Laws.Lists.{same_no}
-use Rattle.library.proofs.Bits.{or_none}
 use Rattle.offline.specs.Salvage.{is_blank}
-
--- ---- a run of bytes that are zero
-
-pub same_one : (s t : List ℕ) (x y : ℕ) → length s ≡ length t → same (s ++ (x ∷ [])) (t ++ (y ∷ [])) ≡ (same s t && eqb x y)
-unfolding same
-same_one [] [] x y e = go (eqb x y)
-  where
-    go : (b : Bool) → (b && true) ≡ b
-    go true = refl
-    go false = refl
-same_one [] (b ∷ t) x y e = absurd (omega arith)
-same_one (a ∷ s) [] x y e = absurd (omega arith)
-same_one (a ∷ s) (b ∷ t) x y e = ap (λ (z : Bool). eqb a b && z) (same_one s t x y (omega arith)) ∙ assoc (eqb a b) (same s t) (eqb x y)
-  where
-    assoc : (p q r : Bool) → (p && (q && r)) ≡ ((p && q) && r)
-    assoc true q r = refl
-    assoc false q r = refl
-
--- what was found in the first i bytes is 0 just where they are
-module _ (s : List ℕ) where
-  pub zero_none : eqb 0 0 ≡ same (take 0 s) (zeros 0)
-  unfolding same
-  zero_none = refl
-
-  pub zero_more : (found i : ℕ) → eqb found 0 ≡ same (take i s) (zeros i) → i < length s → eqb (bit_or found (get_or s i 0)) 0 ≡ same (take (i + 1) s) (zeros (i + 1))
-  zero_more found i e l =
-      let long : length (take i s) ≡ length (zeros i) = length-take-le i s (omega arith) ∙ sym (length-replicate i 0) in
-      or_none found (get_or s i 0) ∙ ap (λ (b : Bool). b && eqb (get_or s i 0) 0) e ∙ sym (same_one (take i s) (zeros i) (get_or s i 0) 0 long)
-      ∙ ap₂ same (rw add-one (sym (take-suc s i 0 l))) (replicate-append-replicate i 1 0)
-
-  pub zero_all : (found i : ℕ) → eqb found 0 ≡ same (take i s) (zeros i) → i ≤ length s → length s ≤ i → eqb found 0 ≡ same s (zeros (length s))
-  zero_all found i e h l = let all : i ≡ length s = omega arith in e ∙ ap₂ same (take_all i s l) (ap zeros all)
-
--- ---- a page
 
 module _ (t : List ℕ) (p : ℕ) (l : p < length t / 512) where
   pub first_not_zero : (get_or t (512 * p) 0 ≡ 0 → ⊥) → false ≡ is_blank t p
@@ -56,12 +18,10 @@ module _ (t : List ℕ) (p : ℕ) (l : p < length t / 512) where
       let at : 512 * p + 0 ≡ 512 * p = omega arith in
       n (ap (λ (i : ℕ). get_or t i 0) (sym at) ∙ sym (get_or-take 512 (drop (512 * p) t) 0 0 (omega arith) ∙ get_or-drop (512 * p) t 0 0) ∙ ap (λ (s : List ℕ). get_or s 0 0) e)))
 
-  pub all_blank : (r : Bool)
-      → r ≡ same (take (512 * p + 512 - 512 * p) (drop (512 * p) t)) (zeros (length (take (512 * p + 512 - 512 * p) (drop (512 * p) t)))) → r ≡ is_blank t p
+  pub all_blank : (r : Bool) → r ≡ same (take (512 * p + 512 - 512 * p) (drop (512 * p) t)) (zeros 512) → r ≡ is_blank t p
   all_blank r e =
       let n : 512 * p + 512 - 512 * p ≡ 512 = omega arith in
-      let long : length (take 512 (drop (512 * p) t)) ≡ 512 = simp (length-take, length-drop) (omega arith) in
-      e ∙ ap (λ (k : ℕ). same (take k (drop (512 * p) t)) (zeros (length (take k (drop (512 * p) t))))) n ∙ ap (λ (k : ℕ). same (part (512 * p) 512 t) (zeros k)) long
+      e ∙ ap (λ (k : ℕ). same (take k (drop (512 * p) t)) (zeros 512)) n
 
 -- zeros laid over zeros
 pub lay_own : (i n : ℕ) (d : List ℕ) → part i n d ≡ zeros n → lay i (zeros n) d ≡ d

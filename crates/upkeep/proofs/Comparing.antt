@@ -1,32 +1,32 @@
 -- Comparing: two runs of bytes place by place, a page's code at each way out, codes put one behind the other, and the call at each way out.
 use mathlib.Core.Path.{◌≡◌, refl, sym, ap, ap₂, ◌∙◌}
-use mathlib.Core.Bool.{Bool, true, false, ◌&&◌, not}
+use mathlib.Core.Bool.{Bool, true, false, ◌&&◌}
 use mathlib.Core.Logic.{◌≢◌}
-use mathlib.Core.List.{List, ◌++◌}
+use mathlib.Core.List.{List, [], ◌∷◌, ◌++◌}
 use Prim.Native.Nat.{ℕ, ◌+◌, ◌-◌, ◌*◌, ◌/◌, ◌≤◌, ◌<◌}
-use native.Mathlib.Numerals.{add-one}
 use native.Mathlib.Omega.{arith}
 use lib.Dec.{T, eqb, eqb→eq}
 use lib.Bits.{bit_and, bit_or, bit_xor, xor_add_and, and_self, and_le_l, and_le_r}
 use lib.ListN.{length, take, drop, get_or, set, length-set, length-append, length-take, length-drop}
-use lib.Seq.{take_all, take-suc, length-take-le}
+use lib.Seq.{take_all}
 use borrow.Rule.Slice.PartMut.{put_mid}
 use borrow.Author.Tests.{eq-eqb, ne_eqb, eqb-true, eqb-false}
+use Rattle.std.specs.List.{fold, zip}
 use Rattle.protocol.specs.Bytes.{part, same, lay}
 use Rattle.protocol.specs.Tests.{listed}
 use Rattle.protocol.specs.Index.{stored}
 use Rattle.protocol.proofs.Laws.Lists.{same_no, length_lay, lay_lay, lay_nothing, lay_more, lay_whole}
 use Rattle.protocol.specs.Call.{core}
-use Rattle.protocol.proofs.Laws.Logic.{and_l, and_r, not_true, not_false}
+use Rattle.protocol.proofs.Laws.Logic.{and_l, and_r}
 use Rattle.protocol.proofs.Laws.Below.{length_listed, at_listed}
 use Rattle.library.proofs.Bits.{or_none}
 use Rattle.library.proofs.Parts.{part_laid}
-use Rattle.upkeep.proofs.Blank.{same_one}
 use Rattle.protocol.specs.Index.{clear_from}
 use Rattle.protocol.specs.Tests.{verdict}
 use Rattle.offline.specs.Compare.{library, page_code, page_says, note_says, report_of, Compared, fits_beside, fit_compare, clear_beyond, compare_refusal, compare_as, compare_of}
 use Rattle.offline.specs.Records.{compared_of}
-use Rattle.upkeep.specs.Compare.{note_code, fits_notes, note_codes, Shelves, fits_with_notepad, fits_two}
+use Rattle.upkeep.specs.declared.compare.Difference.{Difference}
+use Rattle.upkeep.specs.Compare.{difference_number, note_code, fits_notes, note_codes, Shelves, fits_two}
 use Rattle.upkeep.specs.Lent.{fits_pages}
 
 -- ---- two runs of bytes
@@ -42,58 +42,36 @@ xor_none a b = go (eqb a b) refl
         eq-eqb (bit_xor a b) 0 (omega (arith, xor_add_and a b))
     go false e = ne_eqb (bit_xor a b) 0 (λ z. eqb-false a b e (omega (arith, xor_add_and a b, and_le_l a b, and_le_r a b)))
 
-module _ (a b : List ℕ) (l : length a ≡ length b) where
-  -- what was found in the first i places is 0 just where they are the same
-  pub equal_none : eqb 0 0 ≡ same (take 0 a) (take 0 b)
-  unfolding same
-  equal_none = refl
+-- what is found in two runs of equally many bytes is 0 just where nothing was found before and they are the same
+pub none_differ : (found : ℕ) (a b : List ℕ) → length a ≡ length b
+    → eqb (fold (λ found p. bit_or found (bit_xor p.0 p.1)) found (zip a b)) 0 ≡ (eqb found 0 && same a b)
+unfolding same
+none_differ found [] [] l = go (eqb found 0)
+  where
+    go : (p : Bool) → p ≡ (p && true)
+    go true = refl
+    go false = refl
+none_differ found [] (y ∷ b) l = absurd (omega arith)
+none_differ found (x ∷ a) [] l = absurd (omega arith)
+none_differ found (x ∷ a) (y ∷ b) l =
+    none_differ (bit_or found (bit_xor x y)) a b (omega arith)
+    ∙ ap (λ (p : Bool). p && same a b) (or_none found (bit_xor x y) ∙ ap (λ (p : Bool). eqb found 0 && p) (xor_none x y))
+    ∙ sym (assoc (eqb found 0) (eqb x y) (same a b))
+  where
+    assoc : (p q r : Bool) → (p && (q && r)) ≡ ((p && q) && r)
+    assoc true q r = refl
+    assoc false q r = refl
 
-  pub equal_more : (found i : ℕ) → eqb found 0 ≡ same (take i a) (take i b) → i < length a
-      → eqb (bit_or found (bit_xor (get_or a i 0) (get_or b i 0))) 0 ≡ same (take (i + 1) a) (take (i + 1) b)
-  equal_more found i e h =
-      let m : i < length b = omega arith in
-      let x : length (take i a) ≡ length (take i b) = length-take-le i a (omega arith) ∙ sym (length-take-le i b (omega arith)) in
-      rw (add-one, take-suc a i 0 h, take-suc b i 0 m)
-      (or_none found (bit_xor (get_or a i 0) (get_or b i 0)) ∙ ap₂ ◌&&◌ e (xor_none (get_or a i 0) (get_or b i 0))
-      ∙ sym (same_one (take i a) (take i b) (get_or a i 0) (get_or b i 0) x))
+pub not_long : (a b : List ℕ) → length a ≢ length b → eqb (length a) (length b) ≡ same a b
+not_long a b n = ne_eqb (length a) (length b) n ∙ sym (same_no a b (λ e. n (ap length e)))
 
-  pub equal_all : (found i : ℕ) → eqb found 0 ≡ same (take i a) (take i b) → i ≤ length a → length a ≤ i → eqb found 0 ≡ same a b
-  equal_all found i e h k = e ∙ ap₂ same (take_all i a k) (take_all i b (omega arith))
+-- ---- the codes
 
-pub not_long : (a b : List ℕ) → length a ≢ length b → false ≡ same a b
-not_long a b n = sym (same_no a b (λ e. n (ap length e)))
-
--- ---- the codes, by whether each library has the page and whether its bytes are the same
-
-module _ (one two x y : Bool) (p : one ≡ x) (q : two ≡ y) where
-  module _ (z : Bool) where
-    pub second_alone : not one ≡ true → two ≡ true → 2 ≡ page_code x y z
-    unfolding page_code
-    second_alone a b = rw (sym p ∙ not_true one a, sym q ∙ b) refl
-
-    pub neither : not one ≡ true → two ≡ false → 0 ≡ page_code x y z
-    unfolding page_code
-    neither a b = rw (sym p ∙ not_true one a, sym q ∙ b) refl
-
-    pub first_alone : not one ≡ false → not two ≡ true → 1 ≡ page_code x y z
-    unfolding page_code
-    first_alone a b = rw (sym p ∙ not_false one a, sym q ∙ not_true two b) refl
-
-  module _ (equal z : Bool) (e : equal ≡ z) (a : not one ≡ false) (b : not two ≡ false) where
-    pub both_equal : equal ≡ true → 0 ≡ page_code x y z
-    unfolding page_code
-    both_equal f = rw (sym p ∙ not_false one a, sym q ∙ not_false two b, sym e ∙ f) refl
-
-    pub both_different : equal ≡ false → 3 ≡ page_code x y z
-    unfolding page_code
-    both_different f = rw (sym p ∙ not_false one a, sym q ∙ not_false two b, sym e ∙ f) refl
-
-module _ (equal : Bool) (s t : List ℕ) (e : equal ≡ same s t) where
-  pub note_equal : equal ≡ true → 0 ≡ note_code s t
-  note_equal f = rw (sym e ∙ f) refl
-
-  pub note_different : equal ≡ false → 3 ≡ note_code s t
-  note_different f = rw (sym e ∙ f) refl
+-- of a page that both libraries have, d being what is found of its bytes
+pub both_there : (x y : Bool) → true ≡ x → true ≡ y → (s t : List ℕ) (d e : Difference) (k : ℕ) → difference_number d ≡ note_code s t → e ≡ d → k ≡ difference_number e
+    → k ≡ page_code x y (same s t)
+unfolding page_code
+both_there x y a b s t d e k f g h = rw (sym a, sym b) (h ∙ ap difference_number g ∙ f)
 
 -- ---- codes put one behind the other
 
@@ -183,33 +161,18 @@ module _ (n m v : List ℕ) where
         pub none_noted : Listing (note_says n m) 16 v v 0
         none_noted = none_listed (note_says n m) 16 v (omega arith)
 
-        pub one_noted : (w : List ℕ) (k : ℕ) → Listing (note_says n m) 16 v w k → k < 16 → (j : ℕ)
-            → j ≡ note_code (take (32 * k + 32 - 32 * k) (drop (32 * k) n)) (take (32 * k + 32 - 32 * k) (drop (32 * k) m)) → Listing (note_says n m) 16 v (set w k j) (k + 1)
+        pub one_noted : (w : List ℕ) (k : ℕ) → Listing (note_says n m) 16 v w k → k < length v → (i j : ℕ)
+            → i ≡ note_code (take (32 * k + 32 - 32 * k) (drop (32 * k) n)) (take (32 * k + 32 - 32 * k) (drop (32 * k) m)) → j ≡ i → Listing (note_says n m) 16 v (set w k j) (k + 1)
         unfolding note_says
-        one_noted w k h l j e =
-            let i : 32 * k + 32 - 32 * k ≡ 32 = omega arith in
-            one_listed (note_says n m) 16 v w k h l j (e ∙ ap (λ (z : ℕ). note_code (take z (drop (32 * k) n)) (take z (drop (32 * k) m))) i)
+        one_noted w k h l i j e f =
+            let z : 32 * k + 32 - 32 * k ≡ 32 = omega arith in
+            one_listed (note_says n m) 16 v w k h (omega arith) j (f ∙ e ∙ ap (λ (z : ℕ). note_code (take z (drop (32 * k) n)) (take z (drop (32 * k) m))) z)
 
-        pub all_noted : (w : List ℕ) (k : ℕ) → Listing (note_says n m) 16 v w k → 16 ≤ k → w ≡ note_codes n m v
+        pub all_noted : (w : List ℕ) (k : ℕ) → Listing (note_says n m) 16 v w k → length v ≤ k → w ≡ note_codes n m v
         all_noted w k h l =
-            all_listed (note_says n m) 16 v w k h l ∙ lay_whole (listed (note_says n m) 16) v (length_listed (note_says n m) 16 ∙ sym c) ∙ sym (notes_fit n m v a b c)
+            all_listed (note_says n m) 16 v w k h (omega arith) ∙ lay_whole (listed (note_says n m) 16) v (length_listed (note_says n m) 16 ∙ sym c) ∙ sym (notes_fit n m v a b c)
 
 -- ---- the lengths of two libraries and of a report
-
-module _ (one x : Bool) (p : one ≡ x) where
-  pub first_unfit : (b c d : Bool) → not one ≡ true → false ≡ (x && b && c && d)
-  first_unfit b c d f = rw (sym p ∙ not_true one f) refl
-
-  module _ (two y : Bool) (q : two ≡ y) (f : not one ≡ false) where
-    pub second_unfit : (c d : Bool) → not two ≡ true → false ≡ (x && y && c && d)
-    second_unfit c d g = rw (sym p ∙ not_false one f, sym q ∙ not_true two g) refl
-
-    module _ (g : not two ≡ false) (t u : ℕ) where
-      pub unequal : (d : Bool) → t ≢ u → false ≡ (x && y && eqb t u && d)
-      unequal d h = rw (sym p ∙ not_false one f, sym q ∙ not_false two g, ne_eqb t u h) refl
-
-      pub report_last : (d : Bool) → t ≡ u → d ≡ (x && y && eqb t u && d)
-      report_last d h = rw (sym p ∙ not_false one f, sym q ∙ not_false two g, eq-eqb t u h) refl
 
 -- what fit lengths say
 pub record Fit (n t m u v : ℕ) : Type 0 where
@@ -219,11 +182,11 @@ pub record Fit (n t m u v : ℕ) : Type 0 where
   pub second : m ≡ 512
   pub entries : v ≡ t / 512 + 16
 
-module _ (i n t j m u v : ℕ) (fit : Bool) (e : fit ≡ fits_two i n t j m u v) (f : not fit ≡ false) where
+module _ (i n t j m u v : ℕ) (fit : Bool) (e : fit ≡ fits_two i n t j m u v) (f : fit ≡ true) where
   pub fit_lengths_lem : Fit n t m u v
-  unfolding fits_two fits_with_notepad fits_pages core
+  unfolding fits_two fits_pages core
   fit_lengths_lem =
-      let a : T (fits_two i n t j m u v) = rw (sym e ∙ not_false fit f) tt in
+      let a : T (fits_two i n t j m u v) = rw (sym e ∙ f) tt in
       let long : t ≡ 512 * (t / 512) = eqb→eq t (512 * (t / 512)) (search (and_l, and_r) depth 12) in
       let other : u ≡ 512 * (u / 512) = eqb→eq u (512 * (u / 512)) (search (and_l, and_r) depth 12) in
       let pages : t / 512 ≡ u / 512 = eqb→eq (t / 512) (u / 512) (search (and_l, and_r) depth 12) in
@@ -235,7 +198,7 @@ module _ (i n t j m u v : ℕ) (fit : Bool) (e : fit ≡ fits_two i n t j m u v)
         entries = eqb→eq v (t / 512 + 16) (search (and_l, and_r) depth 12);
       }
 
-pub shelved : (i n j m : ℕ) (t u v : List ℕ) (fit : Bool) → fit ≡ fits_two i n (length t) j m (length u) (length v) → not fit ≡ false → Shelves t u v
+pub shelved : (i n j m : ℕ) (t u v : List ℕ) (fit : Bool) → fit ≡ fits_two i n (length t) j m (length u) (length v) → fit ≡ true → Shelves t u v
 shelved i n j m t u v fit e f =
     let h = fit_lengths_lem i n (length t) j m (length u) (length v) fit e f in
     record { long = h.long; alike = h.alike; room = omega (arith, h.entries) }
@@ -246,32 +209,32 @@ module _ (x n t y m u v : List ℕ) (fit : Bool) (e : fit ≡ fits_two (length x
   abbrev is : Compared
   is = compare_of core (library x n t) (library y m u) v
 
-  pub unfit : not fit ≡ true → compared_of 1 v ≡ is
-  unfolding compare_of compare_refusal compare_as fit_compare fits_beside fits_two fits_with_notepad fits_pages core verdict
-  unfit f = rw (sym e ∙ not_true fit f) refl
+  pub unfit : fit ≡ false → compared_of 1 v ≡ is
+  unfolding compare_of compare_refusal compare_as fit_compare fits_beside fits_two fits_pages core verdict
+  unfit f = rw (sym e ∙ f) refl
 
-  module _ (f : not fit ≡ false) where
+  module _ (f : fit ≡ true) where
     abbrev lengths : Fit (length n) (length t) (length m) (length u) (length v)
     lengths = fit_lengths_lem (length x) (length n) (length t) (length y) (length m) (length u) (length v) fit e f
 
     module _ (p : Bool) (g : p ≡ clear_from x (length t / 512)) where
-      pub first_beyond : not p ≡ true → compared_of 3 v ≡ is
-      unfolding compare_of compare_refusal compare_as fit_compare fits_beside fits_two fits_with_notepad fits_pages clear_beyond core verdict
-      first_beyond h = rw (sym e ∙ not_false fit f, sym g ∙ not_true p h) refl
+      pub first_beyond : p ≡ false → compared_of 3 v ≡ is
+      unfolding compare_of compare_refusal compare_as fit_compare fits_beside fits_two fits_pages clear_beyond core verdict
+      first_beyond h = rw (sym e ∙ f, sym g ∙ h) refl
 
-      module _ (h : not p ≡ false) (q : Bool) (k : q ≡ clear_from y (length t / 512)) where
-        pub second_beyond : not q ≡ true → compared_of 3 v ≡ is
-        unfolding compare_of compare_refusal compare_as fit_compare fits_beside fits_two fits_with_notepad fits_pages clear_beyond core verdict
+      module _ (h : p ≡ true) (q : Bool) (k : q ≡ clear_from y (length t / 512)) where
+        pub second_beyond : q ≡ false → compared_of 3 v ≡ is
+        unfolding compare_of compare_refusal compare_as fit_compare fits_beside fits_two fits_pages clear_beyond core verdict
         second_beyond l =
-            let z : clear_from y (length u / 512) ≡ false = ap (clear_from y) (ap (λ (i : ℕ). i / 512) lengths.alike) ∙ sym k ∙ not_true q l in
-            rw (sym e ∙ not_false fit f, sym g ∙ not_false p h, z) refl
+            let z : clear_from y (length u / 512) ≡ false = ap (clear_from y) (ap (λ (i : ℕ). i / 512) lengths.alike) ∙ sym k ∙ l in
+            rw (sym e ∙ f, sym g ∙ h, z) refl
 
-        pub reported : not q ≡ false → (w z : List ℕ) → ((a b : List ℕ) → w ≡ lay 0 (listed (page_says (library x a t) (library y b u)) (length t / 512)) v)
+        pub reported : q ≡ true → (w z : List ℕ) → ((a b : List ℕ) → w ≡ lay 0 (listed (page_says (library x a t) (library y b u)) (length t / 512)) v)
             → z ≡ note_codes n m (take (length w - length t / 512) (drop (length t / 512) w)) → compared_of 0 (put_mid (length t / 512) (length w - length t / 512) w z) ≡ is
-        unfolding compare_of compare_refusal compare_as fit_compare fits_beside fits_two fits_with_notepad fits_pages clear_beyond core verdict report_of
+        unfolding compare_of compare_refusal compare_as fit_compare fits_beside fits_two fits_pages clear_beyond core verdict report_of
         reported l w z i j =
-            let c : clear_from y (length u / 512) ≡ true = ap (clear_from y) (ap (λ (i : ℕ). i / 512) lengths.alike) ∙ sym k ∙ not_false q l in
-            rw (sym e ∙ not_false fit f, sym g ∙ not_false p h, c) (ap (compared_of 0) (joined w z (i n m) j))
+            let c : clear_from y (length u / 512) ≡ true = ap (clear_from y) (ap (λ (i : ℕ). i / 512) lengths.alike) ∙ sym k ∙ l in
+            rw (sym e ∙ f, sym g ∙ h, c) (ap (compared_of 0) (joined w z (i n m) j))
           where
             s : List ℕ
             s = listed (page_says (library x n t) (library y m u)) (length t / 512)

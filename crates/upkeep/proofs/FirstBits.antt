@@ -1,12 +1,12 @@
 -- The first bits of an index byte by byte: eight of them are a byte of 255, and j of the next byte's are 2 ^ j - 1.
 use mathlib.Core.Path.{◌≡◌, refl, sym, ap, ap₂, ◌∙◌}
-use mathlib.Core.List.{List}
+use mathlib.Core.List.{List, [], ◌∷◌, ◌++◌, append_assoc}
 use Prim.Native.Nat.{ℕ, zero, suc, ◌+◌, ◌-◌, ◌*◌, ◌/◌, ◌%◌, ◌^◌, ◌≤◌, ◌<◌}
 use native.Mathlib.Nat.{pow-suc}
 use native.Mathlib.Omega.{arith}
 use lib.Pow.{pow_pos}
-use lib.ListN.{length, set, get_or, length-set, length-replicate}
-use lib.Seq.{set-set, set-get_or, get_or-set_same, get_or-set_other}
+use lib.ListN.{length, take, drop, set, get_or, replicate, length-replicate, replicate-append-replicate}
+use lib.Seq.{set-set, set-get_or, get_or-set_same, get_or-set_other, length-take-le, drop-cons, set-append_seam}
 use borrow.Author.Tests.{le-ltb}
 use Rattle.protocol.specs.Bytes.{byte_at, zeros}
 use Rattle.protocol.specs.Index.{set_bit}
@@ -52,42 +52,32 @@ module _ (m : ℕ) where
         ∙ ap₂ (λ (x : List ℕ) (n : ℕ). set x i (n + 2 ^ j)) so_far here
         ∙ set-set before i (2 ^ j - 1) (2 ^ j - 1 + 2 ^ j) ∙ ap (set before i) sum
 
--- of an index that was all zeros, y: count bytes are to be set, and the first i are, in x
-pub record Setting (count : ℕ) (y x : List ℕ) (i : ℕ) : Type 0 where
-  pub low : i ≤ count
-  pub room : count ≤ length y
-  pub same : length x ≡ length y
-  pub bits : x ≡ first_bits (length y) (8 * i)
-
-pub none_set : (count m : ℕ) (y : List ℕ) → y ≡ zeros m → count ≤ m → Setting count y y 0
+-- whole bytes of 255 over the front of zeros
+whole_bytes : (m i : ℕ) → i ≤ m → first_bits m (8 * i) ≡ replicate i 255 ++ drop i (zeros m)
 unfolding first_bits
-none_set count m y e h =
-    let long : length y ≡ m = ap length e ∙ length-replicate m 0 in
-    record { low = omega arith; room = omega arith; same = refl; bits = e ∙ ap zeros (sym long) }
+whole_bytes m zero h = refl
+whole_bytes m (suc i) h =
+    let k : 8 * suc i ≡ 8 * i + 8 = omega arith in
+    let rest : List ℕ = drop (suc i) (zeros m) in
+    let next : drop i (zeros m) ≡ get_or (zeros m) i 0 ∷ rest = drop-cons (zeros m) i 0 (omega (arith, length-replicate {A = ℕ} m 0)) in
+    let n : i + 1 ≡ suc i = omega arith in
+    ap (first_bits m) k
+    ∙ some_bits m i (omega arith) 8 (omega arith)
+    ∙ ap (λ (x : List ℕ). set x i 255) (whole_bytes m i (omega arith) ∙ ap (λ (x : List ℕ). replicate i 255 ++ x) next)
+    ∙ ap (λ (j : ℕ). set (replicate i 255 ++ (get_or (zeros m) i 0 ∷ rest)) j 255) (sym (length-replicate i 255))
+    ∙ set-append_seam (replicate i 255) (get_or (zeros m) i 0) rest 255
+    ∙ sym (append_assoc (replicate i 255) (255 ∷ []) rest)
+    ∙ ap (λ (x : List ℕ). x ++ rest) (replicate-append-replicate i 1 255 ∙ ap (λ (j : ℕ). replicate j 255) n)
 
-module _ (count : ℕ) (y x : List ℕ) (i : ℕ) (s : Setting count y x i) where
-  pub byte_set : i < count → (z : List ℕ) → z ≡ set x i 255 → Setting count y z (i + 1)
-  byte_set l z e =
-      let room = s.room in
-      let k : 8 * (i + 1) ≡ 8 * i + 8 = omega arith in
-      record {
-        low = omega arith;
-        room = room;
-        same = ap length e ∙ length-set x i 255 ∙ s.same;
-        bits = e ∙ ap (λ (w : List ℕ). set w i 255) s.bits ∙ sym (some_bits (length y) i (omega arith) 8 (omega arith)) ∙ ap (first_bits (length y)) (sym k);
-      }
-
-  pub bytes_set : count ≤ i → (m : ℕ) → length y ≡ m → x ≡ first_bits m (8 * count)
-  bytes_set end m wide = let low = s.low in let n : 8 * i ≡ 8 * count = omega arith in s.bits ∙ ap₂ first_bits wide n
-
--- one byte more
-pub bits_set : (m count : ℕ) (x z : List ℕ) → count < 8 * m → x ≡ first_bits m (8 * (count / 8)) → z ≡ set x (count / 8) (1 * 2 ^ (count % 8) % 256 - 1) → z ≡ first_bits m count
-bits_set m count x z h e f =
+-- and behind them one byte more
+pub bits_set : (m count : ℕ) (z f : List ℕ) → count < 8 * m → z ≡ zeros m → f ≡ replicate (length (take (count / 8) z)) 255
+    → set (f ++ drop (count / 8) z) (count / 8) (1 * 2 ^ (count % 8) % 256 - 1) ≡ first_bits m count
+bits_set m count z f h e g =
     let n : 8 * (count / 8) + count % 8 ≡ count = omega arith in
-    f
-    ∙ ap₂ (λ (w : List ℕ) (b : ℕ). set w (count / 8) (b - 1)) e (shift_byte (count % 8) (omega arith))
+    let low : count / 8 ≤ length z = omega (arith, ap length e, length-replicate {A = ℕ} m 0) in
+    let many : length (take (count / 8) z) ≡ count / 8 = length-take-le (count / 8) z low in
+    let front : f ++ drop (count / 8) z ≡ first_bits m (8 * (count / 8)) =
+    ap₂ (λ (x y : List ℕ). x ++ y) (g ∙ ap (λ (j : ℕ). replicate j 255) many) (ap (drop (count / 8)) e) ∙ sym (whole_bytes m (count / 8) (omega arith))
+    in
+    ap₂ (λ (w : List ℕ) (b : ℕ). set w (count / 8) (b - 1)) front (shift_byte (count % 8) (omega arith))
     ∙ sym (some_bits m (count / 8) (omega arith) (count % 8) (omega arith)) ∙ ap (first_bits m) n
-
--- what one is taken from
-pub shifted : (k : ℕ) → 1 ≤ 1 * 2 ^ (k % 8) % 256
-shifted k = rw (shift_byte (k % 8) (omega arith)) (pow_pos (k % 8))

@@ -7,7 +7,12 @@ use native.Mathlib.Numerals.{add-one}
 use native.Mathlib.Omega.{arith}
 use lib.ListN.{length, take, drop, set, get_or, length-set, length-drop, length-replicate}
 use lib.Seq.{take_all, take-suc, take-add, length-take-le, take-set-le, get_or-set_same}
-use borrow.Author.Tests.{lt-ltb, le-ltb, eq-eqb}
+use lib.Dec.{ltb}
+use borrow.Author.Tests.{lt-ltb, eq-eqb, ltb-true}
+use denote.Ref.{Bor}
+use Rattle.std.proofs.Common.{Option, Some, None, is_some, IfSome}
+use Rattle.std.proofs.lemmas.List.{get_or_default}
+use Rattle.std.specs.Option.{unwrap_or, option_copied}
 use borrow.Rule.Slice.PartMut.{put_mid}
 use Rattle.protocol.specs.Numbers.{page_bytes, no_page}
 use Rattle.protocol.specs.Bytes.{part, lay, zeros}
@@ -194,10 +199,8 @@ tidied t x w s n u v z y h e f =
     }
 
 -- an origin by the table
-pub in_table : (w : List ℕ) (o : ℕ) → o < length w → get_or w o 0 ≡ followed_in w o
+pub followed_is : (w : List ℕ) (o : ℕ) (r : Option (Bor ℕ)) → is_some r ≡ ltb o (length w) → IfSome r (λ x. x.now ≡ get_or w o x.now)
+    → (m : Option ℕ) → m ≡ option_copied r → (k : ℕ) → k ≡ unwrap_or m o → k ≡ followed_in w o
 unfolding followed_in
-in_table w o l = rw (lt-ltb o (length w) l) refl
-
-pub not_in_table : (w : List ℕ) (o : ℕ) → length w ≤ o → o ≡ followed_in w o
-unfolding followed_in
-not_in_table w o l = rw (le-ltb o (length w) l) refl
+followed_is w o None e f m i k g = rw (sym e) (g ∙ ap (λ (a : Option ℕ). unwrap_or a o) i)
+followed_is w o (Some x) e f m i k g = rw (sym e) (g ∙ ap (λ (a : Option ℕ). unwrap_or a o) i ∙ f ∙ get_or_default w o x.now 0 (ltb-true o (length w) (sym e)))

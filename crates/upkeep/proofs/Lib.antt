@@ -1,4 +1,3 @@
-pub mod Lengths
 pub mod Gathering
 pub mod FirstBits
 pub mod Closing

@@ -1,6 +1,6 @@
 -- Salvage: what one page and one bit more come to.
 use mathlib.Core.Path.{◌≡◌, refl, sym, ap, ap₂, ◌∙◌}
-use mathlib.Core.Bool.{Bool, true, false, ◌||◌, not, cond}
+use mathlib.Core.Bool.{Bool, true, false, ◌||◌, cond}
 use mathlib.Core.List.{List}
 use Prim.Native.Nat.{ℕ, zero, suc, ◌+◌, ◌-◌, ◌*◌, ◌/◌, ◌%◌, ◌^◌, ◌≤◌, ◌<◌}
 use native.Mathlib.Omega.{arith}
@@ -15,7 +15,7 @@ use Rattle.protocol.specs.Bytes.{Bytes, byte_at, part, zeros, same, lay}
 use Rattle.protocol.specs.Tests.{within, verdict, listed}
 use Rattle.protocol.specs.Index.{bit, stored, clear_bits, bits, clear_from}
 use Rattle.protocol.specs.Call.{core}
-use Rattle.protocol.proofs.Laws.Logic.{and_l, and_r, not_true, not_false}
+use Rattle.protocol.proofs.Laws.Logic.{and_l, and_r}
 use Rattle.protocol.proofs.Laws.Lists.{same_eq, length_lay}
 use Rattle.protocol.proofs.Laws.Index.{clear_above, byte_zeros}
 use Rattle.protocol.proofs.Laws.Below.{length_listed, at_listed}
@@ -24,7 +24,10 @@ use Rattle.offline.specs.Salvage.{is_blank, salvaged_index, salvaged_pages, page
 use Rattle.offline.specs.Records.{salvaged_of}
 use Rattle.offline.proofs.Laws.Salvage.{page_stays, index_stays}
 use Rattle.upkeep.proofs.Blank.{lay_own}
-use Rattle.upkeep.specs.Salvage.{Reporting, Reached, PageSalvaged, PagesSalvaged, BitsReported, fits_report}
+use Rattle.upkeep.specs.declared.salvage.Entry.{Entry}
+use Rattle.upkeep.specs.declared.salvage.Entry.TheVariants.{Unchanged, BitCleared}
+use Rattle.upkeep.specs.Salvage.{entry_number, Reporting, Reached, PageSalvaged, PagesSalvaged, BitsReported}
+use Rattle.upkeep.specs.Lent.{fits_pages, fits_lent}
 
 -- ---- a page
 
@@ -68,9 +71,11 @@ module _ (t x v : List ℕ) (p : ℕ) (h : Reached t x v p) where
           let none : part (512 * p) 512 t ≡ zeros 512 = same_eq (part (512 * p) 512 t) (zeros 512) (sym g ∙ i) in
           left (p + 1) (omega arith) (λ q a d. absurd (omega arith)) (rw here (sym (lay_own (512 * p) 512 t none))) (rw (here, sym g ∙ i) refl)
 
-      pub zeroed_passed : k ≡ false → (u w : List ℕ) → u ≡ zero_page p t → w ≡ set v p 2 → PageSalvaged t x v p (p + 1) u w
+      pub zeroed_passed : k ≡ false → (u : List ℕ) (n : ℕ) → u ≡ zero_page p t → n ≡ 2 → PageSalvaged t x v p (p + 1) u (set v p n)
       unfolding page_entry zero_page
-      zeroed_passed i u w c d =
+      zeroed_passed i u n c z =
+          let w : List ℕ = set v p n in
+          let d : w ≡ set v p 2 = ap (set v p) z in
           let here = sym e ∙ f in
           let below = h.below in
           let many : length (zeros 512) ≡ 512 = length-replicate {A = ℕ} 512 0 in
@@ -191,22 +196,29 @@ pub none_told : (c : ℕ) (x v : List ℕ) → length v ≡ 8 * length x → Bit
 none_told c x v e = record { low = omega arith; entries = refl; bits = e; before = λ j a. refl; reported = λ j a b. absurd (omega arith) }
 
 module _ (c : ℕ) (x v w : List ℕ) (q : ℕ) (h : BitsSoFar c x v w q) where
-  pub one_told : q < length w → (b : Bool) → b ≡ stored x q → (k : ℕ) → k ≡ cond b 1 0 → (w' : List ℕ) → w' ≡ set w q k → BitsSoFar c x v w' (q + 1)
-  one_told l b e k f w' g =
+  -- by what is said of a bit
+  pub one_told : q < length v → (b : Bool) → b ≡ stored x q → (s : Bool) → b ≡ s → (d : Entry) → d ≡ cond s BitCleared Unchanged → (k : ℕ) → k ≡ entry_number d
+      → BitsSoFar c x v (set w q k) (q + 1)
+  one_told l b e s i d g k f =
       let low = h.low in
       record {
         low = omega arith;
-        entries = ap length g ∙ length-set w q k ∙ h.entries;
+        entries = length-set w q k ∙ h.entries;
         bits = h.bits;
-        before = λ j a. ap (λ (z : List ℕ). get_or z j 0) g ∙ get_or-set_other w q j k 0 (λ z. omega arith) ∙ h.before j a;
-        reported = λ j a m. ap (λ (z : List ℕ). get_or z j 0) g ∙ entry j a m (ℕ_discrete j q);
+        before = λ j a. get_or-set_other w q j k 0 (λ z. omega arith) ∙ h.before j a;
+        reported = λ j a m. entry j a m (ℕ_discrete j q);
       }
     where
+      number : (s : Bool) → entry_number (cond s BitCleared Unchanged) ≡ cond s 1 0
+      number true = refl
+      number false = refl
+
       entry : (j : ℕ) → c ≤ j → j < q + 1 → Dec (j ≡ q) → get_or (set w q k) j 0 ≡ cond (stored x j) 1 0
-      entry j a m (yes z) = rw z (get_or-set_same w q k 0 l ∙ f ∙ ap (λ (z : Bool). cond z 1 0) e)
+      entry j a m (yes z) =
+          rw z (get_or-set_same w q k 0 (omega (arith, h.entries)) ∙ f ∙ ap entry_number g ∙ number s ∙ ap (λ (z : Bool). cond z 1 0) (sym i ∙ e))
       entry j a m (no z) = get_or-set_other w q j k 0 z ∙ h.reported j a (omega arith)
 
-  pub all_told : length w ≤ q → BitsReported c x v w
+  pub all_told : length v ≤ q → BitsReported c x v w
   all_told l =
       let same = h.entries in
       let bits = h.bits in
@@ -218,12 +230,12 @@ as_bytes : (x : List ℕ) → ((i : ℕ) → Fits w8 (get_or x i 0)) → Bytes x
 unfolding Bytes
 as_bytes x h i = (h i).fits
 
-module _ (t x v : List ℕ) (fit : Bool) (e : fit ≡ fits_report (length t) (length x) (length v)) where
-  pub refused : not fit ≡ true → salvaged_of 1 t x v ≡ salvage_of core t x v
-  unfolding salvage_of salvage_refusal salvage_as fit_salvage fits_report verdict
-  refused f = rw (sym e ∙ not_true fit f) refl
+module _ (t x v : List ℕ) (fit : Bool) (e : fit ≡ fits_lent (length t) (length x) (length v) 1024) where
+  pub refused : fit ≡ false → salvaged_of 1 t x v ≡ salvage_of core t x v
+  unfolding salvage_of salvage_refusal salvage_as fit_salvage fits_pages verdict core
+  refused f = rw (sym e ∙ f) refl
 
-  module _ (f : not fit ≡ false) where
+  module _ (f : fit ≡ true) where
     record Lengths : Type 0 where
       long : length t ≡ 512 * (length t / 512)
       few : length t / 512 ≤ 1000
@@ -231,9 +243,9 @@ module _ (t x v : List ℕ) (fit : Bool) (e : fit ≡ fits_report (length t) (le
       entries : length v ≡ 1024
 
     lengths : Lengths
-    unfolding fits_report within core
+    unfolding fits_pages within core
     lengths =
-        let y : T (fits_report (length t) (length x) (length v)) = rw (sym e ∙ not_false fit f) tt in
+        let y : T (fits_lent (length t) (length x) (length v) 1024) = rw (sym e ∙ f) tt in
         record {
           long = eqb→eq (length t) (512 * (length t / 512)) (search (and_l, and_r) depth 8);
           few = leb→le (length t / 512) 1000 (search (and_l, and_r) depth 8);
@@ -263,8 +275,8 @@ module _ (t x v : List ℕ) (fit : Bool) (e : fit ≡ fits_report (length t) (le
 
       -- what the call comes to
       salvaged : (y z : List ℕ) → y ≡ salvaged_index (length t / 512) x → z ≡ listed (entry_of (length t / 512) t x) (bits x) → salvaged_of 0 u y z ≡ salvage_of core t x v
-      unfolding salvage_of salvage_refusal salvage_as fit_salvage fits_report verdict
-      salvaged y z i r = rw (sym e ∙ not_false fit f, h.pages, i, r) refl
+      unfolding salvage_of salvage_refusal salvage_as fit_salvage fits_pages verdict core
+      salvaged y z i r = rw (sym e ∙ f, h.pages, i, r) refl
 
       -- no bit from C on was set
       pub clear_salvaged : ((i : ℕ) → Fits w8 (get_or x i 0)) → (b : Bool) → b ≡ clear_from x (length u / 512) → b ≡ true → salvaged_of 0 u x w ≡ salvage_of core t x v
@@ -284,14 +296,8 @@ module _ (t x v : List ℕ) (fit : Bool) (e : fit ≡ fits_report (length t) (le
           salvaged y w' (g ∙ ap₂ (λ (c n : ℕ). clear_bits x c (n - c)) same (sym all))
           (whole w' (k.entries ∙ h.entries ∙ omega (arith, m.wide)) (λ j a. k.before j (omega arith) ∙ h.reported j a) (λ j a l. k.reported j (omega arith) (omega (arith, m.wide))))
 
-      pub long_enough : length w ≡ 8 * length x
-      long_enough = h.entries
-
       pub few_pages : length u / 512 ≤ 1024
       few_pages = omega (arith, lengths.few, h.same)
 
       pub few_fit : Fits w16 (length u / 512)
       few_fit = record { fits = omega (arith, few_pages) }
-
-      pub rest_fit : Fits w16 (1024 - length u / 512)
-      rest_fit = record { fits = omega arith }

@@ -4,8 +4,17 @@ use Rattle.protocol.specs.Numbers.{page_bytes, notepad_bytes}
 use Rattle.protocol.specs.Bytes.{same}
 use Rattle.protocol.specs.Tests.{listed}
 use Rattle.protocol.specs.Call.{core}
-use Rattle.offline.specs.Compare.{no_difference, different, note_says, note_pages}
-use Rattle.upkeep.specs.Lent.{fits_pages}
+use Rattle.upkeep.specs.declared.compare.Difference.{Difference}
+use Rattle.upkeep.specs.declared.compare.Difference.TheVariants.{Same, OnlyFirst, OnlySecond, Different}
+use Rattle.offline.specs.Compare.{no_difference, only_first, only_second, different, note_says, note_pages}
+use Rattle.upkeep.specs.Lent.{fits_lent}
+
+-- the number of a difference in the report
+abbrev pub difference_number : Difference → ℕ
+difference_number Same = no_difference
+difference_number OnlyFirst = only_first
+difference_number OnlySecond = only_second
+difference_number Different = different
 
 -- of two notepad pages
 abbrev pub note_code : List ℕ → List ℕ → ℕ
@@ -25,11 +34,7 @@ pub record Shelves (t u v : List ℕ) : Type 0 where
   pub alike : length u ≡ length t
   pub room : length t / page_bytes ≤ length v
 
--- lengths of an index, a notepad and templates
-unfoldable pub fits_with_notepad : ℕ → ℕ → ℕ → Bool
-fits_with_notepad i n t = fits_pages t i && eqb n notepad_bytes
-
--- those of two, and of a report
+-- lengths of the index, the notepad and the templates of two libraries, and of a report
 unfoldable pub fits_two : ℕ → ℕ → ℕ → ℕ → ℕ → ℕ → ℕ → Bool
 fits_two i n t j m u entries =
-    fits_with_notepad i n t && fits_with_notepad j m u && eqb (t / page_bytes) (u / page_bytes) && eqb entries (t / page_bytes + note_pages core)
+    fits_lent t i n notepad_bytes && fits_lent u j m notepad_bytes && eqb (t / page_bytes) (u / page_bytes) && eqb entries (t / page_bytes + note_pages core)

@@ -1,10 +1,9 @@
 -- Closing the gaps: what its functions need and leave.
-use Rattle.std.specs.Prelude.{Bool, cond, List, ◌≡◌, ℕ, ◌*◌, ◌/◌, ◌≤◌, ◌<◌, ltb, length, take, get_or}
+use Rattle.std.specs.Prelude.{cond, List, ◌≡◌, ℕ, ◌*◌, ◌/◌, ◌≤◌, ◌<◌, ltb, length, take, get_or}
 use Rattle.protocol.specs.Numbers.{page_bytes, most_pages}
 use Rattle.protocol.specs.Bytes.{part, lay}
 use Rattle.protocol.specs.Tests.{listed}
-use Rattle.offline.specs.CloseGaps.{rank, new_page, gathered, closed_templates, closed_index, closing_fits}
-use Rattle.protocol.specs.Call.{core}
+use Rattle.offline.specs.CloseGaps.{rank, new_page, gathered, closed_templates, closed_index}
 
 -- page p copied over page q
 unfoldable pub move_page : ℕ → ℕ → List ℕ → List ℕ
@@ -34,7 +33,3 @@ pub record Tidied (t x u y w : List ℕ) : Type 0 where
 -- an origin's number by the table; a number that is none of its pages stays
 unfoldable pub followed_in : List ℕ → ℕ → ℕ
 followed_in w o = cond (ltb o (length w)) (get_or w o 0) o
-
--- lengths of templates, index and table
-unfoldable pub fits_of : ℕ → ℕ → ℕ → Bool
-fits_of t i n = closing_fits core (t / page_bytes) t i n

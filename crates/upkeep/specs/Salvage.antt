@@ -1,10 +1,17 @@
 -- Salvage: what its functions need and leave.
-use Rattle.std.specs.Prelude.{Bool, true, cond, ◌≢◌, List, ◌≡◌, ℕ, ◌*◌, ◌/◌, ◌≤◌, ◌<◌, length, get_or}
+use Rattle.std.specs.Prelude.{true, cond, ◌≢◌, List, ◌≡◌, ℕ, ◌*◌, ◌/◌, ◌≤◌, ◌<◌, length, get_or}
 use Rattle.protocol.specs.Numbers.{page_bytes}
 use Rattle.protocol.specs.Bytes.{zeros, lay}
 use Rattle.protocol.specs.Index.{stored}
-use Rattle.protocol.specs.Call.{core}
-use Rattle.offline.specs.Salvage.{salvaged_pages, page_entry, bit_cleared, unchanged, salvage_fits}
+use Rattle.upkeep.specs.declared.salvage.Entry.{Entry}
+use Rattle.upkeep.specs.declared.salvage.Entry.TheVariants.{Unchanged, BitCleared, PageZeroed}
+use Rattle.offline.specs.Salvage.{salvaged_pages, page_entry, bit_cleared, page_zeroed, unchanged}
+
+-- the number of an entry in the report
+abbrev pub entry_number : Entry → ℕ
+entry_number Unchanged = unchanged
+entry_number BitCleared = bit_cleared
+entry_number PageZeroed = page_zeroed
 
 -- templates, index and report of one library
 pub record Reporting (t x v : List ℕ) : Type 0 where
@@ -41,7 +48,3 @@ pub record BitsReported (c : ℕ) (x v w : List ℕ) : Type 0 where
   pub entries : length w ≡ length v
   pub before : (j : ℕ) → j < c → get_or w j 0 ≡ get_or v j 0
   pub reported : (j : ℕ) → c ≤ j → j < 8 * length x → get_or w j 0 ≡ cond (stored x j) bit_cleared unchanged
-
--- lengths of templates, index and report
-unfoldable pub fits_report : ℕ → ℕ → ℕ → Bool
-fits_report t i n = salvage_fits core (t / page_bytes) t i n

@@ -1,44 +1,58 @@
 // Comparing (request [11]): what two libraries of equal capacity have, page by page and notepad page by notepad page.
 ghost use Rattle.std.specs.Prelude.{◌≡◌, List, ℕ, ◌/◌, length};
-ghost use Rattle.protocol.specs.Numbers.{page_bytes};
+ghost use Rattle.protocol.specs.Numbers.{page_bytes, notepad_bytes};
 ghost use Rattle.protocol.specs.Bytes.{same, lay};
 ghost use Rattle.protocol.specs.Index.{stored};
 ghost use Rattle.protocol.specs.Tests.{listed};
+ghost use Rattle.protocol.specs.Codes.{refusal_of};
 ghost use Rattle.protocol.specs.Call.{core};
 ghost use Rattle.offline.specs.Compare.{library, page_code, page_says, compare_of};
 ghost use Rattle.offline.specs.Records.{compared_of};
-ghost use Rattle.upkeep.specs.Compare.{note_code, note_codes, Shelves, fits_with_notepad, fits_two};
+ghost use Rattle.upkeep.specs.Compare.{difference_number, note_code, note_codes, Shelves, fits_two};
+ghost use Rattle.upkeep.specs.Lent.{fits_lent};
 
 use crate::lent;
 use library::index;
-use protocol::{numbers, refusals};
+use protocol::numbers;
+use protocol::refusals::Refusal;
 
 // The notepad's pages.
 pub const NOTES: usize = numbers::NOTEPAD / numbers::NOTE;
 
-// What is said of a page.
-const NO_DIFFERENCE: u8 = 0;
+// A library with its notepad, lent to be read.
+#[derive(Clone, Copy)]
+pub struct Library<'a> {
+    pub index: &'a [u8],
+    pub notepad: &'a [u8],
+    pub templates: &'a [u8],
+}
 
-const ONLY_FIRST: u8 = 1;
+// How a page of two libraries differs, or a page of their notepads, by its number in the report.
+#[derive(Clone, Copy, Debug, PartialEq, Eq)]
+enum Difference {
+    Same = 0,
+    OnlyFirst = 1,
+    OnlySecond = 2,
+    Different = 3,
+}
 
-const ONLY_SECOND: u8 = 2;
+impl From<Difference> for u8 {
+    ghost from_gives = { λ found number. number ≡ difference_number found };
 
-const DIFFERENT: u8 = 3;
+    fn from(found: Difference) -> u8 {
+        found as u8
+    }
+}
 
-// Whether two slices have the same bytes. All are looked at, which lets the compiler take sixteen at a time.
-fn is_equal(a: &[u8], b: &[u8]) -> bool
-    ensures { result ≡ same a.now b.now }
+// Of the bytes of two pages that are there.
+fn of_bytes(a: &[u8], b: &[u8]) -> Difference
+    ensures { difference_number result ≡ note_code a.now b.now }
 {
-    if a.len() != b.len() {
-        return false;
+    if lent::is_equal(a, b) {
+        Difference::Same
+    } else {
+        Difference::Different
     }
-    let mut found = 0u8;
-    let mut i = 0;
-    while i < a.len() {
-        found = found | (a[i] ^ b[i]);
-        i += 1;
-    }
-    found == 0
 }
 
 // What is said of page p, by two indexes and the bytes of the page in each library.
@@ -46,56 +60,34 @@ pub fn page_code(index1: &[u8], index2: &[u8], p: usize, a: &[u8], b: &[u8]) -> 
     ensures { result ≡ page_code (stored index1.now p) (stored index2.now p)
         (same a.now b.now) }
 {
-    let one = index::has_bit(index1, p);
-    let two = index::has_bit(index2, p);
-    if !one {
-        if two {
-            return ONLY_SECOND;
-        }
-        return NO_DIFFERENCE;
-    }
-    if !two {
-        return ONLY_FIRST;
-    }
-    let equal = is_equal(a, b);
-    if equal {
-        return NO_DIFFERENCE;
-    }
-    DIFFERENT
+    let found = match (index::has_bit(index1, p), index::has_bit(index2, p)) {
+        (true, true) => of_bytes(a, b),
+        (true, false) => Difference::OnlyFirst,
+        (false, true) => Difference::OnlySecond,
+        (false, false) => Difference::Same,
+    };
+    u8::from(found)
 }
 
 // What is said of every page, at the front of the report.
-fn compare_pages(
-    index1: &[u8],
-    templates1: &[u8],
-    index2: &[u8],
-    templates2: &[u8],
-    report: &mut [u8],
-)
-    requires { Shelves templates1.now templates2.now report.old }
+fn compare_pages(one: Library, two: Library, report: &mut [u8])
+    requires { Shelves one.templates.now two.templates.now report.old }
     ensures { (n m : List ℕ) → report.new
-        ≡ lay 0 (listed (page_says (library index1.now n templates1.now) (library index2.now m templates2.now))
-        (length templates1.now / page_bytes)) report.old }
+        ≡ lay 0 (listed (page_says (library one.entry.index.now n one.entry.templates.now) (library two.entry.index.now m two.entry.templates.now))
+        (length one.entry.templates.now / page_bytes)) report.old }
 {
-    let end = templates1.len() / numbers::PAGE;
-    let mut p = 0;
-    while p < end {
+    let end = one.templates.len() / numbers::PAGE;
+    for p in 0..end {
         let a = numbers::PAGE * p;
         let e = a + numbers::PAGE;
-        report[p] = page_code(index1, index2, p, &templates1[a..e], &templates2[a..e]);
-        p += 1;
+        report[p] = page_code(
+            one.index,
+            two.index,
+            p,
+            &one.templates[a..e],
+            &two.templates[a..e],
+        );
     }
-}
-
-// What is said of a notepad page.
-fn note_code(a: &[u8], b: &[u8]) -> u8
-    ensures { result ≡ note_code a.now b.now }
-{
-    let equal = is_equal(a, b);
-    if equal {
-        return NO_DIFFERENCE;
-    }
-    DIFFERENT
 }
 
 // What is said of every notepad page, into sixteen bytes. Where a length is another, nothing is written.
@@ -111,81 +103,57 @@ pub fn note_codes(notepad1: &[u8], notepad2: &[u8], codes: &mut [u8])
     if codes.len() != NOTES {
         return;
     }
-    let mut n = 0;
-    while n < NOTES {
+    for (n, code) in codes.iter_mut().enumerate() {
         let a = numbers::NOTE * n;
         let e = a + numbers::NOTE;
-        codes[n] = note_code(&notepad1[a..e], &notepad2[a..e]);
-        n += 1;
+        *code = u8::from(of_bytes(&notepad1[a..e], &notepad2[a..e]));
     }
 }
 
-// Whether the lengths of one library and its notepad are right.
-fn is_fit(i: usize, n: usize, t: usize) -> bool
-    ensures { result ≡ fits_with_notepad i n t }
+// Whether the lengths of a library and its notepad are right.
+fn is_fit(a: Library) -> bool
+    ensures { result ≡ fits_lent (length a.entry.templates.now) (length a.entry.index.now) (length a.entry.notepad.now) notepad_bytes }
 {
-    let library = lent::is_library(t, i);
-    if !library {
-        return false;
-    }
-    n == numbers::NOTEPAD
+    lent::is_fit(
+        a.templates.len(),
+        a.index.len(),
+        a.notepad.len(),
+        numbers::NOTEPAD,
+    )
 }
 
-// Whether those of two libraries are right, the capacities equal, and the report as long as it must be (refusal 1).
-fn are_fit(i1: usize, n1: usize, t1: usize, i2: usize, n2: usize, t2: usize, entries: usize) -> bool
-    ensures { result ≡ fits_two i1 n1 t1 i2 n2 t2 entries }
+// Whether the lengths of two libraries and their notepads are right, the capacities equal, and the report as long as it must be.
+fn are_fit(one: Library, two: Library, entries: usize) -> bool
+    ensures { result ≡ fits_two
+        (length one.entry.index.now) (length one.entry.notepad.now) (length one.entry.templates.now)
+        (length two.entry.index.now) (length two.entry.notepad.now) (length two.entry.templates.now)
+        entries }
 {
-    let one = is_fit(i1, n1, t1);
-    if !one {
-        return false;
-    }
-    let two = is_fit(i2, n2, t2);
-    if !two {
-        return false;
-    }
-    if t1 / numbers::PAGE != t2 / numbers::PAGE {
-        return false;
-    }
-    entries == t1 / numbers::PAGE + NOTES
+    let pages = one.templates.len() / numbers::PAGE;
+    is_fit(one)
+        && is_fit(two)
+        && pages == two.templates.len() / numbers::PAGE
+        && entries == pages + NOTES
 }
 
-// Two libraries of equal capacity with their notepads, and a report of C + 16 bytes. It returns the refusal or 0.
-pub fn compare(
-    index1: &[u8],
-    notepad1: &[u8],
-    templates1: &[u8],
-    index2: &[u8],
-    notepad2: &[u8],
-    templates2: &[u8],
-    report: &mut [u8],
-) -> u8
-    ensures { compared_of result report.new ≡ compare_of core
-        (library index1.now notepad1.now templates1.now)
-        (library index2.now notepad2.now templates2.now)
+// Two libraries of equal capacity with their notepads, and a report of C + 16 bytes.
+pub fn compare(one: Library, two: Library, report: &mut [u8]) -> Result<(), Refusal>
+    ensures { compared_of (refusal_of result) report.new ≡ compare_of core
+        (library one.entry.index.now one.entry.notepad.now one.entry.templates.now)
+        (library two.entry.index.now two.entry.notepad.now two.entry.templates.now)
         report.old }
 {
-    let fit = are_fit(
-        index1.len(),
-        notepad1.len(),
-        templates1.len(),
-        index2.len(),
-        notepad2.len(),
-        templates2.len(),
-        report.len(),
-    );
-    if !fit {
-        return refusals::BAD_LENGTH;
+    if !are_fit(one, two, report.len()) {
+        return Err(Refusal::BadLength);
     }
-    let c = templates1.len() / numbers::PAGE;
-    let clear1 = index::is_clear_from(index1, c);
-    if !clear1 {
-        return refusals::BAD_SETTING;
+    let c = one.templates.len() / numbers::PAGE;
+    if !index::is_clear_from(one.index, c) {
+        return Err(Refusal::BadSetting);
     }
-    let clear2 = index::is_clear_from(index2, c);
-    if !clear2 {
-        return refusals::BAD_SETTING;
+    if !index::is_clear_from(two.index, c) {
+        return Err(Refusal::BadSetting);
     }
-    compare_pages(index1, templates1, index2, templates2, report);
-    note_codes(notepad1, notepad2, &mut report[c..]);
-    refusals::ACCEPTED
+    compare_pages(one, two, report);
+    note_codes(one.notepad, two.notepad, &mut report[c..]);
+    Ok(())
 }

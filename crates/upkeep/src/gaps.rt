@@ -2,22 +2,23 @@
 ghost use Rattle.std.specs.Prelude.{◌≡◌, List, ℕ, ◌*◌, ◌/◌, ◌≤◌, ◌<◌, length};
 ghost use Rattle.protocol.specs.Numbers.{page_bytes};
 ghost use Rattle.protocol.specs.Call.{core};
+ghost use Rattle.protocol.specs.Codes.{refusal_of};
 ghost use Rattle.protocol.specs.Records.{reader_of};
 ghost use Rattle.offline.specs.CloseGaps.{first_bits, close_of};
 ghost use Rattle.offline.specs.Records.{closed_of, moved_at};
-ghost use Rattle.upkeep.specs.Gaps.{Shelved, Gathered, move_page, Tidied, followed_in, fits_of};
+ghost use Rattle.upkeep.specs.Gaps.{Shelved, Gathered, move_page, Tidied, followed_in};
 
 use crate::lent;
 use library::pages;
-use offline::Moved;
-use protocol::{Settings, numbers, refusals};
+use protocol::refusals::Refusal;
+use protocol::{Settings, numbers};
 use reader::call;
-use rules::settings;
 use wire::bytes;
 
 // Copies a page to another place, by way of an array of its own: the compiler makes one memmove of it, and does not go byte by byte.
 fn move_page(templates: &mut [u8], from: usize, to: usize)
-    requires { (from < length templates.old / page_bytes) × (to < length templates.old / page_bytes) }
+    requires source { from < length templates.old / page_bytes }
+    requires target { to < length templates.old / page_bytes }
     ensures { templates.new ≡ move_page from to templates.old }
 {
     let mut page = [0u8; numbers::PAGE];
@@ -30,12 +31,10 @@ fn gather(templates: &mut [u8], index: &[u8], table: &mut [u16]) -> usize
     requires { Shelved templates.old index.now table.old }
     ensures { Gathered templates.old index.now result templates.new table.new }
 {
-    let end = templates.len() / numbers::PAGE;
     let mut next = 0;
-    let mut p = 0;
-    while p < end {
-        let there = lent::is_stored(index, p);
-        if there {
+    let end = templates.len() / numbers::PAGE;
+    for p in 0..end {
+        if lent::is_stored(index, p) {
             table[p] = next as u16;
             if next < p {
                 move_page(templates, p, next);
@@ -44,22 +43,8 @@ fn gather(templates: &mut [u8], index: &[u8], table: &mut [u16]) -> usize
         } else {
             table[p] = numbers::NO_PAGE;
         }
-        p += 1;
     }
     next
-}
-
-// An index with all bits of its first bytes set, and no other.
-fn set_bytes(index: &mut [u8], count: usize)
-    requires { count ≤ length index.old }
-    ensures { index.new ≡ first_bits (length index.old) (8 * count) }
-{
-    bytes::zero(index);
-    let mut i = 0;
-    while i < count {
-        index[i] = 255;
-        i += 1;
-    }
 }
 
 // An index with its first bits set, and no other: whole bytes, and the first bits of one more.
@@ -68,7 +53,8 @@ fn set_first(index: &mut [u8], count: usize)
     ensures { index.new ≡ first_bits (length index.old) count }
 {
     let whole = count / 8;
-    set_bytes(index, whole);
+    bytes::zero(index);
+    index[..whole].fill(255);
     index[whole] = (1u8 << (count % 8)) - 1;
 }
 
@@ -87,51 +73,29 @@ fn close_library(templates: &mut [u8], index: &mut [u8], table: &mut [u16])
 fn followed(table: &[u16], origin: u16) -> u16
     ensures { result ≡ followed_in table.now origin }
 {
-    let p = origin as usize;
-    if p < table.len() {
-        return table[p];
-    }
-    origin
-}
-
-// Whether the lent lengths are right (refusal 1).
-fn is_fit(t: usize, i: usize, n: usize) -> bool
-    ensures { result ≡ fits_of t i n }
-{
-    let library = lent::is_library(t, i);
-    if !library {
-        return false;
-    }
-    n == t / numbers::PAGE
-}
-
-fn moved_of(refusal: u8, settings: Settings) -> Moved
-    ensures { result ≡ moved_at settings refusal }
-{
-    Moved { settings, refusal }
+    table.get(origin as usize).copied().unwrap_or(origin)
 }
 
 // The gaps of a reader closed: its settings, templates and index, and a table of as many numbers as it has pages.
 pub fn close_gaps(
-    settings: Settings,
+    settings: &mut Settings,
     templates: &mut [u8],
     index: &mut [u8],
     table: &mut [u16],
-) -> Moved
+) -> Result<(), Refusal>
     ensures { (n b d : List ℕ)
-        → closed_of result templates.new index.new table.new n b d
-        ≡ close_of core (reader_of settings templates.old index.old n b d) table.old }
+        → closed_of (moved_at settings.new (refusal_of result)) templates.new index.new table.new n b d
+        ≡ close_of core (reader_of settings.old templates.old index.old n b d) table.old }
 {
-    let fit = is_fit(templates.len(), index.len(), table.len());
-    if !fit {
-        return moved_of(refusals::BAD_LENGTH, settings);
+    let pages = templates.len() / numbers::PAGE;
+    if !lent::is_fit(templates.len(), index.len(), table.len(), pages) {
+        return Err(Refusal::BadLength);
     }
-    let sound = call::is_sound_of(settings, index, templates.len() / numbers::PAGE);
-    if !sound {
-        return moved_of(refusals::BAD_SETTING, settings);
+    if !call::is_sound_of(*settings, index, pages) {
+        return Err(Refusal::BadSetting);
     }
     close_library(templates, index, table);
-    let one = followed(table, settings.origin1);
-    let two = followed(table, settings.origin2);
-    moved_of(refusals::ACCEPTED, settings::linked(settings, one, two))
+    settings.origin1 = followed(table, settings.origin1);
+    settings.origin2 = followed(table, settings.origin2);
+    Ok(())
 }

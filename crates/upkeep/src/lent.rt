@@ -1,33 +1,35 @@
-// What every call here asks of a lent library: its lengths (refusal 1), and whether a page is stored.
+// What every call here asks of a lent library: its lengths (refusal 1), whether a page is stored, and whether bytes are the same.
 ghost use Rattle.std.specs.Prelude.{◌≡◌, ◌/◌, ◌<◌, length};
+ghost use Rattle.protocol.specs.Bytes.{same};
 ghost use Rattle.protocol.specs.Index.{stored};
-ghost use Rattle.upkeep.specs.Lent.{fits_pages};
+ghost use Rattle.upkeep.specs.Lent.{fits_lent};
 
 use protocol::numbers;
 
-// Whether templates of so many bytes and an index of so many are a library's.
-pub(crate) fn is_library(t: usize, i: usize) -> bool
-    ensures { result ≡ fits_pages t i }
+// Whether templates of t bytes and an index of i are a library's, and what is lent beside them is as long as it must be: n and wanted.
+pub(crate) fn is_fit(t: usize, i: usize, n: usize, wanted: usize) -> bool
+    ensures { result ≡ fits_lent t i n wanted }
 {
     let pages = t / numbers::PAGE;
-    if t != numbers::PAGE * pages {
-        return false;
-    }
-    if pages < 1 {
-        return false;
-    }
-    if numbers::MOST_PAGES < pages {
-        return false;
-    }
-    i == numbers::INDEX
+    t == numbers::PAGE * pages
+        && 1 <= pages
+        && pages <= numbers::MOST_PAGES
+        && i == numbers::INDEX
+        && n == wanted
 }
 
-// Whether a page that the index has a bit for is stored.
+// Whether a page that the index has a bit for is stored. `index::has_bit` tests that it has one: with it, closing no gap of 1000 pages takes 1.32 times plain C's
+// instructions, where the bar is 1.1.
 pub(crate) fn is_stored(index: &[u8], p: usize) -> bool
     requires { p / 8 < length index.now }
     ensures { result ≡ stored index.now p }
 {
-    let b = index[p / 8];
-    let v = b >> (p % 8);
-    v & 1 == 1
+    index[p / 8] >> (p % 8) & 1 == 1
+}
+
+// Whether two slices have the same bytes. All are looked at, which lets the compiler take sixteen at a time.
+pub(crate) fn is_equal(a: &[u8], b: &[u8]) -> bool
+    ensures { result ≡ same a.now b.now }
+{
+    a.len() == b.len() && a.iter().zip(b).fold(0u8, |found, (x, y)| found | (x ^ y)) == 0
 }

@@ -10,7 +10,9 @@ ghost use Rattle.offline.specs.Salvage.{salvage_of};
 ghost use Rattle.offline.specs.Compare.{library, compare_of};
 ghost use Rattle.offline.specs.Records.{closed_of, moved_at, salvaged_of, compared_of};
 
+use compare::Library;
 use protocol::Settings;
+use protocol::refusals::refusal_of;
 
 pub mod compare;
 pub mod gaps;
@@ -29,9 +31,7 @@ pub extern "C" fn bystrodol_close_gaps(
         → closed_of (moved_at settings.new result) templates.new index.new table.new n b d
         ≡ close_of core (reader_of settings.old templates.old index.old n b d) table.old }
 {
-    let moved = gaps::close_gaps(*settings, templates, index, table);
-    *settings = moved.settings;
-    moved.refusal
+    refusal_of(&gaps::close_gaps(settings, templates, index, table))
 }
 
 // Salvages a library, and reports what was done to each page and bit: the refusal or 0.
@@ -40,7 +40,7 @@ pub extern "C" fn bystrodol_salvage(templates: &mut [u8], index: &mut [u8], repo
     ensures { salvaged_of result templates.new index.new report.new
         ≡ salvage_of core templates.old index.old report.old }
 {
-    salvage::salvage(templates, index, report)
+    refusal_of(&salvage::salvage(templates, index, report))
 }
 
 // Compares two libraries with their notepads, and reports how they differ: the refusal or 0.
@@ -59,7 +59,15 @@ pub extern "C" fn bystrodol_compare(
         (library index2.now notepad2.now templates2.now)
         report.old }
 {
-    compare::compare(
-        index1, notepad1, templates1, index2, notepad2, templates2, report,
-    )
+    let one = Library {
+        index: index1,
+        notepad: notepad1,
+        templates: templates1,
+    };
+    let two = Library {
+        index: index2,
+        notepad: notepad2,
+        templates: templates2,
+    };
+    refusal_of(&compare::compare(one, two, report))
 }

@@ -3,7 +3,7 @@ use Rattle.std.proofs.Common.{◌≡◌, ℕ, ◌+◌, ◌/◌, ◌%◌, ◌≤�
 use borrow.Rule.Slice.PartMut.{put_mid}
 use Rattle.std.specs.Int.{to_be_bytes}
 use lib.Seq.{drop-drop}
-use native.Mathlib.Nat.{add-mod-mod, mod-add-mod}
+use native.Mathlib.Nat.{add-mod-mod}
 use Rattle.protocol.specs.Numbers.{first_mark, second_mark, head_bytes, frame_bytes, four_bytes}
 use Rattle.protocol.specs.Bytes.{two, total, lay}
 use Rattle.protocol.specs.Packet.{length_of, sum_of, packet}
@@ -23,11 +23,10 @@ word_two n =
     let low : n % 65536 % 256 ≡ n % 256 = omega arith in
     rw (high, low)
 
--- the first bytes may be summed apart, and each sum taken modulo 65536
-pub packet_sum : (i : ℕ) (c w : List ℕ) (h t : ℕ) → w ≡ two (length_of c) → h ≡ total (i ∷ get_or w 0 0 ∷ get_or w 1 0 ∷ []) % 65536 → t ≡ total c % 65536
-    → (h + t) % 65536 ≡ sum_of i c
-unfolding sum_of total two
-packet_sum i c w h t e f g = rw (f, g, e, mod-add-mod, add-mod-mod)
+-- the content's sum may be taken modulo 65536 first
+pub packet_sum : (i : ℕ) (c : List ℕ) (t q : ℕ) → t ≡ total c % 65536 → q ≡ (total (i ∷ two (length_of c)) + t) % 65536 → q ≡ sum_of i c
+unfolding sum_of total
+packet_sum i c t q e f = f ∙ rw (e, add-mod-mod)
 
 -- the head as the code lists it
 pub head_list : (a w : List ℕ) (i n : ℕ) → length a ≡ four_bytes → w ≡ two n
@@ -58,13 +57,16 @@ front_laid : (d s x : List ℕ) → x ≡ s → length s ≡ head_bytes → x ++
 unfolding lay
 front_laid d s x e h = rw (e, h)
 
--- the three pieces one behind the other: x, y and z are what was copied
-pub pieces : (a : List ℕ) (i : ℕ) (c d x y z : List ℕ) (k m q : ℕ) → length a ≡ four_bytes → length c + frame_bytes ≤ length d
-    → x ≡ head_of a i (length_of c) → y ≡ c → z ≡ two q → q ≡ sum_of i c → k ≡ length c → m ≡ 2
-    → put_mid (head_bytes + length c) m (put_mid head_bytes k (x ++ drop head_bytes d) y) z ≡ lay 0 (packet a i c) d
+-- the three pieces one behind the other: x is the head as it was copied, y the room with the content, and z is the sum as it was copied
+pub pieces : (a : List ℕ) (i : ℕ) (c d x y z : List ℕ) (m t q : ℕ) → length a ≡ four_bytes → length c + frame_bytes ≤ length d
+    → x ≡ head_of a i (length_of c) → t ≡ total c % 65536 → y ≡ lay head_bytes c (x ++ drop head_bytes d) → q ≡ (total (i ∷ two (length_of c)) + t) % 65536
+    → z ≡ to_be_bytes w16 q → m ≡ 2
+    → put_mid (head_bytes + length c) m y z ≡ lay 0 (packet a i c) d
 unfolding two
-pieces a i c d x y z k m q e h f g s t j l =
+pieces a i c d x y z m t q e h f u g v s l =
     let first : x ++ drop head_bytes d ≡ lay 0 (head_of a i (length_of c)) d = front_laid d (head_of a i (length_of c)) x f (length_head a i (length_of c) e) in
-    put_mid-lay (head_bytes + length c) m (put_mid head_bytes k (x ++ drop head_bytes d) y) z (two q) s l
-    ∙ ap (lay (head_bytes + length c) (two q)) (put_mid-lay head_bytes k (x ++ drop head_bytes d) y c g j ∙ ap (lay head_bytes c) first)
-    ∙ rw t (packet_laid a i c d e h)
+    let sum : q ≡ sum_of i c = packet_sum i c t q u v in
+    let small : q % 65536 ≡ q = rw v (omega arith) in
+    put_mid-lay (head_bytes + length c) m y z (two q) (s ∙ rw small at (word_two q)) l
+    ∙ ap (lay (head_bytes + length c) (two q)) (g ∙ ap (lay head_bytes c) first)
+    ∙ rw sum (packet_laid a i c d e h)

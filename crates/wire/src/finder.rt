@@ -6,7 +6,6 @@ ghost use Rattle.protocol.specs.Finder.{start_of, all_but, find_of, used_of};
 ghost use Rattle.protocol.specs.Services.{used_service};
 ghost use Rattle.wire.specs.Limits.{limit_of};
 
-use crate::bytes;
 use protocol::identifiers::Identifier;
 use protocol::{Found, numbers};
 
@@ -45,7 +44,7 @@ pub fn limit_of(i: u8) -> Option<usize>
 pub fn is_head(i: u8, n: usize) -> bool
     ensures { result ≡ accepts i n }
 {
-    limit_of(i).is_some_and(|most| numbers::SHORTEST <= n && n <= most)
+    limit_of(i).is_some_and(|most| (numbers::SHORTEST..=most).contains(&n))
 }
 
 // Steps 1 to 4.
@@ -59,7 +58,7 @@ pub fn find(s: &[u8]) -> Found
     let [_, _, _, _, _, _, identifier, high, low, behind @ ..] = packet else {
         return Found::Unfinished { at };
     };
-    let len = bytes::word(*high, *low);
+    let len = usize::from(u16::from_be_bytes([*high, *low]));
     if !is_head(*identifier, len) {
         return Found::Unfit { at };
     }

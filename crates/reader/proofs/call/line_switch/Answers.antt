@@ -13,7 +13,7 @@ use Rattle.protocol.specs.Reader as reader
 use Rattle.protocol.specs.Table.{is_buffer}
 use Rattle.protocol.specs.Step as step
 use Rattle.protocol.specs.Call.{switch_of, switch_as, switch_refusal, refused, fit_buffers}
-use Rattle.protocol.specs.Records.{fit_mark, fit_marks, transfer_of, origin_of, reader_of, Switched, switched_of, switched_at}
+use Rattle.protocol.specs.Records.{fit_mark, fit_marks, transfer_of, origin_of, reader_of, switched_of, switched_at}
 use Rattle.rules.specs.Settings.{with_switch}
 use Rattle.reader.proofs.call.line_switch.Goals as goal
 

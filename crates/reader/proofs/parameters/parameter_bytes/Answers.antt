@@ -1,6 +1,4 @@
 -- The sixteen bytes are those of the definition, in its order.
-use mathlib.Core.Path.{◌≡◌, refl}
-use lib.ListN.{length}
 use borrow.Author.Rules.{rules}
 use Rattle.reader.proofs.Laws.{parameter_list}
 use Rattle.reader.proofs.parameters.parameter_bytes.Goals as goal

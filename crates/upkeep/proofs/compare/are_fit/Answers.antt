@@ -1,21 +1,23 @@
 -- One library after the other, then their capacities, then the report; the first that is not right answers.
+use borrow.Author.Rules.{rules}
+use Rattle.wire.proofs.Picks.{picks}
 use Rattle.protocol.specs.Call.{core}
 use Rattle.upkeep.specs.Compare.{fits_two}
-use Rattle.upkeep.proofs.Comparing.{first_unfit, second_unfit, unequal, report_last}
 use Rattle.upkeep.proofs.compare.are_fit.Goals as goal
+use Rattle.upkeep.proofs.compare.are_fit.Goals.{then-is_fit, else-is_fit, then-is_fit-2, else-is_fit-2}
 
-pub returns-then-not-one : goal.returns-then-not-one
+pub returns-then-pages-two : goal.returns-then-pages-two
 unfolding fits_two core
-returns-then-not-one c = search first_unfit
+returns-then-pages-two c =
+    elim c.if-is_fit-2.branch [
+      | then-is_fit-2 w ↦ elim c.if-is_fit.branch [ then-is_fit v ↦ search (picks, rules) | else-is_fit v ↦ search (picks, rules) ]
+      | else-is_fit-2 w ↦ search (picks, rules)
+    ]
 
-pub returns-then-not-two : goal.returns-then-not-two
+pub returns-else-pages-two : goal.returns-else-pages-two
 unfolding fits_two core
-returns-then-not-two c = search second_unfit
-
-pub returns-then-t1-t2 : goal.returns-then-t1-t2
-unfolding fits_two core
-returns-then-t1-t2 c = search unequal
-
-pub returns : goal.returns
-unfolding fits_two core
-returns c = search report_last
+returns-else-pages-two c =
+    elim c.if-is_fit-2.branch [
+      | then-is_fit-2 w ↦ elim c.if-is_fit.branch [ then-is_fit v ↦ search (picks, rules) | else-is_fit v ↦ search (picks, rules) ]
+      | else-is_fit-2 w ↦ elim c.if-is_fit.branch [ then-is_fit v ↦ search (picks, rules) | else-is_fit v ↦ search (picks, rules) ]
+    ]

@@ -1,10 +1,6 @@
 -- The front of the report has the codes so far, and one more with each turn.
-use Prim.Native.Nat.{◌-◌}
 use Rattle.upkeep.proofs.Comparing.{PagesListed}
 use Rattle.upkeep.proofs.compare.compare_pages.Given as goal
 
 abbrev pub invariant-loop-p : goal.invariant-loop-p
-invariant-loop-p l = PagesListed l.index1 l.templates1 l.index2 l.templates2 l.initial.report l.end l.report l.p
-
-abbrev pub decreases-loop-p : goal.decreases-loop-p
-decreases-loop-p l = l.end - l.p
+invariant-loop-p l = PagesListed l.one.index.now l.one.templates.now l.two.index.now l.two.templates.now l.initial.report l.end l.report l.p

@@ -1,18 +1,16 @@
 -- Each way out has its code.
-use Rattle.upkeep.proofs.Comparing.{second_alone, neither, first_alone, both_equal, both_different}
+use borrow.Author.Rules.{rules}
+use Rattle.offline.specs.Compare.{page_code}
+use Rattle.upkeep.proofs.Comparing.{both_there}
 use Rattle.upkeep.proofs.compare.page_code.Goals as goal
-
-pub returns-then-two : goal.returns-then-two
-returns-then-two c = search second_alone
-
-pub returns-then-not-one : goal.returns-then-not-one
-returns-then-not-one c = search neither
-
-pub returns-then-not-two : goal.returns-then-not-two
-returns-then-not-two c = search first_alone
-
-pub returns-then-equal : goal.returns-then-equal
-returns-then-equal c = search both_equal
+use Rattle.upkeep.proofs.compare.page_code.Goals.{in-true-true, in-true-false, in-false-true, in-false-false}
 
 pub returns : goal.returns
-returns c = search both_different
+unfolding page_code
+returns c =
+    elim c.if-has_bit.branch [
+      | in-true-true w ↦ search (both_there, w.in-true-true.ensures, w.in-true-true.ensures')
+      | in-true-false w ↦ search rules
+      | in-false-true w ↦ search rules
+      | in-false-false w ↦ search rules
+    ]

@@ -73,11 +73,11 @@ pub returns-in_default-packet : goal.returns-in_default-packet
 returns-in_default-packet c = no_head _ _ c.start.ensures _ c.in-Some.is c.in_default-packet.len_below
 
 pub returns-then-not-is_head : goal.returns-then-not-is_head
-returns-then-not-is_head c = unfit _ _ c.start.ensures _ c.in-Some.is _ _ c.in-len9-up.len_at_least c.is_head.ensures c.word-len.ensures.value c.if-not-is_head.true
+returns-then-not-is_head c = unfit _ _ c.start.ensures _ c.in-Some.is _ _ c.in-len9-up.len_at_least c.is_head.ensures (c.from-len.ensures ∙ c.from_be_bytes.ensures) c.if-not-is_head.true
 
 pub returns-then-behind-len : goal.returns-then-behind-len
 returns-then-behind-len c =
-    unfinished _ _ c.start.ensures _ c.in-Some.is _ _ c.in-len9-up.len_at_least c.is_head.ensures c.word-len.ensures.value c.if-not-is_head.false c.if-behind-len.true
+    unfinished _ _ c.start.ensures _ c.in-Some.is _ _ c.in-len9-up.len_at_least c.is_head.ensures (c.from-len.ensures ∙ c.from_be_bytes.ensures) c.if-not-is_head.false c.if-behind-len.true
 
 pub returns : goal.returns
-returns c = whole _ _ c.start.ensures _ c.in-Some.is _ _ c.in-len9-up.len_at_least c.is_head.ensures c.word-len.ensures.value c.if-not-is_head.false c.if-behind-len.false
+returns c = whole _ _ c.start.ensures _ c.in-Some.is _ _ c.in-len9-up.len_at_least c.is_head.ensures (c.from-len.ensures ∙ c.from_be_bytes.ensures) c.if-not-is_head.false c.if-behind-len.false

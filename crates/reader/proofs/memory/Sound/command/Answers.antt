@@ -1,9 +1,8 @@
 -- What the gate stops is answered by its code alone; what it lets pass, by the row.
-use mathlib.Core.Path.{◌≡◌, refl, sym, ◌∙◌}
-use mathlib.Core.Bool.{Bool, true}
+use mathlib.Core.Path.{◌≡◌, sym, ◌∙◌}
+use mathlib.Core.Bool.{Bool}
 use mathlib.Core.List.{List}
 use Prim.Native.Nat.{ℕ}
-use Rattle.std.specs.Prelude.{Err}
 use Rattle.protocol.specs.declared.codes.Code.{Code}
 use Rattle.protocol.specs.Bytes.{byte_at}
 use Rattle.protocol.specs.Codes.{code_number}
@@ -14,7 +13,6 @@ use Rattle.protocol.specs.Commands.{commands, row_of, order_of}
 use Rattle.protocol.specs.Step.{Said, says, obey, heed}
 use Rattle.rules.specs.Commands.{read_of, Admitted, gate_of}
 use Rattle.rules.proofs.Gates.{gate_stops, gate_goes, gate_passes}
-use Rattle.reader.specs.Answers.{answer_in}
 use Rattle.reader.specs.Memory.{reader_in, chip_at, said_of}
 use Rattle.reader.specs.declared.memory.Sound.{Sound}
 use Rattle.reader.specs.declared.answers.Answer.TheVariants.{Alone}

@@ -1,5 +1,5 @@
 -- No open transfer leaves all as it is; the buffer of an open one is emptied, and there is no transfer then.
-use mathlib.Core.Path.{◌≡◌, refl, ap, ◌∙◌}
+use mathlib.Core.Path.{refl, ap, ◌∙◌}
 use lib.Dec.{eqb}
 use Rattle.protocol.specs.Reader.{closed, Reader, reader}
 use Rattle.protocol.specs.Reader as readers

@@ -2,9 +2,8 @@
 use mathlib.Core.Path.{◌≡◌, sym, ap, ◌∙◌}
 use mathlib.Core.Bool.{Bool, true, false}
 use mathlib.Core.List.{List}
-use Prim.Native.Nat.{ℕ, ◌+◌, ◌-◌, ◌≤◌}
-use native.Mathlib.Omega.{arith}
-use lib.ListN.{length, take, drop, length-take, length-drop}
+use Prim.Native.Nat.{ℕ, ◌+◌, ◌-◌}
+use lib.ListN.{length, take, drop}
 use Rattle.protocol.specs.declared.Found.TheVariants.{Whole}
 use Rattle.protocol.specs.Numbers.{head_bytes}
 use Rattle.protocol.specs.Bytes.{same, lay}
@@ -12,7 +11,7 @@ use Rattle.protocol.specs.Packet.{address_at, identifier_at, right_at}
 use Rattle.protocol.specs.Reader.{Reader}
 use Rattle.protocol.specs.Search.{Chip}
 use Rattle.protocol.specs.Step.{hear_as, hear_at, answer, Said}
-use Rattle.protocol.specs.Call.{Ended, carried}
+use Rattle.protocol.specs.Call.{carried}
 use Rattle.reader.specs.Memory.{reader_in, chip_at, said_of}
 use Rattle.reader.specs.Calls.{carried_of}
 use Rattle.reader.proofs.Calls.{hear_ours, hear_other, carried_silence}

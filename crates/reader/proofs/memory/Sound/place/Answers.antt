@@ -1,7 +1,6 @@
 -- The bytes lie in the open transfer's buffer; the last closes it and sets the mark, and any other moves it on.
-use mathlib.Core.Path.{◌≡◌, refl, ap}
+use mathlib.Core.Path.{◌≡◌, refl}
 use mathlib.Core.Bool.{true}
-use Rattle.protocol.specs.Bytes.{lay}
 use Rattle.protocol.specs.Table.{is_buffer}
 use Rattle.protocol.specs.Step.{silence}
 use Rattle.reader.specs.declared.buffers.Buffer.{Buffer}

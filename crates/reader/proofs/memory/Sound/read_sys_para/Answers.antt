@@ -1,5 +1,5 @@
 -- The sixteen bytes are made of the settings, each number widened, and of the number of pages.
-use mathlib.Core.Path.{◌≡◌, refl}
+use mathlib.Core.Path.{refl}
 use Rattle.protocol.specs.Reader.{capacity}
 use Rattle.protocol.specs.Table.{parameters_of, free_rule, public_of}
 use Rattle.protocol.specs.Step.{carry_free}

@@ -1,25 +1,21 @@
 -- A number that is no parameter is 1Ah, a value out of its range 1Bh; otherwise the one parameter is set, and legal settings stay so.
-use mathlib.Core.Path.{◌≡◌, refl, sym, ap}
+use mathlib.Core.Path.{◌≡◌, refl, sym}
 use mathlib.Core.Bool.{true}
-use mathlib.Core.List.{List, []}
-use Prim.Native.Nat.{ℕ, ◌≤◌}
-use lib.Dec.{leb}
+use mathlib.Core.List.{List}
+use Prim.Native.Nat.{ℕ}
 use borrow.Author.Tests.{leb-true}
 use Rattle.protocol.specs.declared.Settings.{Settings}
 use Rattle.protocol.specs.declared.codes.Code.TheVariants.{BadParameter, BadValue}
-use Rattle.protocol.specs.Numbers.{highest_size, done}
+use Rattle.protocol.specs.Numbers.{highest_size}
 use Rattle.protocol.specs.Tests.{verdict}
-use Rattle.protocol.specs.Bytes.{follow}
-use Rattle.protocol.specs.Reader.{Reader, reader, with_tuning}
-use Rattle.protocol.specs.Data.{acknowledge}
+use Rattle.protocol.specs.Reader.{reader, with_tuning}
 use Rattle.protocol.specs.Table.{apply, rule, in_range, with_parameter}
-use Rattle.protocol.specs.Step.{carry, carry_as}
 use Rattle.protocol.specs.Records.{plain_of, reader_of}
 use Rattle.rules.specs.Settings.{Legal}
 use Rattle.reader.specs.declared.parameters.Parameter.{Parameter}
 use Rattle.reader.specs.declared.parameters.Parameter.TheVariants.{Baud, Level, Size}
 use Rattle.reader.specs.Parameters.{parameter_number, tuned}
-use Rattle.reader.proofs.Rows.{is_err, refused}
+use Rattle.reader.proofs.Rows.{is_err, refused, did_parts}
 use Rattle.reader.proofs.Settled.{tuned_legal}
 use Rattle.reader.proofs.memory.Sound.set_sys_para.Goals as goal
 
@@ -54,11 +50,10 @@ pub invariant_of-self : goal.invariant_of-self
 invariant_of-self c = let h = c.if-not-admits.ensures in search legal
 
 pub returns-clause-obeyed : goal.returns-clause-obeyed
-unfolding carry carry_as rule verdict follow apply
+unfolding rule verdict apply
 returns-clause-obeyed c =
     let f = c.in_ok-parameter.ensures in
-    let h = c.if-not-admits.ensures in
     let s = c.args.self.now in
-    rw (f.1, f.0, ← h, c.set-self.ensures)
-    (ap (λ (z : Reader). record { reply = acknowledge z.plain.address done []; after = z })
-    (reader_tuned c.in_ok-parameter.parameter c.args.value s.settings.now s.templates.now s.index.now s.notepad.now s.buffer1.now s.buffer2.now))
+    let e = reader_tuned c.in_ok-parameter.parameter c.args.value s.settings.now s.templates.now s.index.now s.notepad.now s.buffer1.now s.buffer2.now in
+    did_parts s _ s.templates.now s.index.now s.notepad.now s.buffer1.now s.buffer2.now _ _ (rw (f.1, f.0, ← c.if-not-admits.ensures) refl)
+    (rw (f.0, c.set-self.ensures) e)

@@ -1,7 +1,7 @@
 -- 4, 5 and 6 name a parameter, and no other number does.
 use mathlib.Core.Path.{◌≡◌, refl}
 use mathlib.Core.Bool.{false}
-use Prim.Native.Nat.{ℕ, ◌≤◌}
+use Prim.Native.Nat.{ℕ}
 use native.Mathlib.Omega.{arith}
 use Rattle.protocol.specs.Tests.{within}
 use Rattle.reader.proofs.Laws.{outside}
