@@ -3,7 +3,7 @@ use Rattle.std.proofs.Common.{◌≡◌, ℕ, zero, suc, ◌+◌, ◌-◌, ◌*�
 use lib.ListN.{length-replicate, replicate-append-replicate}
 use borrow.Rule.Slice.PartMut.{put_mid, Post-is}
 use Rattle.protocol.specs.Numbers.{page_bytes}
-use Rattle.protocol.specs.Bytes.{zeros, lay}
+use Rattle.protocol.specs.Bytes.{part, zeros, lay}
 use Rattle.protocol.proofs.Laws.Lists.{length_lay, lay_lay, lay_nothing, lay_whole}
 use Rattle.wire.specs.Laying.{lay_front}
 use Rattle.library.specs.Lent.{is_span, zero_page, zero_pages}
@@ -33,6 +33,15 @@ part_zeroed a n xs ys h f =
     let l : length (take (a + n - a) (drop a xs)) ≡ n = simp (length-take, length-drop) (omega arith) in
     let g : ys ≡ zeros n = f ∙ ap zeros l in
     rw g (part_laid a (a + n) xs (zeros n) (omega arith) (length-replicate n 0 ∙ omega arith))
+
+-- a part of n bytes put over a list as long
+pub part_read : (a n : ℕ) (xs d : List ℕ) → length d ≡ n → a + n ≤ length xs → lay_front (take (a + n - a) (drop a xs)) d ≡ part a n xs
+unfolding lay_front
+part_read a n xs d e h =
+    let k : a + n - a ≡ n = omega arith in
+    let l : length (take (a + n - a) (drop a xs)) ≡ length d = simp (length-take, length-drop) (omega arith) in
+    let m : length (take (a + n - a) (drop a xs)) ≤ length d = omega arith in
+    rw (le-leb _ _ m) (lay_whole _ d l ∙ ap (λ (m : ℕ). take m (drop a xs)) k)
 
 -- ---- pages zeroed one after the other
 

@@ -4,6 +4,7 @@ ghost use Rattle.std.specs.Prelude.{◌≡◌};
 ghost use Rattle.library.specs.Lent.{is_span, write_page, read_page, zero_page, zero_pages};
 
 use protocol::numbers::PAGE;
+use wire::bytes;
 
 /// Whether n pages from a page on are there, of so many. The sum of two 16-bit numbers is taken in full.
 pub fn is_span(page: u16, n: u16, pages: usize) -> bool
@@ -20,7 +21,7 @@ pub fn write_page(templates: &mut [u8], page: usize, src: &[u8])
 {
     if page < templates.len() / PAGE && src.len() == PAGE {
         let at = PAGE * page;
-        templates[at..at + PAGE].copy_from_slice(src);
+        bytes::put(&mut templates[at..at + PAGE], src);
     }
 }
 
@@ -30,7 +31,7 @@ pub fn read_page(dst: &mut [u8], templates: &[u8], page: usize)
 {
     if page < templates.len() / PAGE && dst.len() == PAGE {
         let at = PAGE * page;
-        dst.copy_from_slice(&templates[at..at + PAGE]);
+        bytes::put(dst, &templates[at..at + PAGE]);
     }
 }
 
