@@ -1,6 +1,6 @@
-// Bytes: summed, compared, copied, and zeroed.
+// Bytes: summed, compared, and copied.
 ghost use Rattle.std.specs.Prelude.{◌≡◌, ◌%◌, length};
-ghost use Rattle.protocol.specs.Bytes.{zeros, total, same};
+ghost use Rattle.protocol.specs.Bytes.{total, same};
 ghost use Rattle.wire.specs.Laying.{lay_front};
 
 // The sum of all bytes modulo 65536.
@@ -28,11 +28,4 @@ pub fn put(dst: &mut [u8], src: &[u8])
             dst[i] = byte;
         }
     }
-}
-
-// Zeroes a slice.
-pub fn zero(s: &mut [u8])
-    ensures { s.new ≡ zeros (length s.old) }
-{
-    s.fill(0);
 }
