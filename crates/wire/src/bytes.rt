@@ -1,5 +1,5 @@
 // Bytes: summed, compared, and copied.
-ghost use Rattle.std.specs.Prelude.{◌≡◌, ◌%◌, length};
+ghost use Rattle.std.specs.Prelude.{◌≡◌, ◌%◌};
 ghost use Rattle.protocol.specs.Bytes.{total, same};
 ghost use Rattle.wire.specs.Laying.{lay_front};
 
