@@ -1,5 +1,5 @@
 -- The index's bits by shift and mask, and the loops over bits and bytes.
-use Rattle.std.proofs.Common.{◌≡◌, ℕ, zero, suc, ◌+◌, ◌-◌, ◌*◌, ◌/◌, ◌%◌, ◌^◌, ◌<◌, ◌≤◌, Bool, true, false, not, ◌&&◌, T, eqb, List, length, get_or, drop, set, sym, refl, ap, ◌∙◌, ap₂, add-zero, add-suc, div-one, arith, lit<, drop_of_length-le, drop-cons, w8, w32, Fits, eq-eqb, ne_eqb, eqb-true}
+use Rattle.std.proofs.Common.{◌≡◌, ℕ, zero, suc, ◌+◌, ◌-◌, ◌*◌, ◌/◌, ◌%◌, ◌^◌, ◌<◌, ◌≤◌, Bool, true, false, not, ◌&&◌, T, eqb, List, length, get_or, drop, set, sym, refl, ap, ◌∙◌, ap₂, add-zero, add-suc, div-one, arith, lit<, drop_of_length-le, drop-cons, w8, Fits, eq-eqb, ne_eqb, eqb-true}
 use mathlib.Core.Bool.{beq}
 use lib.Bits.{bit_or, bit_and, or_add_and, and_le_l, and_le_r}
 use lib.Count.{ones, ones-le}
@@ -78,9 +78,6 @@ module _ (x : List ℕ) (n i : ℕ) (e : n + set_bits (drop i x) ≡ set_bits x)
 module _ (n i b : ℕ) (h : Fits w8 b) (m : n ≤ 8 * i) where
   pub ones_most : n + ones b ≤ 8 * (i + 1)
   ones_most = omega (arith, ones-le 8 b h.fits)
-
-  pub ones_fit : (l : ℕ) → i < l → l < 256 → Fits w32 (n + ones b)
-  ones_fit l k j = record { fits = omega (arith, ones_most) }
 
 -- ---- the bits from c on, byte by byte
 

@@ -10,7 +10,7 @@ ghost use Rattle.library.specs.Lent.{counted_of};
 use protocol::numbers::{INDEX, OLD_INDEX};
 use protocol::refusals::Refusal;
 
-// Whether a page that the index has a bit for is stored: the page's bit, shifted down and masked.
+/// Whether a page that the index has a bit for is stored.
 pub fn is_stored(index: &[u8], p: usize) -> bool
     requires { p / 8 < length index.now }
     ensures { result ≡ stored index.now p }
@@ -18,18 +18,19 @@ pub fn is_stored(index: &[u8], p: usize) -> bool
     index[p / 8] >> (p % 8) & 1 == 1
 }
 
-// Whether a page is stored.
+/// Whether a page is stored.
 pub fn has_bit(index: &[u8], p: usize) -> bool
     ensures { result ≡ stored index.now p }
 {
     p / 8 < index.len() && is_stored(index, p)
 }
 
-// The byte at a place, 0 where the index has none. Every byte is looked at, and counts once or not at all: so neither a branch nor an address goes by the place.
-// How far the place still is, is counted down in a byte of its own, which lets the compiler take sixteen bytes at a time.
+/// The byte at a place, 0 where the index has none.
 pub fn byte_of(index: &[u8], at: u8) -> u8
     ensures { result ≡ byte_at index.now at }
 {
+    // Every byte is looked at, and counts once or not at all: so neither a branch nor an address goes by the place. How far the place still is, is counted
+    // down in a byte of its own, which lets the compiler take sixteen bytes at a time; an iterator's place is wider, and a fold over it takes four times as long.
     let mut found = 0;
     let mut left = at;
     for byte in &index[..index.len().min(256)] {
@@ -55,7 +56,7 @@ pub fn clear_bit(index: &mut [u8], p: usize)
     }
 }
 
-// Clears n bits from p on.
+/// Clears n bits from p on.
 pub fn clear_bits(index: &mut [u8], p: u16, n: u16)
     ensures { index.new ≡ clear_bits index.old p n }
 {
@@ -65,10 +66,11 @@ pub fn clear_bits(index: &mut [u8], p: u16, n: u16)
     }
 }
 
-// Whether every bit from page c on is clear. It goes by bytes: the rest of c's byte, then every later byte, without an early exit.
+/// Whether every bit from page c on is clear.
 pub fn is_clear_from(index: &[u8], c: usize) -> bool
     ensures { result ≡ clear_from index.now c }
 {
+    // By bytes: the rest of c's byte, then every later byte, without an early exit.
     let at = c / 8;
     if index.len() <= at {
         return true;
@@ -93,7 +95,7 @@ fn count_bits(index: &[u8]) -> u32
     n
 }
 
-// The number of set bits in an index of so many bytes; none if it is not that long.
+/// The number of set bits in an index of so many bytes; none if it is not that long.
 pub fn count(index: &[u8], len: u8) -> Option<u16>
     ensures { result ≡ counted_of len index.now }
 {
@@ -104,7 +106,7 @@ pub fn count(index: &[u8], len: u8) -> Option<u16>
     }
 }
 
-// Brings an index that was stored before request [6] over to a lent one: its bytes, and zero bytes behind them.
+/// Brings an index that was stored before request [6] over to a lent one: its bytes, and zero bytes behind them.
 pub fn bring_over(old: &[u8], index: &mut [u8]) -> Result<(), Refusal>
     ensures { brought_of (refusal_of result) index.new ≡ bring_over old.now index.old }
 {

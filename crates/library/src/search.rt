@@ -6,7 +6,7 @@ ghost use Rattle.library.specs.Search.{best_in, Covered};
 use crate::index;
 use protocol::{Match, numbers};
 
-// The threshold of a level: the n-th is level n's; 0 where there is none. Level 0, which no reader has, gets the first.
+/// The threshold of a level: the n-th is level n's; 0 where there is none. Level 0, which no reader has, gets the first.
 pub fn threshold_of(thresholds: &[u16], level: u8) -> u16
     ensures { result ≡ threshold_of thresholds.now level }
 {
@@ -41,8 +41,8 @@ fn best_of(index: &[u8], scores: &[u16], threshold: u16, start: usize, end: usiz
     }
 }
 
-// The best of the pages from start to before start + count, cut at the last score; none where the scores are too many, or the index too short for them. The sum
-// of two 16-bit numbers is taken in full.
+/// The best of the pages from start to before start + count, cut at the last score; none where the scores are too many, or the index too short for them. The sum
+/// of two 16-bit numbers is taken in full.
 pub fn best(index: &[u8], scores: &[u16], threshold: u16, start: u16, count: u16) -> Option<Match>
     ensures { match_of result ≡ best_in index.now scores.now threshold start count }
 {

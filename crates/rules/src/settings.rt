@@ -1,4 +1,4 @@
-// The settings record: fresh, with one thing changed, locked, and legal.
+// The settings record: fresh, with one thing changed, locked, and legal. C lends it, so its marks, the transfer's buffer and the origins are numbers.
 ghost use Rattle.std.specs.Prelude.{◌≡◌, ◌==◌, true, cond, List, [], ℕ, ◌≤◌, eqb, if◌then◌else◌};
 ghost use Rattle.protocol.specs.Numbers.{highest_size};
 ghost use Rattle.protocol.specs.Reader.{locked};
@@ -9,7 +9,7 @@ ghost use Rattle.rules.specs.Settings.{with_mark, with_password, with_address, w
 use protocol::{Settings, numbers};
 use wire::bytes;
 
-// Fresh settings: password 0, address FFFFFFFFh, level 3, size code 2, baud factor 6, type 0, marks clear, no transfer, no origins, status bit 1 clear.
+/// Fresh settings: password 0, address FFFFFFFFh, level 3, size code 2, baud factor 6, type 0, marks clear, no transfer, no origins, status bit 1 clear.
 pub fn fresh() -> Settings
     ensures { (t i n b c : List ℕ) → reader_of result t i n b c ≡ fresh_of t i n b c }
 {
@@ -93,14 +93,14 @@ pub fn linked(s: Settings, one: u16, two: u16) -> Settings
     }
 }
 
-// Status bit 1 as this.
+/// Status bit 1 as this.
 pub fn remembered(s: Settings, found: u8) -> Settings
     ensures { result ≡ with_found found s }
 {
     Settings { found, ..s }
 }
 
-// Verified mark, filled marks and status bit 1 clear, no origins, no transfer.
+/// Verified mark, filled marks and status bit 1 clear, no origins, no transfer.
 pub fn switched(s: Settings) -> Settings
     ensures { result ≡ with_switch s }
 {
@@ -124,35 +124,35 @@ fn of_buffer<T: Copy>(n: u8, one: T, two: T) -> T
     if n == 2 { two } else { one }
 }
 
-// Whether the filled mark of a buffer is set.
+/// Whether the filled mark of a buffer is set.
 pub fn filled_of(n: u8, one: u8, two: u8) -> bool
     ensures { result ≡ cond (eqb n 2) (is_set two) (is_set one) }
 {
     of_buffer(n, one, two) == 1
 }
 
-// The origin of a buffer.
+/// The origin of a buffer.
 pub fn origin_of(n: u8, one: u16, two: u16) -> u16
     ensures { result ≡ cond (eqb n 2) two one }
 {
     of_buffer(n, one, two)
 }
 
-// Whether the password is not zero and the verified mark clear.
+/// Whether the password is not zero and the verified mark clear.
 pub fn is_locked(s: Settings) -> bool
     ensures { result ≡ locked (plain_of s) }
 {
     !bytes::is_same(s.password, [0; 4]) && s.verified != 1
 }
 
-// Status bit 1 as it shows: not while the reader is locked. No branch looks at it.
+/// Status bit 1 as it shows: not while the reader is locked. No branch looks at it.
 pub fn shows_found(s: Settings) -> bool
     ensures { result ≡ shown_of s }
 {
     !is_locked(s) & (s.found == 1)
 }
 
-// The data bytes of a size code; a code above the highest counts as the highest.
+/// The data bytes of a size code; a code above the highest counts as the highest.
 pub fn size_of(code: u8) -> usize
     ensures { SizeOf code result }
 {
@@ -195,7 +195,7 @@ fn is_transfer_fit(s: Settings) -> bool
     }
 }
 
-// Whether settings, marks and transfer are legal (refusal 3, but for the index and the origins).
+/// Whether settings, marks and transfer are legal (refusal 3, but for the index and the origins).
 pub fn is_legal(s: Settings) -> bool
     ensures { result ≡ legal_of s }
 {

@@ -5,7 +5,7 @@ ghost use Rattle.rules.specs.Transfer.{does_fit};
 use crate::settings;
 use protocol::{Settings, numbers};
 
-// Whether a data packet of n content bytes goes in.
+/// Whether a data packet of n content bytes goes in.
 pub fn does_fit(settings: Settings, right: bool, last: bool, n: usize) -> bool
     ensures { result ≡ does_fit settings right last n }
 {

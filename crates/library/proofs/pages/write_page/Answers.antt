@@ -2,12 +2,12 @@
 use Rattle.std.proofs.Common.{arith}
 use Rattle.std.proofs.lemmas.Grind.{common_steps}
 use Rattle.library.specs.Lent.{write_page}
-use Rattle.library.proofs.Parts.{part_laid}
+use Rattle.library.proofs.Parts.{part_put}
 use Rattle.library.proofs.pages.write_page.Goals as goal
 
 pub returns-then-src-eq-PAGE : goal.returns-then-src-eq-PAGE
 unfolding write_page
-returns-then-src-eq-PAGE c = grind (arith, common_steps, part_laid)
+returns-then-src-eq-PAGE c = grind (arith, common_steps, part_put)
 
 pub returns-else-page-templates : goal.returns-else-page-templates
 unfolding write_page
