@@ -12,6 +12,7 @@ ghost use Rattle.protocol.specs.Records.{reader_of, line_of, fresh_of, lent_of, 
 
 use library::index;
 use protocol::{Line, Settings, Taken, numbers, refusals};
+use reader::memory::{Chip, Reader};
 use rules::settings;
 use wire::{builder, bytes, finder};
 
@@ -81,15 +82,16 @@ pub extern "C" fn bystrodol_receive(
         (line_of line.old templates.old index.old notepad.old buffer1.old buffer2.old)
         piece.now (lent_of scores.now thresholds.now reply.old) }
 {
-    let received = receiver::receive(
-        *line, templates, index, notepad, buffer1, buffer2, scores, thresholds, piece, reply,
-    );
-    *line = received.line;
-    Taken {
-        refusal: received.refusal,
-        taken: received.taken,
-        length: received.length,
-    }
+    let reader = Reader {
+        settings: &mut line.settings,
+        templates,
+        index,
+        notepad,
+        buffer1,
+        buffer2,
+    };
+    let chip = Chip { scores, thresholds };
+    receiver::receive(numbers::NOTEPAD, &mut line.receiver, reader, chip, piece, reply).into()
 }
 
 // A line switch on a lent line, which empties its receiver.
@@ -103,9 +105,7 @@ pub extern "C" fn bystrodol_receiver_switch(
         → emptied_of (emptied_at line.new result) t i n buffer1.new buffer2.new
         ≡ line_switch_of (line_of line.old t i n buffer1.old buffer2.old) }
 {
-    let emptied = receiver::line_switch(*line, buffer1, buffer2);
-    *line = emptied.line;
-    emptied.refusal
+    refusals::refusal_of(&receiver::line_switch(line, buffer1, buffer2))
 }
 
 // Fresh settings.

@@ -8,7 +8,7 @@ use Rattle.std.proofs.Common.{Option, None}
 use native.Mathlib.Omega.{arith}
 use native.Mathlib.Decide.{ℕ_discrete}
 use lib.ListN.{length, take, get_or, set, length-set, length-append}
-use lib.Seq.{get_or-set_same, get_or-set_other, take_all, length-take-le}
+use lib.Seq.{get_or-set_same, get_or-set_other, take_all}
 use borrow.Author.Tests.{eq-eqb, ne_eqb}
 use Rattle.std.specs.Bool.{then_some}
 use Rattle.std.specs.Option.{unwrap_or}
@@ -19,7 +19,7 @@ use Rattle.protocol.proofs.Laws.Lists.{part_left, part_right}
 use Rattle.offline.specs.Compare.{Library, library, pages_in, page_code, page_says, clear_beyond}
 use Rattle.offline.specs.Print.{lines_of, printed_as, printed_of}
 use Rattle.offline.proofs.Compare.Prints.{file_of, TwoFiles, holds, unreadable_first, printed_by_bits, same_lines}
-use Rattle.compare.specs.Print.{code_lines, text_of, Front}
+use Rattle.compare.specs.Print.{code_lines, text_of}
 use Rattle.compare.specs.Reading.{PagesRead, PrintedOfTwo}
 
 -- ---- page by page
@@ -96,13 +96,13 @@ module _ (x n y m v : List ℕ) (c : ℕ) (h : PagesRead x y c v) (i : length x 
       said : (p : ℕ) → p < c → get_or v p 0 ≡ page_says a b p
       said p d = h.codes p d
 
-  pub printed : (r : ℕ) (w : List ℕ) → Front (text_of x n y m c v) r w → PrintedOfTwo r w
+  pub printed : (w : List ℕ) → w ≡ text_of x n y m c v → PrintedOfTwo (length w) w
   unfolding text_of
-  printed r w f = go (ℕ_discrete c 0)
+  printed w f = go (ℕ_discrete c 0)
     where
-      go : Dec (c ≡ 0) → PrintedOfTwo r w
-      go (yes z) = record { within = f.within; first = []; second = []; printed = f.text ∙ rw (eq-eqb c 0 z) (sym (unreadable_first [])) }
-      go (no z) = record { within = f.within; first = file_of a; second = file_of b; printed = f.text ∙ text_held z }
+      all : take (length w) w ≡ w
+      all = take_all (length w) w (omega arith)
 
-pub front_of : (r : ℕ) (w : List ℕ) → PrintedOfTwo r w → r ≡ length (take r w)
-front_of r w h = sym (length-take-le r w h.within)
+      go : Dec (c ≡ 0) → PrintedOfTwo (length w) w
+      go (yes z) = record { within = omega arith; first = []; second = []; printed = all ∙ f ∙ rw (eq-eqb c 0 z) (sym (unreadable_first [])) }
+      go (no z) = record { within = omega arith; first = file_of a; second = file_of b; printed = all ∙ f ∙ text_held z }

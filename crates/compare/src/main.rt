@@ -93,10 +93,9 @@ fn read<F: Read>(
     read_pages(one, two, index1, index2, codes)
 }
 
-// The text for two open files, and its length.
-fn tell<F: Read>(one: &mut Option<F>, two: &mut Option<F>, text: &mut [u8]) -> usize
-    requires { length text.old ≡ 7112 }
-    ensures { PrintedOfTwo result text.new }
+// The text for two open files.
+fn tell<F: Read>(one: &mut Option<F>, two: &mut Option<F>) -> print::Text
+    ensures { PrintedOfTwo (length result.items) result.items }
 {
     let mut index1 = [0u8; numbers::INDEX];
     let mut index2 = [0u8; numbers::INDEX];
@@ -112,7 +111,7 @@ fn tell<F: Read>(one: &mut Option<F>, two: &mut Option<F>, text: &mut [u8]) -> u
         &mut notepad2,
         &mut codes,
     );
-    print::text(&index1, &notepad1, &index2, &notepad2, pages, &codes, text)
+    print::text(&index1, &notepad1, &index2, &notepad2, pages, &codes)
 }
 
 // Opens the file that an argument names; none where there is no such argument, or the file cannot be opened. Only a name that is
@@ -130,9 +129,8 @@ fn open<R: Env + Files + Eprint>(rt: &R, argument: usize) -> Option<R::File> {
 fn main(rt: HostRuntime) {
     let mut one = open(&rt, 1);
     let mut two = open(&rt, 2);
-    let mut text = [0u8; print::TEXT];
-    let n = tell(&mut one, &mut two, &mut text);
-    if let Err(e) = rt.write_all(&text[..n]) {
+    let text = tell(&mut one, &mut two);
+    if let Err(e) = rt.write_all(&text) {
         let _ = eprintln!(rt; "write: {e}");
     }
 }

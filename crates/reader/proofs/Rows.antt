@@ -24,7 +24,7 @@ use Rattle.reader.specs.Answers.{answer_in}
 use Rattle.reader.specs.Memory.{reader_in, said_of}
 
 -- what `?` hands on
-pub is_err : {A : Type 0} (r : Result A Code) (k : Code) → IsErrAnd r (λ e. e ≡ k) → r ≡ Err k
+pub is_err : {A E : Type 0} (r : Result A E) (k : E) → IsErrAnd r (λ e. e ≡ k) → r ≡ Err k
 is_err (Ok a) k q = elim q [ ]
 is_err (Err e) k q = rw q refl
 

@@ -1,7 +1,6 @@
 // Salvage (request [10]): bits at or above C are cleared, vacant pages are zeroed, and a report says of each what was done.
 ghost use Rattle.std.specs.Prelude.{◌≡◌, ◌*◌, ◌/◌, ◌<◌, length};
 ghost use Rattle.protocol.specs.Numbers.{page_bytes};
-ghost use Rattle.protocol.specs.Bytes.{zeros, same};
 ghost use Rattle.protocol.specs.Codes.{refusal_of};
 ghost use Rattle.protocol.specs.Call.{core};
 ghost use Rattle.offline.specs.Salvage.{is_blank, salvage_of};
@@ -12,7 +11,6 @@ use crate::lent;
 use library::{index, pages};
 use protocol::numbers;
 use protocol::refusals::Refusal;
-use wire::bytes;
 
 // The entries of a report: one for each bit of the index.
 const ENTRIES: usize = 8 * numbers::INDEX;
@@ -72,7 +70,7 @@ fn salvage_pages(templates: &mut [u8], index: &[u8], report: &mut [u8])
     ensures { PagesSalvaged templates.old index.now
         templates.new report.new }
 {
-    bytes::zero(report);
+    report.fill(0);
     let end = templates.len() / numbers::PAGE;
     let mut p = 0;
     while p < end {

@@ -1,30 +1,7 @@
-// Bytes: made of truths, widened, joined to a number, summed, compared, copied, and zeroed.
-ghost use Rattle.std.specs.Prelude.{◌≡◌, ◌+◌, ◌*◌, ◌%◌, ◌<◌, length, if◌then◌else◌};
-ghost use Rattle.protocol.specs.Bytes.{zeros, total, same};
+// Bytes: summed, compared, and copied.
+ghost use Rattle.std.specs.Prelude.{◌≡◌, ◌%◌};
+ghost use Rattle.protocol.specs.Bytes.{total, same};
 ghost use Rattle.wire.specs.Laying.{lay_front};
-
-// A byte as a number.
-pub fn wide(x: u8) -> usize
-    ensures value { result ≡ x }
-    ensures small { result < 256 }
-{
-    usize::from(x)
-}
-
-// The number of two bytes.
-pub fn word(high: u8, low: u8) -> usize
-    ensures value { result ≡ high * 256 + low }
-    ensures small { result < 65536 }
-{
-    usize::from(u16::from_be_bytes([high, low]))
-}
-
-// A truth as a number, 1 or 0.
-pub fn flag(on: bool) -> u8
-    ensures { result ≡ (if on then 1 else 0) }
-{
-    u8::from(on)
-}
 
 // The sum of all bytes modulo 65536.
 pub fn sum(s: &[u8]) -> u16
@@ -51,11 +28,4 @@ pub fn put(dst: &mut [u8], src: &[u8])
             dst[i] = byte;
         }
     }
-}
-
-// Zeroes a slice.
-pub fn zero(s: &mut [u8])
-    ensures { s.new ≡ zeros (length s.old) }
-{
-    s.fill(0);
 }
