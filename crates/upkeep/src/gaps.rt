@@ -1,5 +1,5 @@
 // Closing the gaps (request [9]): the stored pages go down to pages 0, 1, 2 and up, in their order, and the rest is zeroed.
-ghost use Rattle.std.specs.Prelude.{◌≡◌, List, ℕ, ◌*◌, ◌/◌, ◌≤◌, ◌<◌, length};
+ghost use Rattle.std.specs.Prelude.{◌≡◌, List, ℕ, ◌*◌, ◌/◌, ◌<◌, length};
 ghost use Rattle.protocol.specs.Numbers.{page_bytes};
 ghost use Rattle.protocol.specs.Call.{core};
 ghost use Rattle.protocol.specs.Codes.{refusal_of};

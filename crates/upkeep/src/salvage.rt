@@ -1,7 +1,6 @@
 // Salvage (request [10]): bits at or above C are cleared, vacant pages are zeroed, and a report says of each what was done.
 ghost use Rattle.std.specs.Prelude.{◌≡◌, ◌*◌, ◌/◌, ◌<◌, length};
 ghost use Rattle.protocol.specs.Numbers.{page_bytes};
-ghost use Rattle.protocol.specs.Bytes.{zeros, same};
 ghost use Rattle.protocol.specs.Codes.{refusal_of};
 ghost use Rattle.protocol.specs.Call.{core};
 ghost use Rattle.offline.specs.Salvage.{is_blank, salvage_of};
