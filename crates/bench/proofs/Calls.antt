@@ -8,7 +8,7 @@ use Rattle.std.specs.List.{concat}
 use Rattle.std.specs.Io.KnownBytes.{Appends}
 use Rattle.protocol.specs.declared.Settings.{Settings}
 use Rattle.protocol.specs.declared.Receiver.{Receiver}
-use Rattle.protocol.specs.declared.Received.{Received}
+use Rattle.protocol.specs.Records.{Received}
 use Rattle.protocol.specs.Numbers.{reply_room, four_bytes, holds, longest}
 use Rattle.protocol.specs.Bytes.{Bytes}
 use Rattle.protocol.specs.Finder.{find_of, used_of}

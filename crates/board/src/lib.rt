@@ -11,7 +11,8 @@ ghost use Rattle.protocol.specs.Receiver.{receive_of, line_switch_of};
 ghost use Rattle.protocol.specs.Records.{reader_of, line_of, fresh_of, lent_of, received_of, emptied_of, received_at, emptied_at, brought_of};
 
 use library::index;
-use protocol::{Line, Settings, Taken, numbers};
+use protocol::{Line, Settings, Taken, numbers, refusals};
+use reader::memory::{Chip, Reader};
 use rules::settings;
 use wire::{builder, bytes, finder};
 
@@ -39,17 +40,10 @@ pub extern "C" fn bystrodol_build(
     content: &[u8],
     room: &mut [u8],
 ) -> usize
-    ensures { let m = build_service address identifier content.now room.old in
-        (result ≡ m.length) × (room.new ≡ m.room) }
+    ensures length { result ≡ (build_service address identifier content.now room.old).length }
+    ensures room { room.new ≡ (build_service address identifier content.now room.old).room }
 {
-    let four = [
-        (address / 16777216 % 256) as u8,
-        (address / 65536 % 256) as u8,
-        (address / 256 % 256) as u8,
-        (address % 256) as u8,
-    ];
-    let made = builder::build(four, identifier, content, room);
-    made.length
+    builder::build(address.to_be_bytes(), identifier, content, room).unwrap_or(0)
 }
 
 // The number of set bits in an index, FFFFh if it is not 128 bytes long.
@@ -57,7 +51,7 @@ pub extern "C" fn bystrodol_build(
 pub extern "C" fn bystrodol_count(index: &[u8]) -> u16
     ensures { result ≡ count_service index.now }
 {
-    index::count(index, numbers::INDEX as u8)
+    index::count(index, numbers::INDEX as u8).unwrap_or(numbers::NO_COUNT)
 }
 
 // Brings an index that was stored before request [6] over to a lent one: the refusal or 0.
@@ -65,7 +59,7 @@ pub extern "C" fn bystrodol_count(index: &[u8]) -> u16
 pub extern "C" fn bystrodol_bring_over(old: &[u8], index: &mut [u8]) -> u8
     ensures { brought_of result index.new ≡ bring_over old.now index.old }
 {
-    index::bring_over(old, index)
+    refusals::refusal_of(&index::bring_over(old, index))
 }
 
 // A call of the receiver on a lent line.
@@ -88,15 +82,16 @@ pub extern "C" fn bystrodol_receive(
         (line_of line.old templates.old index.old notepad.old buffer1.old buffer2.old)
         piece.now (lent_of scores.now thresholds.now reply.old) }
 {
-    let received = receiver::receive(
-        *line, templates, index, notepad, buffer1, buffer2, scores, thresholds, piece, reply,
-    );
-    *line = received.line;
-    Taken {
-        refusal: received.refusal,
-        taken: received.taken,
-        length: received.length,
-    }
+    let reader = Reader {
+        settings: &mut line.settings,
+        templates,
+        index,
+        notepad,
+        buffer1,
+        buffer2,
+    };
+    let chip = Chip { scores, thresholds };
+    receiver::receive(numbers::NOTEPAD, &mut line.receiver, reader, chip, piece, reply).into()
 }
 
 // A line switch on a lent line, which empties its receiver.
@@ -110,9 +105,7 @@ pub extern "C" fn bystrodol_receiver_switch(
         → emptied_of (emptied_at line.new result) t i n buffer1.new buffer2.new
         ≡ line_switch_of (line_of line.old t i n buffer1.old buffer2.old) }
 {
-    let emptied = receiver::line_switch(*line, buffer1, buffer2);
-    *line = emptied.line;
-    emptied.refusal
+    refusals::refusal_of(&receiver::line_switch(line, buffer1, buffer2))
 }
 
 // Fresh settings.

@@ -1,5 +1,5 @@
 -- The index's bits by shift and mask, and the loops over bits and bytes.
-use Rattle.std.proofs.Common.{◌≡◌, ℕ, zero, suc, ◌+◌, ◌-◌, ◌*◌, ◌/◌, ◌%◌, ◌^◌, ◌<◌, ◌≤◌, Bool, true, false, not, ◌&&◌, T, eqb, List, length, get_or, drop, set, sym, refl, ap, ◌∙◌, ap₂, not-suc-le-zero, add-zero, add-suc, div-one, arith, lit<, drop_of_length-le, drop-cons, w8, w32, Fits, eq-eqb, ne_eqb, eqb-true}
+use Rattle.std.proofs.Common.{◌≡◌, ℕ, zero, suc, ◌+◌, ◌-◌, ◌*◌, ◌/◌, ◌%◌, ◌^◌, ◌<◌, ◌≤◌, Bool, true, false, not, ◌&&◌, T, eqb, List, length, get_or, drop, set, sym, refl, ap, ◌∙◌, ap₂, add-zero, add-suc, div-one, arith, lit<, drop_of_length-le, drop-cons, w8, Fits, eq-eqb, ne_eqb, eqb-true}
 use mathlib.Core.Bool.{beq}
 use lib.Bits.{bit_or, bit_and, or_add_and, and_le_l, and_le_r}
 use lib.Count.{ones, ones-le}
@@ -45,22 +45,18 @@ module _ (x : List ℕ) (p : ℕ) (h : length x ≤ p / 8) where
 
 -- ---- n bits cleared, one by one
 
--- z is what is to come of x
-module _ (z x : List ℕ) (p n : ℕ) (e : z ≡ clear_bits x p n) where
-  pub clear_more : (y : List ℕ) → 0 < n → y ≡ clear_bit x p → z ≡ clear_bits y (p + 1) (n - 1)
+-- z is what is to come of x, by the pages from p to before e
+module _ (z x : List ℕ) (p e : ℕ) (f : z ≡ clear_bits x p (e - p)) where
+  pub clear_more : (y : List ℕ) → p < e → y ≡ clear_bit x p → z ≡ clear_bits y (p + 1) (e - (p + 1))
   unfolding clear_bits
-  clear_more y h f = e ∙ go n h ∙ ap (λ (w : List ℕ). clear_bits w (p + 1) (n - 1)) (sym f)
-    where
-      go : (m : ℕ) → 0 < m → clear_bits x p m ≡ clear_bits (clear_bit x p) (p + 1) (m - 1)
-      go zero h = absurd (not-suc-le-zero h)
-      go (suc m) h =
-          let a : suc p ≡ p + 1 = omega arith in
-          let b : suc m - 1 ≡ m = omega arith in
-          rw (b, ← a)
+  clear_more y h g =
+      let a : e - p ≡ suc (e - (p + 1)) = omega arith in
+      let b : p + 1 ≡ suc p = omega arith in
+      rw (b, g) (rw (a, b) at f)
 
-  pub clear_none : n ≤ 0 → x ≡ z
+  pub clear_none : e ≤ p → x ≡ z
   unfolding clear_bits
-  clear_none h = let none : n ≡ 0 = omega arith in sym (rw none at e)
+  clear_none h = let none : e - p ≡ 0 = omega arith in sym (rw none at f)
 
 -- ---- the set bits, byte by byte
 
@@ -82,9 +78,6 @@ module _ (x : List ℕ) (n i : ℕ) (e : n + set_bits (drop i x) ≡ set_bits x)
 module _ (n i b : ℕ) (h : Fits w8 b) (m : n ≤ 8 * i) where
   pub ones_most : n + ones b ≤ 8 * (i + 1)
   ones_most = omega (arith, ones-le 8 b h.fits)
-
-  pub ones_fit : (l : ℕ) → i < l → l < 256 → Fits w32 (n + ones b)
-  ones_fit l k j = record { fits = omega (arith, ones_most) }
 
 -- ---- the bits from c on, byte by byte
 

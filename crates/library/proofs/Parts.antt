@@ -1,5 +1,5 @@
 -- A part that was lent and came back, as one list laid over another; and pages laid one after the other.
-use Rattle.std.proofs.Common.{◌≡◌, ℕ, zero, suc, ◌+◌, ◌-◌, ◌*◌, ◌/◌, ◌<◌, ◌≤◌, true, ltb, leb, List, length, take, drop, sym, ap, ◌∙◌, not-suc-le-zero, arith, leb→le, length-drop, length-take, lt-ltb, le-leb}
+use Rattle.std.proofs.Common.{◌≡◌, ℕ, zero, suc, ◌+◌, ◌-◌, ◌*◌, ◌/◌, ◌<◌, ◌≤◌, true, ltb, leb, List, length, take, drop, sym, ap, ◌∙◌, arith, leb→le, length-drop, length-take, lt-ltb, le-leb}
 use lib.ListN.{length-replicate, replicate-append-replicate}
 use borrow.Rule.Slice.PartMut.{put_mid, Post-is}
 use Rattle.protocol.specs.Numbers.{page_bytes}
@@ -45,22 +45,18 @@ part_read a n xs d e h =
 
 -- ---- pages zeroed one after the other
 
--- z is what is to come of the templates t
-module _ (z t : List ℕ) (p n : ℕ) (e : z ≡ zero_pages p n t) where
-  pub zero_more : (u : List ℕ) → 0 < n → u ≡ zero_page p t → z ≡ zero_pages (p + 1) (n - 1) u
+-- z is what is to come of the templates t, by the pages from p to before e
+module _ (z t : List ℕ) (p e : ℕ) (f : z ≡ zero_pages p (e - p) t) where
+  pub zero_more : (u : List ℕ) → p < e → u ≡ zero_page p t → z ≡ zero_pages (p + 1) (e - (p + 1)) u
   unfolding zero_pages
-  zero_more u h f = e ∙ go n h ∙ ap (zero_pages (p + 1) (n - 1)) (sym f)
-    where
-      go : (m : ℕ) → 0 < m → zero_pages p m t ≡ zero_pages (p + 1) (m - 1) (zero_page p t)
-      go zero h = absurd (not-suc-le-zero h)
-      go (suc m) h =
-          let a : suc p ≡ p + 1 = omega arith in
-          let b : suc m - 1 ≡ m = omega arith in
-          rw (b, ← a)
+  zero_more u h g =
+      let a : e - p ≡ suc (e - (p + 1)) = omega arith in
+      let b : p + 1 ≡ suc p = omega arith in
+      rw (b, g) (rw (a, b) at f)
 
-  pub zero_none : n ≤ 0 → t ≡ z
+  pub zero_none : e ≤ p → t ≡ z
   unfolding zero_pages
-  zero_none h = let none : n ≡ 0 = omega arith in sym (rw none at e)
+  zero_none h = let none : e - p ≡ 0 = omega arith in sym (rw none at f)
 
 pub span_within : (p n c : ℕ) → is_span p n c ≡ true → p + n ≤ c
 unfolding is_span

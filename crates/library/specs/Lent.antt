@@ -1,12 +1,12 @@
 -- What the library's functions do to any lent memory: as document 01 says where it fits, and otherwise nothing.
-use Rattle.std.specs.Prelude.{ℕ, zero, suc, ◌+◌, ◌*◌, ◌/◌, Bool, cond, ◌&&◌, List, length, ◌==◌, nat_le, nat_lt}
-use Rattle.protocol.specs.Numbers.{page_bytes, no_count}
+use Rattle.std.specs.Prelude.{ℕ, zero, suc, ◌+◌, ◌*◌, ◌/◌, Bool, cond, ◌&&◌, List, length, Option, Some, None, ◌==◌, nat_le, nat_lt}
+use Rattle.protocol.specs.Numbers.{page_bytes}
 use Rattle.protocol.specs.Bytes.{part, zeros, lay}
 use Rattle.protocol.specs.Index.{set_bits}
 
--- the set bits of an index of n bytes
-unfoldable pub count_of : ℕ → List ℕ → ℕ
-count_of n x = cond (length x == n) (set_bits x) no_count
+-- the set bits of an index of n bytes; none of one of another length
+unfoldable pub counted_of : ℕ → List ℕ → Option ℕ
+counted_of n x = cond (length x == n) (Some (set_bits x)) None
 
 -- n pages from p on are there, of c
 unfoldable pub is_span : ℕ → ℕ → ℕ → Bool

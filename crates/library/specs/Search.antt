@@ -1,13 +1,8 @@
 -- What the search finds in any lent index and scores.
-use Rattle.std.specs.Prelude.{ℕ, ◌-◌, ◌≤◌, false, cond, ◌&&◌, List, length, nat_le, nat_lt}
-use Rattle.protocol.specs.declared.Match.{Match}
+use Rattle.std.specs.Prelude.{ℕ, ◌≤◌, cond, ◌&&◌, List, length, nat_le}
 use Rattle.protocol.specs.Numbers.{most_pages}
 use Rattle.protocol.specs.Index.{bits}
-use Rattle.protocol.specs.Search.{score_at, hit, nobody, eligible, best_of, pages_from}
-
--- a page, with one less than the least score that is better; found where that least is above the threshold
-unfoldable pub match_of : ℕ → ℕ → ℕ → Match
-match_of threshold least page = cond (nat_lt threshold least) (hit page (least - 1)) record { found = false; page = page; score = 0 }
+use Rattle.protocol.specs.Search.{Match, score_at, nobody, eligible, best_of, pages_from}
 
 -- the best of the pages from p to before p + n, cut at the last score; none where there are more scores than a library has pages, or the index has bits for fewer
 unfoldable pub best_in : List ℕ → List ℕ → ℕ → ℕ → ℕ → Match

@@ -1,15 +1,13 @@
 -- From the code's records and lent memory to the reader and the outcomes of the definitions. Different records give different readers.
-use Rattle.std.specs.Prelude.{Bool, false, ◌&&◌, cond, List, [], ℕ, eqb, ltb}
+use Rattle.std.specs.Prelude.{Bool, false, ◌&&◌, cond, List, [], ℕ, eqb, ltb, Result, Ok, Err}
 use Rattle.protocol.specs.declared.Settings.{Settings}
-use Rattle.protocol.specs.declared.Called.{Called}
 use Rattle.protocol.specs.declared.Answered.{Answered}
-use Rattle.protocol.specs.declared.Switched.{Switched}
-use Rattle.protocol.specs.declared.Built.{Built}
+use Rattle.protocol.specs.declared.Lengths.{Lengths}
+use Rattle.protocol.specs.declared.refusals.Refusal.{Refusal}
 use Rattle.protocol.specs.declared.Line.{Line}
-use Rattle.protocol.specs.declared.Received.{Received}
 use Rattle.protocol.specs.declared.Taken.{Taken}
-use Rattle.protocol.specs.declared.Emptied.{Emptied}
 use Rattle.protocol.specs.Numbers.{no_page}
+use Rattle.protocol.specs.Codes.{refusal_number}
 use Rattle.protocol.specs.Packet.{Made}
 use Rattle.protocol.specs.BringOver.{Brought}
 use Rattle.protocol.specs.Reader.{Marks, Transfer, closed, opened, unfit, Plain, Origin, no_origin, from_page, Buffer, Reader, settings, fresh, contents, reader}
@@ -71,7 +69,14 @@ chip_of scores thresholds = record { scores = scores; thresholds = thresholds }
 abbrev pub lent_of : List ℕ → List ℕ → List ℕ → Lent
 lent_of scores thresholds room = record { chip = chip_of scores thresholds; room = room }
 
--- what a call returned, and the lent memory and the reply room after it
+-- a call: the settings after it, the refusal or 0, the bytes used, and the reply's length
+pub record Called : Type 0 where
+  pub settings : Settings
+  pub refusal : ℕ
+  pub used : ℕ
+  pub length : ℕ
+
+-- and the lent memory and the reply room after it
 abbrev pub ended_of : Called → List ℕ → List ℕ → List ℕ → List ℕ → List ℕ → List ℕ → Ended
 ended_of c t i n b d room =
     record {
@@ -79,12 +84,24 @@ ended_of c t i n b d room =
       after = reader_of c.settings t i n b d;
     }
 
--- what a line switch returned, and the lent memory after it; no reply room is lent
+-- a line switch: the settings after it, and the refusal or 0
+pub record Switched : Type 0 where
+  pub settings : Settings
+  pub refusal : ℕ
+
+-- and the lent memory after it; no reply room is lent
 abbrev pub switched_of : Switched → List ℕ → List ℕ → List ℕ → List ℕ → List ℕ → Ended
 switched_of s t i n b d =
     record { told = record { refusal = s.refusal; used = 0; length = 0; room = [] }; after = reader_of s.settings t i n b d }
 
--- what a receiver's call returned, and the lent memory and the reply room after it
+-- a receiver's call: the line after it, the refusal or 0, the bytes taken of the piece, and the reply's length
+pub record Received : Type 0 where
+  pub line : Line
+  pub refusal : ℕ
+  pub taken : ℕ
+  pub length : ℕ
+
+-- and the lent memory and the reply room after it
 abbrev pub received_of : Received → List ℕ → List ℕ → List ℕ → List ℕ → List ℕ → List ℕ → Handed
 received_of c t i n b d room =
     record {
@@ -92,7 +109,12 @@ received_of c t i n b d room =
       after = line_of c.line t i n b d;
     }
 
--- what a receiver's line switch returned, and the lent memory after it
+-- a receiver's line switch: the line after it, and the refusal or 0
+pub record Emptied : Type 0 where
+  pub line : Line
+  pub refusal : ℕ
+
+-- and the lent memory after it
 abbrev pub emptied_of : Emptied → List ℕ → List ℕ → List ℕ → List ℕ → List ℕ → Handed
 emptied_of s t i n b d =
     record {
@@ -100,7 +122,15 @@ emptied_of s t i n b d =
       after = line_of s.line t i n b d;
     }
 
--- ---- lent records: what lies where it was lent and what was returned beside it are together what the call by value returns
+-- ---- lent records: what lies where it was lent, and what was returned beside it, or handed to a caller in C
+
+abbrev pub answered_of : Result Lengths Refusal → Answered
+answered_of (Ok n) = record { refusal = 0; used = n.used; length = n.reply }
+answered_of (Err e) = record { refusal = refusal_number e; used = 0; length = 0 }
+
+abbrev pub taken_of : Result Lengths Refusal → Taken
+taken_of (Ok n) = record { refusal = 0; taken = n.used; length = n.reply }
+taken_of (Err e) = record { refusal = refusal_number e; taken = 0; length = 0 }
 
 abbrev pub called_at : Settings → Answered → Called
 called_at s a = record { settings = s; refusal = a.refusal; used = a.used; length = a.length }
@@ -119,6 +149,15 @@ emptied_at x refusal = record { line = x; refusal = refusal }
 -- fresh settings have their filled marks and status bit 1 clear too, and no origins
 abbrev pub fresh_of : List ℕ → List ℕ → List ℕ → List ℕ → List ℕ → Reader
 fresh_of t i n b d = reader fresh (contents t i n (buffer b false no_page) (buffer d false no_page) false)
+
+-- what the builder returns: the refusal or 0, and the packet's length
+pub record Built : Type 0 where
+  pub refusal : ℕ
+  pub length : ℕ
+
+abbrev pub built_of : Result ℕ Refusal → Built
+built_of (Ok n) = record { refusal = 0; length = n }
+built_of (Err e) = record { refusal = refusal_number e; length = 0 }
 
 abbrev pub made_of : Built → List ℕ → Made
 made_of b room = record { refusal = b.refusal; length = b.length; room = room }

@@ -1,7 +1,7 @@
 -- Request [8], Search: "Among stored pages from start to before start + count, cut at C, with a score at or above the threshold of the level in force, answer
 -- the highest score, the lowest page on a tie: 00h, page, score. None: 09h, page 0, score 0."
-use Rattle.std.specs.Prelude.{Bool, true, false, ◌&&◌, ◌||◌, not, cond, List, [], ◌∷◌, ℕ, zero, suc, ◌+◌, ◌-◌, ltb, leb, get_or}
-use Rattle.protocol.specs.declared.Match.{Match}
+use Rattle.std.specs.Prelude.{Bool, true, false, ◌&&◌, ◌||◌, not, cond, List, [], ◌∷◌, Option, Some, None, ℕ, zero, suc, ◌+◌, ◌-◌, ltb, leb, get_or}
+use Rattle.protocol.specs.declared.Match as code
 use Rattle.protocol.specs.Numbers.{done, not_found}
 use Rattle.protocol.specs.Bytes.{two, joined}
 use Rattle.protocol.specs.Index.{stored}
@@ -19,12 +19,23 @@ score_at scores q = get_or scores q 0
 abbrev pub threshold_of : List ℕ → ℕ → ℕ
 threshold_of thresholds level = get_or thresholds (level - 1) 0
 
+-- what is found: a page and its score; none is page 0 with the score 0
+pub record Match : Type 0 where
+  pub found : Bool
+  pub page : ℕ
+  pub score : ℕ
+
 -- page p with the score k; and none
 abbrev pub hit : ℕ → ℕ → Match
 hit p k = record { found = true; page = p; score = k }
 
 abbrev pub nobody : Match
 nobody = record { found = false; page = 0; score = 0 }
+
+-- what the code's option says
+abbrev pub match_of : Option code.Match → Match
+match_of (Some m) = hit m.page m.score
+match_of None = nobody
 
 -- is page q stored, with a score at or above the threshold?
 unfoldable pub eligible : List ℕ → List ℕ → ℕ → ℕ → Bool

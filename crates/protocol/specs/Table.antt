@@ -1,7 +1,6 @@
 -- The seventeen commands: document 01's table, right half. Each row's tests, left to right, and its effect. Search is request [8]'s; Store's last test is request [5]'s; how many pages
 -- ReadIndexTable has goes by the index's length, which is request [6]'s; the buffers' origins are request [7]'s; that the lock lets ReadSysPara pass is request [13]'s.
 use Rattle.std.specs.Prelude.{Bool, ◌&&◌, ◌||◌, not, cond, List, [], ◌∷◌, ℕ, ◌+◌, ◌*◌, ◌/◌, eqb, ltb, leb, length}
-use Rattle.protocol.specs.declared.Match.{Match}
 use Rattle.protocol.specs.Numbers.{page_bytes, note_bytes, index_page_bytes, lowest_level, highest_level, lowest_baud, highest_baud, highest_size, baud_parameter, level_parameter, size_parameter, verified_status, found_status, done, bad_packet, bad_page, nothing_there, nothing_to_send, bad_range, wrong_password, bad_parameter, bad_value, bad_note_page, page_taken}
 use Rattle.protocol.specs.Bytes.{two, part, zeros, same, lay, joined}
 use Rattle.protocol.specs.Tests.{Test, within, among}
@@ -9,7 +8,7 @@ use Rattle.protocol.specs.Index.{stored, set_bit, clear_bits, set_bits}
 use Rattle.protocol.specs.Reader.{opened, Plain, Reader, capacity, size_of, locked, buffer_of, emptied, loaded_from, stored_on, with_mark, with_transfer, with_password, with_address, with_tuning, with_library, with_notepad, with_buffer, without_pages, with_found, reader}
 use Rattle.protocol.specs.Commands.{Free, read_sys_para, verify_password, hand_shake, Barred, search_for, store, load_char, up_char, down_char, delet_char, empty, set_sys_para, set_password, set_address, write_notepad, read_notepad, templete_num, read_index_table}
 use Rattle.protocol.specs.Data.{data_packets}
-use Rattle.protocol.specs.Search.{Chip, search_of, match_code, match_bytes}
+use Rattle.protocol.specs.Search.{Match, Chip, search_of, match_code, match_bytes}
 
 -- ---- the commands that the lock bars
 

@@ -5,18 +5,12 @@ pub mod codes;
 pub mod command_codes;
 pub mod identifiers;
 pub mod numbers;
+mod outcomes;
 pub mod refusals;
-
-// The first place with EF followed by 01 (step 1 of finding).
-#[derive(Clone, Copy)]
-pub enum Start {
-    Nowhere,
-    At { place: usize },
-}
 
 // What stands in a run (steps 1 to 4): nothing that starts a packet; one that is not all there yet; a start that no packet has;
 // or a whole packet, with its place and its length field.
-#[derive(Clone, Copy)]
+#[derive(Clone, Copy, Debug, PartialEq, Eq)]
 pub enum Found {
     Noise { used: usize },
     Unfinished { at: usize },
@@ -45,43 +39,26 @@ pub struct Settings {
     pub origin2: u16,
 }
 
-// What Search finds (request [8]): a page and its score; none is page 0 with the score 0.
+// What Search finds (request [8]): a page and its score.
 #[derive(Clone, Copy)]
 pub struct Match {
-    pub found: bool,
     pub page: u16,
     pub score: u16,
 }
 
-// What a call of the reader returns: the settings after it, the refusal or 0, the bytes used, and the reply's length.
+// What a call that is not refused did: the bytes that it used, and the length of its reply.
 #[derive(Clone, Copy)]
-pub struct Called {
-    pub settings: Settings,
-    pub refusal: u8,
+pub struct Lengths {
     pub used: usize,
-    pub length: usize,
+    pub reply: usize,
 }
 
-// What a call on lent settings returns: the same, and the settings lie changed where they were lent.
+// What a caller in C gets of a call on lent settings: the refusal or 0, the bytes used, and the reply's length.
 #[repr(C)]
 #[derive(Clone, Copy)]
 pub struct Answered {
     pub refusal: u8,
     pub used: usize,
-    pub length: usize,
-}
-
-// What a line switch returns: the settings after it, and the refusal or 0.
-#[derive(Clone, Copy)]
-pub struct Switched {
-    pub settings: Settings,
-    pub refusal: u8,
-}
-
-// What the builder returns: the refusal or 0, and the packet's length.
-#[derive(Clone, Copy)]
-pub struct Built {
-    pub refusal: u8,
     pub length: usize,
 }
 
@@ -102,27 +79,11 @@ pub struct Line {
     pub receiver: Receiver,
 }
 
-// What a receiver's call returns: the line after it, the refusal or 0, the bytes taken of the piece, and the reply's length.
-#[derive(Clone, Copy)]
-pub struct Received {
-    pub line: Line,
-    pub refusal: u8,
-    pub taken: usize,
-    pub length: usize,
-}
-
-// What a receiver's call on a lent line returns: the same, and the line lies changed where it was lent.
+// What a caller in C gets of a receiver's call on a lent line: the refusal or 0, the bytes taken of the piece, and the reply's length.
 #[repr(C)]
 #[derive(Clone, Copy)]
 pub struct Taken {
     pub refusal: u8,
     pub taken: usize,
     pub length: usize,
-}
-
-// What a receiver's line switch returns: the line after it, and the refusal or 0.
-#[derive(Clone, Copy)]
-pub struct Emptied {
-    pub line: Line,
-    pub refusal: u8,
 }

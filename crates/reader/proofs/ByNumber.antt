@@ -1,29 +1,24 @@
--- The buffers by number: what one that is changed, wiped or marked makes of the reader, and the tests before it.
+-- The buffers by number: what one that is changed and marked makes of the reader.
 use mathlib.Core.Path.{◌≡◌, refl, ap}
-use mathlib.Core.Bool.{Bool, true, false, not, ◌||◌, cond}
+use mathlib.Core.Bool.{Bool, true, false, ◌||◌, cond}
 use mathlib.Core.Logic.{◌⊎◌, inl, inr, ⊎_elim}
-use mathlib.Core.List.{List, ◌∷◌}
-use Prim.Native.Nat.{ℕ, ◌/◌, ◌≤◌}
-use lib.Dec.{eqb, ltb}
-use lib.ListN.{length}
-use borrow.Author.Tests.{eqb-true, ne_eqb, le-ltb}
+use mathlib.Core.List.{List}
+use Prim.Native.Nat.{ℕ, ◌*◌, ◌≤◌, ◌<◌}
+use lib.Dec.{eqb}
+use borrow.Author.Tests.{eqb-true, ne_eqb}
 use Rattle.protocol.specs.declared.Settings.{Settings}
-use Rattle.protocol.specs.Numbers.{page_bytes, no_page, bad_packet, bad_page}
-use Rattle.protocol.specs.Tests.{Test, verdict}
-use Rattle.protocol.specs.Bytes.{zeros, follow}
-use Rattle.protocol.specs.Reader.{Marks, Transfer, Guarded, capacity, emptied, with_buffer, contents, reader}
+use Rattle.protocol.specs.Numbers.{page_bytes, no_page}
+use Rattle.protocol.specs.Bytes.{zeros, part}
+use Rattle.protocol.specs.Reader.{Marks, Transfer, Guarded, capacity, emptied, loaded_from, with_buffer, contents, reader}
 use Rattle.protocol.specs.Reader as readers
-use Rattle.protocol.specs.Table.{is_buffer, Effect}
-use Rattle.protocol.specs.Step.{says, carry, carry_as}
-use Rattle.protocol.proofs.Laws.Logic.{not_true, not_false}
+use Rattle.protocol.specs.Table.{is_buffer}
 use Rattle.protocol.proofs.Laws.Marks.{fit_mark_lem, fit_marks_lem, fit_verified, fit_filled1, fit_filled2, fit_found}
 use Rattle.protocol.specs.Records.{fit_mark, fit_marks, is_set, marks_of, transfer_of, origin_of, plain_of, buffer, reader_of}
-use Rattle.reader.specs.declared.answers.Answer.{Answer}
-use Rattle.reader.specs.Answers.{code_alone, sent, said_of}
 use Rattle.rules.specs.Settings.{with_transfer, Legal}
 use Rattle.rules.proofs.Marks.{beside}
+use Rattle.reader.specs.Memory.{with_numbered}
 use Rattle.reader.specs.Buffers.{chosen_of, Buffers, buffers, changed, with_fill, with_held}
-use Rattle.reader.proofs.Laws.{chosen_long}
+use Rattle.reader.proofs.Laws.{page_origin}
 
 -- ---- a number that names a buffer
 
@@ -121,34 +116,45 @@ held_fit k on a s l f =
 pub beside_held : (k on a : ℕ) (s : Settings) → Legal s → fit_mark on ≡ true → transfer_of (marks_of (with_held k on a s)) s.transfer s.got ≡ transfer_of (marks_of s) s.transfer s.got
 beside_held k on a s l f = beside s l (with_held k on a s) (held_fit k on a s l f)
 
--- one of them wiped
-pub emptied_one : (k : ℕ) (s : Settings) (t i n b c x y : List ℕ) → buffers x y ≡ changed k (λ (z : List ℕ). zeros (length z)) b c → length b ≡ page_bytes
-    → length c ≡ page_bytes → (reader_of (with_held k 0 no_page s) t i n x y).guarded ≡ with_buffer (eqb k 2) emptied (reader_of s t i n b c).guarded
-unfolding emptied origin_of
-emptied_one k s t i n b c x y e l m =
-    let all : length (chosen_of k b c) ≡ page_bytes = chosen_long (eqb k 2) c b page_bytes m l in
-    rw all at (changed_held k (λ (z : List ℕ). zeros (length z)) s t i n b c x y e 0 no_page)
+-- legal settings stay so
+pub held_legal : (n on o : ℕ) (s q : Settings) → q ≡ with_held n on o s → Legal s → fit_mark on ≡ true → Legal q
+held_legal n on o s q e l f = rw e record { size = l.size; which = l.which; none = l.none; marks = held_fit n on o s l f }
 
--- and the transfer moved
-pub wiped : (k w j : ℕ) (v : Transfer) → ((m : Marks) → fit_marks m ≡ true → transfer_of m w j ≡ v) → (s o q : Settings) (t i n b c x y : List ℕ)
-    → q ≡ with_transfer w j o → o ≡ with_held k 0 no_page s → Legal s
-    → buffers x y ≡ changed k (λ (z : List ℕ). zeros (length z)) b c → length b ≡ page_bytes → length c ≡ page_bytes
-    → reader_of q t i n x y ≡ reader (readers.with_transfer v (plain_of s)) (with_buffer (eqb k 2) emptied (reader_of s t i n b c).guarded)
+pub filled_legal : (n on : ℕ) (s q : Settings) → q ≡ with_fill n on s → Legal s → fit_mark on ≡ true → Legal q
+filled_legal n on s q e l f = rw e record { size = l.size; which = l.which; none = l.none; marks = held_fit n on 0 s l f }
+
+-- a buffer changed, its mark and its origin, and nothing else of the reader
+pub held_reader : (n on o : ℕ) (s q : Settings) → q ≡ with_held n on o s → Legal s → fit_mark on ≡ true → (f : List ℕ → List ℕ) (t i m b c x y : List ℕ) → buffers x y ≡ changed n f b c
+    → reader_of q t i m x y ≡ with_numbered n (buffer (f (chosen_of n b c)) (is_set on) o) (reader_of s t i m b c)
+held_reader n on o s q e l g f t i m b c x y d =
+    rw (e, beside_held n on o s l g) (ap (λ (z : Guarded). reader (plain_of s) z) (changed_held n f s t i m b c x y d on o))
+
+-- one of them zeroed
+module _ (s q : Settings) (l : Legal s) (t i m b c x : List ℕ) (z : x ≡ zeros page_bytes) where
+  pub first_emptied : q ≡ with_held 1 0 no_page s → reader_of q t i m x c ≡ with_numbered 1 emptied (reader_of s t i m b c)
+  unfolding emptied origin_of changed
+  first_emptied e = held_reader 1 0 no_page s q e l (fit_mark_lem false) (λ (y : List ℕ). zeros page_bytes) t i m b c x c (rw z refl)
+
+  pub second_emptied : q ≡ with_held 2 0 no_page s → reader_of q t i m b x ≡ with_numbered 2 emptied (reader_of s t i m b c)
+  unfolding emptied origin_of changed
+  second_emptied e = held_reader 2 0 no_page s q e l (fit_mark_lem false) (λ (y : List ℕ). zeros page_bytes) t i m b c b x (rw z refl)
+
+-- one of them loaded from a page
+module _ (s q : Settings) (l : Legal s) (p : ℕ) (h : p < no_page) (t i m b c x : List ℕ) (z : x ≡ part (page_bytes * p) page_bytes t) where
+  pub first_loaded : q ≡ with_held 1 1 p s → reader_of q t i m x c ≡ with_numbered 1 (loaded_from p (part (page_bytes * p) page_bytes t)) (reader_of s t i m b c)
+  unfolding changed loaded_from
+  first_loaded e = rw (page_origin p h) at (held_reader 1 1 p s q e l (fit_mark_lem true) (λ (y : List ℕ). part (page_bytes * p) page_bytes t) t i m b c x c (rw z refl))
+
+  pub second_loaded : q ≡ with_held 2 1 p s → reader_of q t i m b x ≡ with_numbered 2 (loaded_from p (part (page_bytes * p) page_bytes t)) (reader_of s t i m b c)
+  unfolding changed loaded_from
+  second_loaded e = rw (page_origin p h) at (held_reader 2 1 p s q e l (fit_mark_lem true) (λ (y : List ℕ). part (page_bytes * p) page_bytes t) t i m b c b x (rw z refl))
+
+-- ---- and the transfer moved
+
+pub moved_legal : (w k : ℕ) (s q : Settings) → q ≡ with_transfer w k s → w ≤ 2 → (w ≡ 0 → k ≡ 0) → Legal s → Legal q
+moved_legal w k s q e h n l = rw e record { size = l.size; which = h; none = n; marks = l.marks }
+
+pub moved_reader : (w k : ℕ) (v : Transfer) (s q : Settings) (t i m b c : List ℕ) → q ≡ with_transfer w k s → transfer_of (marks_of s) w k ≡ v
+    → reader_of q t i m b c ≡ reader (readers.with_transfer v (plain_of s)) (reader_of s t i m b c).guarded
 unfolding readers.with_transfer
-wiped k w j v h s o q t i n b c x y f g d e l m =
-    rw (f, g, h (marks_of (with_held k 0 no_page s)) (held_fit k 0 no_page s d (fit_mark_lem false))) (ap (λ (z : Guarded). reader (readers.with_transfer v (plain_of s)) z) (emptied_one k s t i n b c x y e l m))
-
--- ---- the tests that a command with a buffer starts with
-
-module _ (s : Settings) (t i m b c : List ℕ) (a : Answer) (n : ℕ) (known : Bool) (k : known ≡ is_buffer n) (ts : List Test) (j : ℕ) (x y : List ℕ) (e : Effect) where
-  pub no_buffer : a ≡ code_alone bad_packet s → not known ≡ true
-      → said_of a t i m b c ≡ carry (reader_of s t i m b c) record { tests = (is_buffer n, bad_packet) ∷ ts; code = j; bytes = x; behind = y; effect = e }
-  unfolding carry carry_as verdict says follow sent
-  no_buffer f g = rw (f, ← k, not_true known g)
-
-  pub no_page_lem : (p : ℕ) → a ≡ code_alone bad_page s → not known ≡ false → length t / page_bytes ≤ p
-      → said_of a t i m b c
-      ≡ carry (reader_of s t i m b c)
-      record { tests = (is_buffer n, bad_packet) ∷ (ltb p (capacity (reader_of s t i m b c).guarded), bad_page) ∷ ts; code = j; bytes = x; behind = y; effect = e }
-  unfolding carry carry_as verdict capacity says follow sent
-  no_page_lem p f g h = rw (f, ← k, not_false known g, le-ltb _ _ h)
+moved_reader w k v s q t i m b c e f = rw (e, f) refl

@@ -22,7 +22,6 @@ use Rattle.protocol.specs.Call.{shaped, fit_library, fit_buffers, fit_lengths, f
 use Rattle.protocol.proofs.Laws.Logic.{T→true, and_l, and_r}
 use Rattle.protocol.proofs.Laws.Lists.{lay_nothing}
 use Rattle.protocol.proofs.Laws.Finder.{Within, found_in, used_in, accepts_least, accepts_most, longest_word}
-use Rattle.reader.specs.Commands.{Fit}
 use Rattle.reader.specs.Calls.{Lies, lengths_fit, carried_of}
 use Rattle.rules.specs.Settings.{legal_of, sound_of, Legal}
 use Rattle.rules.proofs.Transfers.{legal_says}
@@ -89,18 +88,25 @@ module _ (v t i n b c k h : ℕ) (e : lengths_fit v t i n b c k h ≡ true) wher
   unfolding lengths_fit
   all_scored = let y : T (lengths_fit v t i n b c k h) = rw e tt in eqb→eq k (t / page_bytes) (search (and_l, and_r) depth 9)
 
-pub fit_says : (s : Settings) (t i b c : List ℕ) (v n k h : ℕ) → lengths_fit v (length t) (length i) n (length b) (length c) k h ≡ true → Legal s → Fit s t i b c
-unfolding lengths_fit within
-fit_says s t i b c v n k h e m =
-    let y : T (lengths_fit v (length t) (length i) n (length b) (length c) k h) = rw e tt in
-    record {
-      pages = eqb→eq (length t) (page_bytes * (length t / page_bytes)) (search (and_l, and_r) depth 9);
-      within = few_pages v (length t) (length i) n (length b) (length c) k h e;
-      index = eqb→eq (length i) index_bytes (search (and_l, and_r) depth 9);
-      buffer1 = eqb→eq (length b) page_bytes (search (and_l, and_r) depth 9);
-      buffer2 = eqb→eq (length c) page_bytes (search (and_l, and_r) depth 9);
-      legal = m;
-    }
+module _ (v t i n b c k h : ℕ) (e : lengths_fit v t i n b c k h ≡ true) where
+  passed : T (lengths_fit v t i n b c k h)
+  passed = rw e tt
+
+  pub whole_pages : t ≡ page_bytes * (t / page_bytes)
+  unfolding lengths_fit
+  whole_pages = let y = passed in eqb→eq t (page_bytes * (t / page_bytes)) (search (and_l, and_r) depth 9)
+
+  pub index_long : i ≡ index_bytes
+  unfolding lengths_fit
+  index_long = let y = passed in eqb→eq i index_bytes (search (and_l, and_r) depth 9)
+
+  pub first_long : b ≡ page_bytes
+  unfolding lengths_fit
+  first_long = let y = passed in eqb→eq b page_bytes (search (and_l, and_r) depth 9)
+
+  pub second_long : c ≡ page_bytes
+  unfolding lengths_fit
+  second_long = let y = passed in eqb→eq c page_bytes (search (and_l, and_r) depth 9)
 
 -- refusal 3 as the code asks for it: the settings first
 pub legal_passed : (s : Settings) (i : List ℕ) (n : ℕ) → sound_of n i s ≡ true → Legal s

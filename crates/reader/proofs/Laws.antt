@@ -1,19 +1,22 @@
 -- Small laws of the commands: parameters, chosen buffers, pages and counts within range, and the sixteen bytes of ReadSysPara.
 use mathlib.Core.Path.{◌≡◌, refl}
-use mathlib.Core.Bool.{Bool, true, false, cond}
+use mathlib.Core.Bool.{Bool, true, false, ◌&&◌, cond}
 use mathlib.Core.List.{List, [], ◌∷◌}
-use Prim.Native.Nat.{ℕ, ◌+◌, ◌*◌, ◌/◌, ◌%◌, ◌<◌}
+use Prim.Native.Nat.{ℕ, ◌+◌, ◌*◌, ◌/◌, ◌%◌, ◌<◌, ◌≤◌}
 use native.Mathlib.Omega.{arith}
 use lib.ListN.{length, get_or, take, drop, length-drop}
 use lib.Seq.{take_all}
-use borrow.Author.Tests.{lt-ltb, eq-eqb, ne_eqb}
+use lib.Dec.{leb}
+use borrow.Author.Tests.{lt-ltb, eq-eqb, ne_eqb, leb-true}
+use Rattle.std.proofs.Common.{Some}
 use Rattle.protocol.specs.Bytes.{two, part, lay, joined}
+use Rattle.protocol.specs.Tests.{within}
 use Rattle.protocol.specs.Index.{set_bits}
 use Rattle.protocol.specs.Numbers.{no_page}
 use Rattle.protocol.specs.Reader.{from_page, Buffer}
 use Rattle.protocol.specs.Records.{origin_of, buffer}
 use Rattle.protocol.proofs.Laws.Lists.{by_four}
-use Rattle.library.specs.Lent.{count_of, write_page, read_page}
+use Rattle.library.specs.Lent.{counted_of, write_page, read_page}
 
 -- ---- parameters
 
@@ -54,8 +57,8 @@ pub reads : (p : ℕ) (t d : List ℕ) → p < length t / 512 → length d ≡ 5
 unfolding read_page
 reads p t d h e = rw (lt-ltb _ _ h, eq-eqb _ _ e) refl
 
-pub counts : (n : ℕ) (x : List ℕ) → length x ≡ n → count_of n x ≡ set_bits x
-unfolding count_of
+pub counts : (n : ℕ) (x : List ℕ) → length x ≡ n → counted_of n x ≡ Some (set_bits x)
+unfolding counted_of
 counts n x e = rw (eq-eqb _ _ e) refl
 
 -- a 16-bit number's high byte
@@ -76,3 +79,13 @@ parameter_list s k p l a z f e =
     ∷ (z / 256 % 256) ∷ (z % 256) ∷ (f / 256 % 256) ∷ (f % 256) ∷ []
     ≡ joined (two s ∷ two k ∷ two p ∷ two l ∷ x ∷ two z ∷ two f ∷ []))
     (λ w x y z. refl)
+
+-- outside a range
+pub outside : (low n high : ℕ) → (low ≤ n → n ≤ high → ⊥) → within low n high ≡ false
+unfolding within
+outside low n high f = go (leb low n) (leb n high) refl refl
+  where
+    go : (a b : Bool) → leb low n ≡ a → leb n high ≡ b → (a && b) ≡ false
+    go true true e g = absurd (f (leb-true low n e) (leb-true n high g))
+    go true false e g = refl
+    go false b e g = refl

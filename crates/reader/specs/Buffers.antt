@@ -1,10 +1,20 @@
 -- The two buffers by number: 2 is the second, any other the first.
-use Rattle.std.specs.Prelude.{cond, List, ◌≡◌, ℕ, eqb}
+use Rattle.std.specs.Prelude.{true, false, cond, List, ◌≡◌, ℕ, eqb, Result, MatchResult}
 use Rattle.protocol.specs.declared.Settings.{Settings}
-use Rattle.protocol.specs.Tests.{among}
-use Rattle.protocol.specs.Reader.{Reader, buffer_of, without, with_buffer, without_pages, reader}
-use Rattle.protocol.specs.Records.{reader_of}
-use Rattle.rules.specs.Settings.{with_filled, with_origins, Legal}
+use Rattle.protocol.specs.declared.codes.Code.{Code}
+use Rattle.protocol.specs.declared.codes.Code.TheVariants.{BadPacket}
+use Rattle.protocol.specs.Table.{is_buffer}
+use Rattle.rules.specs.Settings.{with_filled, with_origins}
+use Rattle.reader.specs.declared.buffers.Buffer.{Buffer}
+use Rattle.reader.specs.declared.buffers.Buffer.TheVariants.{First, Second}
+
+abbrev pub buffer_number : Buffer → ℕ
+buffer_number First = 1
+buffer_number Second = 2
+
+-- the buffer that a number names, or the code of a number that names none
+abbrev pub IsNamed : ℕ → Result Buffer Code → Type 0
+IsNamed n r = MatchResult r (λ b. (n ≡ buffer_number b) × (is_buffer n ≡ true)) (λ k. (k ≡ BadPacket) × (is_buffer n ≡ false))
 
 -- the bytes of one
 abbrev pub chosen_of : ℕ → List ℕ → List ℕ → List ℕ
@@ -29,14 +39,3 @@ with_fill n on s = with_filled (cond (eqb n 2) s.filled1 on) (cond (eqb n 2) on 
 -- and its origin too
 abbrev pub with_held : ℕ → ℕ → ℕ → Settings → Settings
 with_held n on o s = with_origins (cond (eqb n 2) s.origin1 o) (cond (eqb n 2) o s.origin2) (with_fill n on s)
-
--- ---- pages deleted
-
--- the settings q and the buffers x and y are what n pages from p on leave of s, b and c: of buffer k; and of both
-pub record ForgotOne (k p n : ℕ) (q s : Settings) (x y b c : List ℕ) : Type 0 where
-  pub after : (t i m : List ℕ) → reader_of q t i m x y
-      ≡ (let r : Reader = reader_of s t i m b c in reader r.plain (with_buffer (eqb k 2) (without (among p n) (buffer_of (eqb k 2) r.guarded)) r.guarded))
-  pub legal : Legal q
-
-pub record Forgot (p n : ℕ) (q s : Settings) (x y b c : List ℕ) : Type 0 where
-  pub after : (t i m : List ℕ) → reader_of q t i m x y ≡ (let r : Reader = reader_of s t i m b c in reader r.plain (without_pages (among p n) r.guarded))

@@ -1,4 +1,6 @@
 pub mod Buffers
 pub mod Answers
-pub mod Commands
+pub mod Memory
 pub mod Calls
+pub mod Parameters
+pub mod Search

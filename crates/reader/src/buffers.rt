@@ -1,132 +1,133 @@
 // The character buffers by number, and the commands over them: UpChar and DownChar.
-ghost use Rattle.std.specs.Prelude.{◌≡◌, List, ℕ, ◌+◌, ◌≤◌, length};
-ghost use Rattle.protocol.specs.Numbers.{page_bytes, highest_size};
-ghost use Rattle.protocol.specs.Bytes.{zeros, lay};
-ghost use Rattle.protocol.specs.Table.{is_buffer};
+ghost use Rattle.std.specs.Prelude.{◌≡◌, ◌/◌, ◌<◌, ◌*◌, length};
+ghost use Rattle.protocol.specs.Numbers.{page_bytes};
+ghost use Rattle.protocol.specs.Bytes.{part};
+ghost use Rattle.protocol.specs.Reader.{emptied, loaded_from};
 ghost use Rattle.protocol.specs.Commands.{up_char, down_char};
-ghost use Rattle.library.specs.Lent.{read_page};
-ghost use Rattle.reader.specs.Buffers.{chosen_of, buffers, changed, with_fill, with_held};
-ghost use Rattle.reader.specs.Commands.{Obeyed, ObeyedBuffers};
-ghost use Rattle.rules.specs.Settings.{Legal};
+ghost use Rattle.reader.specs.Answers.{answer_in};
+ghost use Rattle.reader.specs.Buffers.{buffer_number, with_fill, with_held, IsNamed};
+ghost use Rattle.reader.specs.Memory.{Kept, reader_in, filled_of, with_numbered, said_of, obeyed};
 
-use crate::answers;
 use crate::answers::Answer;
+use crate::memory::Sound;
 use library::pages;
-use protocol::{Settings, codes, numbers};
+use protocol::codes::Code;
+use protocol::{Settings, numbers};
 use rules::settings;
-use wire::bytes;
 
-// Whether a number names a buffer.
-pub(crate) fn is_buffer(n: u8) -> bool
-    ensures { result ≡ is_buffer n }
-{
-    match n {
-        1 => true,
-        2 => true,
-        _ => false,
+#[derive(Clone, Copy, PartialEq, Eq)]
+pub(crate) enum Buffer {
+    First = 1,
+    Second = 2,
+}
+
+impl TryFrom<u8> for Buffer {
+    type Error = Code;
+
+    ghost try_from_gives = { IsNamed };
+
+    // A number that names no buffer is answered by 01h.
+    fn try_from(number: u8) -> Result<Self, Code> {
+        match number {
+            1 => Ok(Buffer::First),
+            2 => Ok(Buffer::Second),
+            _ => Err(Code::BadPacket),
+        }
     }
 }
 
-// The bytes of a buffer.
-pub(crate) fn chosen<'a>(n: u8, b: &'a [u8], c: &'a [u8]) -> &'a [u8]
-    ensures { result.now ≡ chosen_of n b.now c.now }
+// The settings with a buffer's filled mark.
+pub(crate) fn mark(settings: Settings, buffer: Buffer, on: u8) -> Settings
+    ensures { result ≡ with_fill (buffer_number buffer) on settings }
 {
-    if n == 2 { c } else { b }
-}
-
-// Zeroes a buffer.
-pub(crate) fn wipe(n: u8, b: &mut [u8], c: &mut [u8])
-    ensures { buffers b.new c.new
-        ≡ changed n (λ (x : List ℕ). zeros (length x)) b.old c.old }
-{
-    if n == 2 {
-        bytes::zero(c);
-        return;
+    match buffer {
+        Buffer::First => Settings {
+            filled1: on,
+            ..settings
+        },
+        Buffer::Second => Settings {
+            filled2: on,
+            ..settings
+        },
     }
-    bytes::zero(b);
-}
-
-// Copies a page to a buffer.
-pub(crate) fn load(n: u8, b: &mut [u8], c: &mut [u8], templates: &[u8], page: usize)
-    ensures { buffers b.new c.new
-        ≡ changed n (read_page page templates.now) b.old c.old }
-{
-    if n == 2 {
-        pages::read_page(c, templates, page);
-        return;
-    }
-    pages::read_page(b, templates, page);
-}
-
-fn put_at(buffer: &mut [u8], at: usize, src: &[u8])
-    requires { at + length src.now ≤ length buffer.old }
-    ensures { buffer.new ≡ lay at src.now buffer.old }
-{
-    let e = at + src.len();
-    bytes::put(&mut buffer[at..e], src);
-}
-
-// Copies bytes to a place in a buffer.
-pub(crate) fn fill(n: u8, b: &mut [u8], c: &mut [u8], at: usize, src: &[u8])
-    requires { (at + length src.now ≤ length b.old) × (at + length src.now ≤ length c.old) }
-    ensures { buffers b.new c.new
-        ≡ changed n (lay at src.now) b.old c.old }
-{
-    if n == 2 {
-        put_at(c, at, src);
-        return;
-    }
-    put_at(b, at, src);
-}
-
-// The settings with this as a buffer's filled mark.
-pub(crate) fn mark(settings: Settings, n: u8, on: u8) -> Settings
-    ensures { result ≡ with_fill n on settings }
-{
-    if n == 2 {
-        return settings::filled(settings, settings.filled1, on);
-    }
-    settings::filled(settings, on, settings.filled2)
 }
 
 // The settings with a buffer's filled mark and its origin.
-pub(crate) fn hold(settings: Settings, n: u8, on: u8, origin: u16) -> Settings
-    ensures { result ≡ with_held n on origin settings }
+pub(crate) fn hold(settings: Settings, buffer: Buffer, on: u8, origin: u16) -> Settings
+    ensures { result ≡ with_held (buffer_number buffer) on origin settings }
 {
-    let s = mark(settings, n, on);
-    if n == 2 {
-        return settings::linked(s, s.origin1, origin);
+    match buffer {
+        Buffer::First => Settings {
+            filled1: on,
+            origin1: origin,
+            ..settings
+        },
+        Buffer::Second => Settings {
+            filled2: on,
+            origin2: origin,
+            ..settings
+        },
     }
-    settings::linked(s, origin, s.origin2)
 }
 
-// UpChar (buffer).
-pub(crate) fn up_char(settings: Settings, n: u8) -> Answer
-    requires { settings.size ≤ highest_size }
-    ensures { Obeyed result settings (up_char n) }
-{
-    let known = is_buffer(n);
-    if !known {
-        return answers::plain(codes::BAD_PACKET, settings);
+impl Sound<'_> {
+    // Whether a buffer is filled.
+    pub(crate) fn is_filled(&self, buffer: Buffer) -> bool
+        ensures { result ≡ filled_of (buffer_number buffer) self.now }
+    {
+        match buffer {
+            Buffer::First => self.settings.filled1 == 1,
+            Buffer::Second => self.settings.filled2 == 1,
+        }
     }
-    let full = settings::filled_of(n, settings.filled1, settings.filled2);
-    if !full {
-        return answers::plain(codes::NOTHING_TO_SEND, settings);
-    }
-    answers::sending(n, settings)
-}
 
-// DownChar (buffer).
-pub(crate) fn down_char(settings: Settings, buffer1: &mut [u8], buffer2: &mut [u8], n: u8) -> Answer
-    requires { (length buffer1.old ≡ page_bytes) × ((length buffer2.old ≡ page_bytes) × Legal settings) }
-    ensures { ObeyedBuffers result settings (down_char n)
-        buffer1.old buffer2.old buffer1.new buffer2.new }
-{
-    let known = is_buffer(n);
-    if !known {
-        return answers::plain(codes::BAD_PACKET, settings);
+    // Zeroes a buffer: its mark is clear then, and it has no origin.
+    pub(crate) fn empty_buffer(&mut self, buffer: Buffer)
+        ensures kept { Kept self.old self.new }
+        ensures emptied { reader_in self.new ≡ with_numbered (buffer_number buffer) emptied (reader_in self.old) }
+    {
+        *self.settings = hold(*self.settings, buffer, 0, numbers::NO_PAGE);
+        match buffer {
+            Buffer::First => self.buffer1.fill(0),
+            Buffer::Second => self.buffer2.fill(0),
+        }
     }
-    wipe(n, buffer1, buffer2);
-    let s = hold(settings, n, 0, numbers::NO_PAGE);
-    answers::plain(codes::DONE, settings::moved(s, n, 0))
+
+    // Copies a page to a buffer, which is filled then, and the page its origin.
+    pub(crate) fn load_buffer(&mut self, buffer: Buffer, page: usize)
+        requires { page < length self.old.templates.now / page_bytes }
+        ensures kept { Kept self.old self.new }
+        ensures loaded { reader_in self.new ≡ with_numbered (buffer_number buffer)
+            (loaded_from page (part (page_bytes * page) page_bytes self.old.templates.now)) (reader_in self.old) }
+    {
+        *self.settings = hold(*self.settings, buffer, 1, page as u16);
+        // Of a field that is lent to be read, the proof keeps the length alone, but of this the bytes.
+        let templates = &mut *self.templates;
+        match buffer {
+            Buffer::First => pages::read_page(self.buffer1, templates, page),
+            Buffer::Second => pages::read_page(self.buffer2, templates, page),
+        }
+    }
+
+    // UpChar (buffer).
+    pub(crate) fn up_char(&self, number: u8) -> Result<Answer, Code>
+        ensures { said_of (answer_in result) self.now ≡ obeyed self.now (up_char number) }
+    {
+        let buffer = Buffer::try_from(number)?;
+        if !self.is_filled(buffer) {
+            return Err(Code::NothingToSend);
+        }
+        Ok(Answer::Upload(buffer))
+    }
+
+    // DownChar (buffer).
+    pub(crate) fn down_char(&mut self, number: u8) -> Result<Answer, Code>
+        ensures kept { Kept self.old self.new }
+        ensures obeyed { said_of (answer_in result) self.new ≡ obeyed self.old (down_char number) }
+    {
+        let buffer = Buffer::try_from(number)?;
+        self.empty_buffer(buffer);
+        *self.settings = settings::moved(*self.settings, number, 0);
+        Ok(Answer::Alone(Code::Done))
+    }
 }

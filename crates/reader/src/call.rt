@@ -1,65 +1,33 @@
 // A whole call of the reader, and the line switch.
-ghost use Rattle.std.specs.Prelude.{◌≡◌, ◌&&◌, List, ℕ, ◌+◌, ◌≤◌, leb, length};
+ghost use Rattle.std.specs.Prelude.{◌≡◌, ◌&&◌, List, ℕ, ◌+◌, ◌/◌, ◌≤◌, leb, length};
 ghost use Rattle.protocol.specs.declared.Found.TheVariants.{Whole};
-ghost use Rattle.protocol.specs.Numbers.{head_bytes, most_pages};
+ghost use Rattle.protocol.specs.Numbers.{page_bytes, head_bytes, most_pages, reply_room};
 ghost use Rattle.protocol.specs.Bytes.{same};
+ghost use Rattle.protocol.specs.Codes.{refusal_of};
 ghost use Rattle.protocol.specs.Packet.{address_at, right_at};
 ghost use Rattle.protocol.specs.Step.{hear_as, hear_at, answer};
-ghost use Rattle.protocol.specs.Call.{core, shaped, call_of, switch_of};
-ghost use Rattle.protocol.specs.Records.{reader_of, chip_of, lent_of, ended_of, switched_of};
-ghost use Rattle.reader.specs.Answers.{said_of, Ready};
+ghost use Rattle.protocol.specs.Call.{shaped, call_of, switch_of};
+ghost use Rattle.protocol.specs.Records.{reader_of, switched_of, switched_at};
 ghost use Rattle.rules.specs.Settings.{sound_of};
-ghost use Rattle.reader.specs.Commands.{CommandNeeds};
-ghost use Rattle.reader.specs.Calls.{Lies, HearNeeds, called, switched, lengths_fit, carried_of};
+ghost use Rattle.reader.specs.Memory.{Kept, reader_at, reader_in, chip_at, said_of};
+ghost use Rattle.reader.specs.Calls.{Lies, reader_fits, lent_at, ended_at, heard_at, carried_of};
 
 use crate::answers::Answer;
-use crate::{answers, fields, origins, reply, table, transfer};
+use crate::memory::{Chip, Reader, Sound};
+use crate::{fields, origins};
 use library::index;
-use protocol::{Called, Found, Settings, Switched, numbers, refusals};
+use protocol::identifiers::Identifier;
+use protocol::refusals::Refusal;
+use protocol::{Found, Lengths, Settings, numbers};
 use rules::settings;
-use wire::{builder, finder};
-
-// What a packet of ours does, by its identifier.
-pub(crate) fn act(
-    settings: Settings,
-    templates: &mut [u8],
-    index: &mut [u8],
-    notepad: &mut [u8],
-    buffer1: &mut [u8],
-    buffer2: &mut [u8],
-    scores: &[u16],
-    thresholds: &[u16],
-    content: &[u8],
-    identifier: u8,
-    right: bool,
-) -> Answer
-    requires { CommandNeeds settings templates.old index.old buffer1.old buffer2.old scores.now content.now }
-    ensures { (said_of result templates.new index.new notepad.new buffer1.new buffer2.new
-        ≡ answer (chip_of scores.now thresholds.now)
-        (reader_of settings templates.old index.old notepad.old buffer1.old buffer2.old)
-        (hear_as identifier right content.now)) × Ready result }
-{
-    if identifier == numbers::COMMAND_PACKET {
-        let s = transfer::end_transfer(settings, buffer1, buffer2);
-        return table::command(
-            s, templates, index, notepad, buffer1, buffer2, scores, thresholds, content, right,
-        );
-    }
-    if identifier == numbers::ACKNOWLEDGE_PACKET {
-        return answers::silent(settings);
-    }
-    let last = identifier == numbers::LAST_PACKET;
-    transfer::take_part(settings, buffer1, buffer2, content, right, last)
-}
+use wire::{builder, bytes, finder};
 
 // Whether a packet's address is ours.
-fn is_ours(settings: Settings, run: &[u8], at: usize) -> bool
+fn is_ours(address: [u8; 4], run: &[u8], at: usize) -> bool
     requires { at + 6 ≤ length run.now }
-    ensures { result ≡ same (address_at run.now at) settings.address }
+    ensures { result ≡ same (address_at run.now at) address }
 {
-    let a = fields::four_at(run, at + numbers::ADDRESS_AT);
-    let b = settings.address;
-    wire::bytes::is_same(a, b)
+    bytes::is_same(fields::bytes_at(run, at + numbers::ADDRESS_AT), address)
 }
 
 // Whether a packet's sum is right.
@@ -69,130 +37,73 @@ fn is_right(run: &[u8], at: usize, len: usize) -> bool
 {
     let from = at + numbers::HEAD;
     let to = from + (len - 2);
-    let s = builder::packet_sum(run[at + numbers::IDENTIFIER_AT], &run[from..to]);
-    let w = fields::word_at(run, at + numbers::LENGTH_AT + len);
-    w == s
+    let sum = builder::packet_sum(run[at + numbers::IDENTIFIER_AT], &run[from..to]);
+    usize::from(fields::word_at(run, at + numbers::LENGTH_AT + len)) == sum
 }
 
-fn called_of(refusal: u8, used: usize, length: usize, settings: Settings) -> Called
-    ensures { result ≡ called refusal used length settings }
-{
-    Called {
-        settings,
-        refusal,
-        used,
-        length,
+impl Sound<'_> {
+    // What a packet of ours does, by its identifier.
+    fn act(&mut self, identifier: u8, right: bool, content: &[u8]) -> Answer
+        requires some { 1 ≤ length content.now }
+        requires high { length content.now ≤ 65535 }
+        ensures kept { Kept self.old self.new }
+        ensures acted { said_of result self.new ≡ answer (chip_at self.old.chip) (reader_in self.old)
+            (hear_as identifier right content.now) }
+    {
+        if identifier == Identifier::Command as u8 {
+            self.end_transfer();
+            return match self.command(content, right) {
+                Ok(answer) => answer,
+                Err(code) => Answer::Alone(code),
+            };
+        }
+        if identifier == Identifier::Acknowledge as u8 {
+            return Answer::Silence;
+        }
+        self.take_part(content, right, identifier == Identifier::Last as u8)
     }
-}
 
-// A whole packet.
-pub(crate) fn hear_packet(
-    settings: Settings,
-    templates: &mut [u8],
-    index: &mut [u8],
-    notepad: &mut [u8],
-    buffer1: &mut [u8],
-    buffer2: &mut [u8],
-    scores: &[u16],
-    thresholds: &[u16],
-    run: &[u8],
-    at: usize,
-    len: usize,
-    reply: &mut [u8],
-) -> Called
-    requires { HearNeeds settings templates.old index.old buffer1.old buffer2.old scores.now run.now at len reply.old }
-    ensures { ended_of result templates.new index.new notepad.new buffer1.new buffer2.new reply.new
-        ≡ carried_of (at + head_bytes + len)
-        (answer (chip_of scores.now thresholds.now)
-        (reader_of settings templates.old index.old notepad.old buffer1.old buffer2.old)
-        (hear_at settings.address run.now (Whole at len)))
-        reply.old }
-{
-    let used = at + numbers::HEAD + len;
-    let ours = is_ours(settings, run, at);
-    if !ours {
-        return called_of(refusals::ACCEPTED, used, 0, settings);
+    // A whole packet: the bytes used, and the reply's length.
+    fn hear_packet(&mut self, run: &[u8], at: usize, len: usize, reply: &mut [u8]) -> Lengths
+        requires whole { Lies run.now at len }
+        requires room { reply_room ≤ length reply.old }
+        ensures kept { Kept self.old self.new }
+        ensures heard { heard_at result (reader_in self.new) reply.new
+            ≡ carried_of (at + head_bytes + len) (answer (chip_at self.old.chip) (reader_in self.old)
+            (hear_at self.old.settings.now.address run.now (Whole at len))) reply.old }
+    {
+        let used = at + numbers::HEAD + len;
+        if !is_ours(self.settings.address, run, at) {
+            return Lengths { used, reply: 0 };
+        }
+        let identifier = run[at + numbers::IDENTIFIER_AT];
+        let right = is_right(run, at, len);
+        let from = at + numbers::HEAD;
+        let to = from + (len - 2);
+        let answer = self.act(identifier, right, &run[from..to]);
+        Lengths {
+            used,
+            reply: self.speak(answer, reply),
+        }
     }
-    let identifier = run[at + numbers::IDENTIFIER_AT];
-    let right = is_right(run, at, len);
-    let from = at + numbers::HEAD;
-    let to = from + (len - 2);
-    let a = act(
-        settings,
-        templates,
-        index,
-        notepad,
-        buffer1,
-        buffer2,
-        scores,
-        thresholds,
-        &run[from..to],
-        identifier,
-        right,
-    );
-    let n = reply::speak(a, buffer1, buffer2, reply);
-    let s = a.settings;
-    called_of(refusals::ACCEPTED, used, n, s)
-}
-
-// Whether the lent lengths are right, the reply room's apart (refusal 1): the notepad's is `noted`.
-pub fn is_fit(
-    noted: usize,
-    t: usize,
-    i: usize,
-    n: usize,
-    b: usize,
-    c: usize,
-    scores: usize,
-    thresholds: usize,
-) -> bool
-    ensures { result ≡ lengths_fit noted t i n b c scores thresholds }
-{
-    let pages = t / numbers::PAGE;
-    if t != numbers::PAGE * pages {
-        return false;
-    }
-    if pages < 1 {
-        return false;
-    }
-    if numbers::MOST_PAGES < pages {
-        return false;
-    }
-    if i != numbers::INDEX {
-        return false;
-    }
-    if n != noted {
-        return false;
-    }
-    if b != numbers::PAGE {
-        return false;
-    }
-    if c != numbers::PAGE {
-        return false;
-    }
-    if scores != pages {
-        return false;
-    }
-    thresholds == numbers::LEVELS
 }
 
 // Whether settings, transfer, index bits and origins are legal (refusal 3).
-pub(crate) fn is_sound(settings: Settings, index: &[u8], pages: usize) -> bool
+#[tactic(auto, unfolding(rules::specs::Settings::sound_of))]
+fn is_sound(settings: Settings, index: &[u8], pages: usize) -> bool
     requires { pages ≤ most_pages }
     ensures { result ≡ sound_of pages index.now settings }
 {
-    let legal = settings::is_legal(settings);
-    if !legal {
+    if !settings::is_legal(settings) {
         return false;
     }
-    let clear = index::is_clear_from(index, pages);
-    if !clear {
+    if !index::is_clear_from(index, pages) {
         return false;
     }
     origins::are_fit(settings, index, pages)
 }
 
-// The same for any number of pages: of more than a library may have none passes.
+/// The same for any number of pages: of more than a library may have none passes.
 pub fn is_sound_of(settings: Settings, index: &[u8], pages: usize) -> bool
     ensures { result ≡ (leb pages most_pages && sound_of pages index.now settings) }
 {
@@ -202,106 +113,113 @@ pub fn is_sound_of(settings: Settings, index: &[u8], pages: usize) -> bool
     is_sound(settings, index, pages)
 }
 
-// A call of a reader with a notepad of `noted` bytes: its settings and lent memory, scores and thresholds, a received run, and a reply room.
-pub fn step_shaped(
-    noted: usize,
-    settings: Settings,
-    templates: &mut [u8],
-    index: &mut [u8],
-    notepad: &mut [u8],
+impl Reader<'_> {
+    /// Whether the lent lengths are right, the reply room's apart (refusal 1), where the notepad is to have `noted` bytes.
+    #[tactic(auto, using(wire::proofs::Picks::picks), unfolding(crate::specs::Calls::lengths_fit, protocol::specs::Tests::within))]
+    pub fn has_fit_lengths(&self, noted: usize, chip: Chip<'_>) -> bool
+        ensures { result ≡ reader_fits noted self.now chip.entry }
+    {
+        let pages = self.templates.len() / numbers::PAGE;
+        if self.templates.len() != numbers::PAGE * pages {
+            return false;
+        }
+        if pages < 1 {
+            return false;
+        }
+        if numbers::MOST_PAGES < pages {
+            return false;
+        }
+        if self.index.len() != numbers::INDEX {
+            return false;
+        }
+        if self.notepad.len() != noted {
+            return false;
+        }
+        if self.buffer1.len() != numbers::PAGE {
+            return false;
+        }
+        if self.buffer2.len() != numbers::PAGE {
+            return false;
+        }
+        if chip.scores.len() != pages {
+            return false;
+        }
+        chip.thresholds.len() == numbers::LEVELS
+    }
+
+    // Whether its settings, transfer, index bits and origins are legal.
+    fn is_sound(&self) -> bool
+        requires { length self.now.templates.now / page_bytes ≤ most_pages }
+        ensures { result ≡ sound_of (length self.now.templates.now / page_bytes) self.now.index.now self.now.settings.now }
+    {
+        is_sound(*self.settings, self.index, self.templates.len() / numbers::PAGE)
+    }
+
+    /// A call of a reader whose notepad has `noted` bytes, document 01's with 512: the chip's scores and thresholds, a received run, and a reply room.
+    pub fn step(
+        self,
+        noted: usize,
+        chip: Chip<'_>,
+        run: &[u8],
+        reply: &mut [u8],
+    ) -> Result<Lengths, Refusal>
+        ensures { ended_at result self.exit reply.new
+            ≡ call_of (shaped noted) (reader_at self.entry) run.now (lent_at chip.entry reply.old) }
+    {
+        if !self.has_fit_lengths(noted, chip) {
+            return Err(Refusal::BadLength);
+        }
+        if reply.len() < numbers::REPLY_ROOM {
+            return Err(Refusal::BadRoom);
+        }
+        if !self.is_sound() {
+            return Err(Refusal::BadSetting);
+        }
+        let found = finder::find(run);
+        let Found::Whole { at, len } = found else {
+            return Ok(Lengths {
+                used: finder::used_of(found),
+                reply: 0,
+            });
+        };
+        let Reader {
+            settings,
+            templates,
+            index,
+            notepad,
+            buffer1,
+            buffer2,
+        } = self;
+        let mut sound = Sound {
+            settings,
+            templates,
+            index,
+            notepad,
+            buffer1,
+            buffer2,
+            chip,
+        };
+        Ok(sound.hear_packet(run, at, len, reply))
+    }
+}
+
+/// The line switch: any settings and both buffers; marks and status bit 1 cleared, transfer closed, buffers zeroed, origins none. It knows only refusal 1.
+pub fn line_switch(
+    settings: &mut Settings,
     buffer1: &mut [u8],
     buffer2: &mut [u8],
-    scores: &[u16],
-    thresholds: &[u16],
-    run: &[u8],
-    reply: &mut [u8],
-) -> Called
-    ensures { ended_of result templates.new index.new notepad.new buffer1.new buffer2.new reply.new
-        ≡ call_of (shaped noted)
-        (reader_of settings templates.old index.old notepad.old buffer1.old buffer2.old)
-        run.now (lent_of scores.now thresholds.now reply.old) }
-{
-    let fit = is_fit(
-        noted,
-        templates.len(),
-        index.len(),
-        notepad.len(),
-        buffer1.len(),
-        buffer2.len(),
-        scores.len(),
-        thresholds.len(),
-    );
-    if !fit {
-        return called_of(refusals::BAD_LENGTH, 0, 0, settings);
-    }
-    if reply.len() < numbers::REPLY_ROOM {
-        return called_of(refusals::BAD_ROOM, 0, 0, settings);
-    }
-    let legal = is_sound(settings, index, templates.len() / numbers::PAGE);
-    if !legal {
-        return called_of(refusals::BAD_SETTING, 0, 0, settings);
-    }
-    let f = finder::find(run);
-    let Found::Whole { at, len } = f else {
-        return called_of(refusals::ACCEPTED, finder::used_of(f), 0, settings);
-    };
-    hear_packet(
-        settings, templates, index, notepad, buffer1, buffer2, scores, thresholds, run, at, len,
-        reply,
-    )
-}
-
-// A call of document 01's reader, whose notepad has 512.
-pub fn step(
-    settings: Settings,
-    templates: &mut [u8],
-    index: &mut [u8],
-    notepad: &mut [u8],
-    buffer1: &mut [u8],
-    buffer2: &mut [u8],
-    scores: &[u16],
-    thresholds: &[u16],
-    run: &[u8],
-    reply: &mut [u8],
-) -> Called
-    ensures { ended_of result templates.new index.new notepad.new buffer1.new buffer2.new reply.new
-        ≡ call_of core
-        (reader_of settings templates.old index.old notepad.old buffer1.old buffer2.old)
-        run.now (lent_of scores.now thresholds.now reply.old) }
-{
-    step_shaped(
-        numbers::NOTEPAD,
-        settings,
-        templates,
-        index,
-        notepad,
-        buffer1,
-        buffer2,
-        scores,
-        thresholds,
-        run,
-        reply,
-    )
-}
-
-fn switched_of(refusal: u8, settings: Settings) -> Switched
-    ensures { result ≡ switched refusal settings }
-{
-    Switched { settings, refusal }
-}
-
-// The line switch: any settings and both buffers; marks and status bit 1 cleared, transfer closed, buffers zeroed, origins none. It knows only refusal 1.
-pub fn line_switch(settings: Settings, buffer1: &mut [u8], buffer2: &mut [u8]) -> Switched
-    ensures { (t i n : List ℕ) → switched_of result t i n buffer1.new buffer2.new
-        ≡ switch_of (reader_of settings t i n buffer1.old buffer2.old) }
+) -> Result<(), Refusal>
+    ensures { (t i n : List ℕ) → switched_of (switched_at settings.new (refusal_of result)) t i n buffer1.new buffer2.new
+        ≡ switch_of (reader_of settings.old t i n buffer1.old buffer2.old) }
 {
     if buffer1.len() != numbers::PAGE {
-        return switched_of(refusals::BAD_LENGTH, settings);
+        return Err(Refusal::BadLength);
     }
     if buffer2.len() != numbers::PAGE {
-        return switched_of(refusals::BAD_LENGTH, settings);
+        return Err(Refusal::BadLength);
     }
-    wire::bytes::zero(buffer1);
-    wire::bytes::zero(buffer2);
-    switched_of(refusals::ACCEPTED, settings::switched(settings))
+    buffer1.fill(0);
+    buffer2.fill(0);
+    *settings = settings::switched(*settings);
+    Ok(())
 }

@@ -2,22 +2,20 @@
 ghost use Rattle.std.specs.Prelude.{◌≡◌, ◌+◌, ◌≤◌, ◌<◌, length};
 ghost use Rattle.protocol.specs.Bytes.{part, word_at};
 
-use wire::bytes;
-
 // The number in the two bytes at a place.
-pub(crate) fn word_at(s: &[u8], at: usize) -> usize
+pub(crate) fn word_at(s: &[u8], at: usize) -> u16
     requires { at + 1 < length s.now }
-    ensures { (result ≡ word_at s.now at) × (result < 65536) }
+    ensures { result ≡ word_at s.now at }
 {
-    bytes::word(s[at], s[at + 1])
+    u16::from_be_bytes([s[at], s[at + 1]])
 }
 
-// The four bytes at a place.
-pub(crate) fn four_at(s: &[u8], at: usize) -> [u8; 4]
-    requires { at + 4 ≤ length s.now }
-    ensures { (result ≡ part at 4 s.now) × (length result ≡ 4) }
+// The bytes at a place, as many as an array has.
+pub(crate) fn bytes_at<const N: usize>(s: &[u8], at: usize) -> [u8; N]
+    requires { at + N ≤ length s.now }
+    ensures { result ≡ part at N s.now }
 {
-    let mut four = [0u8; 4];
-    bytes::put(&mut four, &s[at..at + 4]);
-    four
+    let mut bytes = [0u8; N];
+    bytes.copy_from_slice(&s[at..at + N]);
+    bytes
 }

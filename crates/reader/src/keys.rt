@@ -1,44 +1,44 @@
 // The commands over password and address: SetPwd, VfyPwd, SetAdder.
-ghost use Rattle.std.specs.Prelude.{◌≡◌, ◌+◌, ◌≤◌, length, drop};
-ghost use Rattle.protocol.specs.Numbers.{four_bytes, highest_size};
+ghost use Rattle.std.specs.Prelude.{◌≡◌};
 ghost use Rattle.protocol.specs.Commands.{verify_password, set_password, set_address};
-ghost use Rattle.reader.specs.Commands.{Obeyed, Freed};
-ghost use Rattle.rules.specs.Settings.{Legal};
+ghost use Rattle.reader.specs.Memory.{Kept, said_of, obeyed, freed};
 
 use crate::answers::Answer;
-use crate::{answers, fields};
-use protocol::{Settings, codes};
+use crate::memory::Sound;
+use protocol::codes::Code;
 use rules::settings;
 use wire::bytes;
 
-// SetPwd.
-pub(crate) fn set_password(settings: Settings, content: &[u8]) -> Answer
-    requires { (length content.now ≡ 1 + four_bytes) × Legal settings }
-    ensures { Obeyed result settings (set_password (drop 1 content.now)) }
-{
-    let p = fields::four_at(content, 1);
-    answers::plain(codes::DONE, settings::with_password(settings, p))
-}
-
-// VfyPwd. All four bytes are compared.
-pub(crate) fn verify_password(settings: Settings, content: &[u8]) -> Answer
-    requires { (length content.now ≡ 1 + four_bytes) × Legal settings }
-    ensures { Freed result settings (verify_password (drop 1 content.now)) }
-{
-    let p = fields::four_at(content, 1);
-    let q = settings.password;
-    let right = bytes::is_same(p, q);
-    if right {
-        return answers::plain(codes::DONE, settings::marked(settings, 1));
+impl Sound<'_> {
+    // SetPwd.
+    pub(crate) fn set_password(&mut self, password: [u8; 4]) -> Answer
+        ensures kept { Kept self.old self.new }
+        ensures obeyed { said_of result self.new ≡ obeyed self.old (set_password password) }
+    {
+        *self.settings = settings::with_password(*self.settings, password);
+        Answer::Alone(Code::Done)
     }
-    answers::plain(codes::WRONG_PASSWORD, settings::marked(settings, 0))
-}
 
-// SetAdder. The reply carries the new address, since it is written with the settings after the command.
-pub(crate) fn set_address(settings: Settings, content: &[u8]) -> Answer
-    requires { (length content.now ≡ 1 + four_bytes) × (settings.size ≤ highest_size) }
-    ensures { Obeyed result settings (set_address (drop 1 content.now)) }
-{
-    let a = fields::four_at(content, 1);
-    answers::plain(codes::DONE, settings::with_address(settings, a))
+    // VfyPwd. All four bytes are compared.
+    pub(crate) fn verify_password(&mut self, password: [u8; 4]) -> Answer
+        ensures kept { Kept self.old self.new }
+        ensures freed { said_of result self.new ≡ freed self.old (verify_password password) }
+    {
+        let right = bytes::is_same(password, self.settings.password);
+        *self.settings = settings::marked(*self.settings, u8::from(right));
+        Answer::Alone(if right {
+            Code::Done
+        } else {
+            Code::WrongPassword
+        })
+    }
+
+    // SetAdder. The reply carries the new address, since it is written with the settings after the command.
+    pub(crate) fn set_address(&mut self, address: [u8; 4]) -> Answer
+        ensures kept { Kept self.old self.new }
+        ensures obeyed { said_of result self.new ≡ obeyed self.old (set_address address) }
+    {
+        *self.settings = settings::with_address(*self.settings, address);
+        Answer::Alone(Code::Done)
+    }
 }

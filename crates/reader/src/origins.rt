@@ -1,17 +1,18 @@
 // The origins of the buffers: whether they are legal, and what becomes of a buffer when pages are deleted.
-ghost use Rattle.std.specs.Prelude.{◌≡◌, ◌≤◌, ◌<◌, length};
-ghost use Rattle.protocol.specs.Numbers.{page_bytes, most_pages};
+ghost use Rattle.std.specs.Prelude.{◌≡◌, ◌≤◌};
+ghost use Rattle.protocol.specs.Numbers.{most_pages};
 ghost use Rattle.protocol.specs.Tests.{among};
 ghost use Rattle.protocol.specs.Reader.{is_one_of};
 ghost use Rattle.protocol.specs.Call.{fit_origin};
 ghost use Rattle.protocol.specs.Records.{origin_of};
-ghost use Rattle.rules.specs.Settings.{origins_fit, Legal};
-ghost use Rattle.reader.specs.Buffers.{ForgotOne, Forgot};
+ghost use Rattle.rules.specs.Settings.{origins_fit};
+ghost use Rattle.reader.specs.Buffers.{buffer_number};
+ghost use Rattle.reader.specs.Memory.{Kept, reader_in, origin_in, without_numbered, without_all};
 
-use crate::buffers;
+use crate::buffers::Buffer;
+use crate::memory::Sound;
 use library::index;
 use protocol::{Settings, numbers};
-use rules::settings;
 
 // Whether an origin is legal: none, or a page below C that is stored, of a filled buffer. Origin, index and mark are guarded, so no branch and no address goes
 // by them: the index is looked at whole. What the compiler makes of that, benchmarks/traces.c looks at.
@@ -36,56 +37,43 @@ pub(crate) fn are_fit(settings: Settings, index: &[u8], pages: usize) -> bool
     one & two
 }
 
-// Whether an origin is one of n pages from a page on.
-fn is_one_of(origin: u16, page: usize, n: usize) -> bool
-    requires { (page < 65536) × (n < 65536) }
-    ensures { result ≡ is_one_of (among page n) (origin_of origin) }
+// Whether an origin is one of so many pages from a page on.
+fn is_one_of(origin: u16, page: u16, count: u16) -> bool
+    ensures { result ≡ is_one_of (among page count) (origin_of origin) }
 {
-    if origin == numbers::NO_PAGE {
-        return false;
-    }
-    let p = origin as usize;
-    if p < page {
-        return false;
-    }
-    p < page + n
+    let start = usize::from(page);
+    let pages = start..start + usize::from(count);
+    origin != numbers::NO_PAGE && pages.contains(&usize::from(origin))
 }
 
-// Empties a buffer whose origin is one of n pages from a page on.
-fn forget_one(
-    settings: Settings,
-    b: &mut [u8],
-    c: &mut [u8],
-    k: u8,
-    page: usize,
-    n: usize,
-) -> Settings
-    requires { (length b.old ≡ page_bytes)
-        × ((length c.old ≡ page_bytes) × ((page < 65536) × ((n < 65536) × Legal settings))) }
-    ensures { ForgotOne k page n result settings b.new c.new b.old c.old }
-{
-    let origin = settings::origin_of(k, settings.origin1, settings.origin2);
-    let gone = is_one_of(origin, page, n);
-    if !gone {
-        return settings;
+impl Sound<'_> {
+    // A buffer's origin.
+    fn origin_of(&self, buffer: Buffer) -> u16
+        ensures { result ≡ origin_in (buffer_number buffer) self.now }
+    {
+        match buffer {
+            Buffer::First => self.settings.origin1,
+            Buffer::Second => self.settings.origin2,
+        }
     }
-    buffers::wipe(k, b, c);
-    buffers::hold(settings, k, 0, numbers::NO_PAGE)
-}
 
-// Empties both buffers of which that holds.
-pub(crate) fn forget(
-    settings: Settings,
-    buffer1: &mut [u8],
-    buffer2: &mut [u8],
-    page: usize,
-    n: usize,
-) -> Settings
-    requires { (length buffer1.old ≡ page_bytes)
-        × ((length buffer2.old ≡ page_bytes) × ((page < 65536) × ((n < 65536) × Legal settings))) }
-    ensures { Forgot page n result settings
-        buffer1.new buffer2.new buffer1.old buffer2.old }
-{
-    let s = forget_one(settings, buffer1, buffer2, 1, page, n);
-    forget_one(s, buffer1, buffer2, 2, page, n)
+    // Empties a buffer if its origin is one of these pages.
+    fn forget_by(&mut self, buffer: Buffer, page: u16, count: u16)
+        ensures kept { Kept self.old self.new }
+        ensures forgot { reader_in self.new ≡ without_numbered (buffer_number buffer) (among page count) (reader_in self.old) }
+    {
+        if !is_one_of(self.origin_of(buffer), page, count) {
+            return;
+        }
+        self.empty_buffer(buffer);
+    }
+
+    // Empties each buffer whose origin is one of these pages.
+    pub(crate) fn forget(&mut self, page: u16, count: u16)
+        ensures kept { Kept self.old self.new }
+        ensures forgot { reader_in self.new ≡ without_all (among page count) (reader_in self.old) }
+    {
+        self.forget_by(Buffer::First, page, count);
+        self.forget_by(Buffer::Second, page, count);
+    }
 }

@@ -1,148 +1,108 @@
 // What an answer writes into the reply room: the acknowledge, and a buffer's bytes in data packets of one size.
-ghost use Rattle.std.specs.Prelude.{◌≡◌, true, cond, ◌∷◌, ◌+◌, ◌-◌, ◌*◌, ◌≤◌, ◌<◌, eqb, length, take};
-ghost use Rattle.protocol.specs.Numbers.{page_bytes, frame_bytes, reply_room, data_packet, last_packet, highest_size};
-ghost use Rattle.protocol.specs.Bytes.{lay, joined};
-ghost use Rattle.protocol.specs.Packet.{length_of, packet, accepts};
+ghost use Rattle.std.specs.Prelude.{◌≡◌, [], ◌+◌, ◌≤◌, length};
+ghost use Rattle.protocol.specs.Numbers.{page_bytes, reply_room, highest_size, done};
+ghost use Rattle.protocol.specs.Bytes.{lay, follow};
+ghost use Rattle.protocol.specs.Codes.{code_number};
 ghost use Rattle.protocol.specs.Reader.{size_of};
-ghost use Rattle.protocol.specs.Data.{acknowledge, packets, data_packets};
-ghost use Rattle.reader.specs.Answers.{spoken_of, Ready, listed_bytes, upload_bytes};
+ghost use Rattle.protocol.specs.Data.{acknowledge, data_packets};
+ghost use Rattle.reader.specs.Answers.{spoken_of, listed_bytes, upload_bytes};
+ghost use Rattle.reader.specs.Buffers.{buffer_number, chosen_of};
 
 use crate::answers::Answer;
-use crate::buffers;
+use crate::buffers::Buffer;
+use crate::memory::Sound;
+use protocol::codes::Code;
+use protocol::identifiers::Identifier;
 use protocol::{Settings, numbers};
 use rules::settings;
 use wire::builder;
 
-// A code with 32 bytes behind it.
-fn content_of(code: u8, bytes: [u8; 32]) -> [u8; 33]
-    ensures { (result ≡ code ∷ bytes) × (length result ≡ 1 + listed_bytes) }
+// Writes an acknowledge at the front of the reply room, and returns its length. The number of its bytes is fixed for each kind of answer, which makes
+// the short ones quick.
+fn put_acknowledge<const N: usize>(
+    address: [u8; 4],
+    code: Code,
+    bytes: [u8; N],
+    reply: &mut [u8],
+) -> usize
+    requires few { N ≤ listed_bytes }
+    requires room { reply_room ≤ length reply.old }
+    ensures length { result ≡ length (acknowledge address (code_number code) bytes.entry) }
+    ensures written { reply.new ≡ lay 0 (acknowledge address (code_number code) bytes.entry) reply.old }
 {
-    let mut content = [0u8; 33];
-    content[0] = code;
-    wire::bytes::put(&mut content[1..33], &bytes);
-    content
-}
-
-// Writes an acknowledge at the front of the reply room. Most have a code alone, and TempleteNum's has two bytes behind it: these two have a content of
-// fixed length.
-fn put_acknowledge(a: Answer, reply: &mut [u8]) -> usize
-    requires { (a.count ≤ listed_bytes) × (reply_room ≤ length reply.old) }
-    ensures { (result ≡ a.count + 1 + frame_bytes)
-        × (reply.new ≡ lay 0 (acknowledge a.settings.address a.code (take a.count a.bytes)) reply.old) }
-{
-    let n = a.count;
-    let s = a.settings;
-    let address = s.address;
-    if n == 0 {
-        let alone = [a.code];
-        let made = builder::build(address, numbers::ACKNOWLEDGE_PACKET, &alone, reply);
-        return made.length;
-    }
-    let bytes = a.bytes;
-    if n == 2 {
-        let high = bytes[0];
-        let low = bytes[1];
-        let word = [a.code, high, low];
-        let made = builder::build(address, numbers::ACKNOWLEDGE_PACKET, &word, reply);
-        return made.length;
-    }
-    let content = content_of(a.code, bytes);
-    let made = builder::build(
+    let mut content = [0; numbers::NOTE + 1];
+    content[0] = u8::from(code);
+    content[1..N + 1].copy_from_slice(&bytes);
+    builder::lay_packet(
         address,
-        numbers::ACKNOWLEDGE_PACKET,
-        &content[..n + 1],
+        Identifier::Acknowledge as u8,
+        &content[..N + 1],
         reply,
-    );
-    made.length
+    )
 }
 
-fn data_identifier(left: usize) -> u8
-    requires { 0 < left }
-    ensures { result ≡ cond (eqb (left - 1) 0) last_packet data_packet }
+// Writes a buffer in data packets into the reply room from place at on, and returns the place behind them.
+fn put_data(settings: Settings, bytes: &[u8], at: usize, reply: &mut [u8]) -> usize
+    requires legal { settings.size ≤ highest_size }
+    requires page { length bytes.now ≡ page_bytes }
+    requires room { at + upload_bytes ≤ length reply.old }
+    ensures end { result ≡ at + length (data_packets settings.address (size_of settings.size) bytes.now) }
+    ensures written { reply.new ≡ lay at (data_packets settings.address (size_of settings.size) bytes.now) reply.old }
 {
-    if left == 1 {
-        numbers::LAST_PACKET
-    } else {
-        numbers::DATA_PACKET
-    }
-}
-
-// Writes one packet into the reply room from place at on.
-fn put_packet(
-    reply: &mut [u8],
-    at: usize,
-    identifier: u8,
-    address: [u8; 4],
-    content: &[u8],
-) -> usize
-    requires { (at + length content.now + frame_bytes ≤ length reply.old)
-        × (accepts identifier (length_of content.now) ≡ true) }
-    ensures { (result ≡ at + length content.now + frame_bytes)
-        × (reply.new ≡ lay at (packet address identifier content.now) reply.old) }
-{
-    let e = at + content.len() + numbers::FRAME;
-    builder::build(address, identifier, content, &mut reply[at..e]);
-    e
-}
-
-// Writes count data packets of one size into the reply room from place at on.
-fn put_data(
-    reply: &mut [u8],
-    at: usize,
-    address: [u8; 4],
-    size: usize,
-    count: usize,
-    src: &[u8],
-) -> usize
-    requires { (accepts data_packet (size + 2) ≡ true)
-        × ((accepts last_packet (size + 2) ≡ true)
-        × ((length src.now ≡ count * size) × (at + count * (size + frame_bytes) ≤ length reply.old))) }
-    ensures { (result ≡ at + count * (size + frame_bytes))
-        × (reply.new ≡ lay at (joined (packets address count size src.now)) reply.old) }
-{
-    let mut left = count;
-    let mut from = 0;
+    let size = settings::size_of(settings.size);
+    let step = size + numbers::FRAME;
+    let end = at + bytes.len() / size * step;
     let mut to = at;
-    while 0 < left {
-        let i = data_identifier(left);
-        let e = from + size;
-        to = put_packet(reply, to, i, address, &src[from..e]);
-        from = e;
-        left = left - 1;
+    for content in bytes.chunks_exact(size) {
+        let next = to + step;
+        let identifier = if next == end {
+            Identifier::Last as u8
+        } else {
+            Identifier::Data as u8
+        };
+        builder::lay_packet(settings.address, identifier, content, &mut reply[to..next]);
+        to = next;
     }
-    to
+    end
 }
 
-// Writes the data packets of a buffer behind the acknowledge.
-fn send(settings: Settings, at: usize, src: &[u8], reply: &mut [u8]) -> usize
-    requires { (settings.size ≤ highest_size)
-        × ((length src.now ≡ page_bytes) × (at + upload_bytes ≤ length reply.old)) }
-    ensures { (result ≡ at + length (data_packets settings.address (size_of settings.size) src.now))
-        × (reply.new ≡ lay at (data_packets settings.address (size_of settings.size) src.now) reply.old) }
+// Writes an acknowledge of 00h at the front of the reply room, and a buffer in data packets behind it, and returns their length.
+fn put_upload(settings: Settings, bytes: &[u8], reply: &mut [u8]) -> usize
+    requires legal { settings.size ≤ highest_size }
+    requires page { length bytes.now ≡ page_bytes }
+    requires room { reply_room ≤ length reply.old }
+    ensures length { result ≡ length (follow (acknowledge settings.address done []) (data_packets settings.address (size_of settings.size) bytes.now)) }
+    ensures written { reply.new ≡ lay 0 (follow (acknowledge settings.address done []) (data_packets settings.address (size_of settings.size) bytes.now)) reply.old }
 {
-    let z = settings::size_of(settings.size);
-    let k = numbers::PAGE / z;
-    let address = settings.address;
-    put_data(reply, at, address, z, k, src)
+    let at = put_acknowledge(settings.address, Code::Done, [], reply);
+    put_data(settings, bytes, at, reply)
 }
 
-// Writes what an answer says, and returns its length.
-pub(crate) fn speak<'a>(a: Answer, b: &'a [u8], c: &'a [u8], reply: &mut [u8]) -> usize
-    requires { Ready a
-        × ((length b.now ≡ page_bytes) × ((length c.now ≡ page_bytes) × (reply_room ≤ length reply.old))) }
-    ensures { (result ≡ length (spoken_of a b.now c.now))
-        × (reply.new ≡ lay 0 (spoken_of a b.now c.now) reply.old) }
-{
-    let speaks = a.speaks;
-    if speaks {
-        let n = put_acknowledge(a, reply);
-        let up = a.upload;
-        if up == 0 {
-            return n;
+impl Sound<'_> {
+    fn bytes_of(&self, buffer: Buffer) -> &[u8]
+        ensures { result.now ≡ chosen_of (buffer_number buffer) self.now.buffer1.now self.now.buffer2.now }
+    {
+        match buffer {
+            Buffer::First => &*self.buffer1,
+            Buffer::Second => &*self.buffer2,
         }
-        let s = a.settings;
-        let src = buffers::chosen(up, b, c);
-        return send(s, n, src, reply);
     }
-    0
+
+    // Writes what an answer says at the front of the reply room, and returns its length.
+    pub(crate) fn speak(&self, answer: Answer, reply: &mut [u8]) -> usize
+        requires { reply_room ≤ length reply.old }
+        ensures length { result ≡ length (spoken_of answer self.now.settings.now self.now.buffer1.now self.now.buffer2.now) }
+        ensures written { reply.new ≡ lay 0 (spoken_of answer self.now.settings.now self.now.buffer1.now self.now.buffer2.now) reply.old }
+    {
+        let address = self.settings.address;
+        match answer {
+            Answer::Silence => 0,
+            Answer::Alone(code) => put_acknowledge(address, code, [], reply),
+            Answer::Count(bytes) => put_acknowledge(address, Code::Done, bytes, reply),
+            Answer::Match(code, bytes) => put_acknowledge(address, code, bytes, reply),
+            Answer::Parameters(bytes) => put_acknowledge(address, Code::Done, bytes, reply),
+            Answer::Page(bytes) => put_acknowledge(address, Code::Done, bytes, reply),
+            Answer::Upload(buffer) => put_upload(*self.settings, self.bytes_of(buffer), reply),
+        }
+    }
 }

@@ -1,44 +1,57 @@
 // Search (request [8]), by the chip's scores and thresholds.
-ghost use Rattle.std.specs.Prelude.{◌≡◌, ◌≤◌, ◌<◌, length};
-ghost use Rattle.protocol.specs.Numbers.{index_bytes, most_pages};
+ghost use Rattle.std.specs.Prelude.{◌≡◌};
+ghost use Rattle.protocol.specs.Search.{match_of, search_of};
 ghost use Rattle.protocol.specs.Commands.{search_for};
-ghost use Rattle.reader.specs.Commands.{ObeyedSearch};
-ghost use Rattle.rules.specs.Settings.{Legal};
+ghost use Rattle.reader.specs.Answers.{answer_in};
+ghost use Rattle.reader.specs.Search.{AnswersMatch};
+ghost use Rattle.reader.specs.Memory.{Kept, reader_in, chip_at, said_of, obeyed};
 
 use crate::answers::Answer;
-use crate::{answers, buffers};
+use crate::buffers::Buffer;
+use crate::memory::Sound;
 use library::search;
-use protocol::{Settings, codes};
+use protocol::Match;
+use protocol::codes::Code;
 use rules::settings;
-use wire::bytes;
 
-// Search (buffer, start, count). There are as many scores as pages.
-pub(crate) fn search_pages(
-    settings: Settings,
-    index: &[u8],
-    scores: &[u16],
-    thresholds: &[u16],
-    n: u8,
-    start: usize,
-    count: usize,
-) -> Answer
-    requires { (length index.now ≡ index_bytes)
-        × ((length scores.now ≤ most_pages) × ((start < 65536) × ((count < 65536) × Legal settings))) }
-    ensures { ObeyedSearch result settings (search_for n start count) index.now scores.now thresholds.now }
+// Page and score of what is found; 09h, page 0 and score 0 where none is.
+fn answer_of(found: Option<Match>) -> Answer
+    ensures { AnswersMatch result (match_of found) }
 {
-    let known = buffers::is_buffer(n);
-    if !known {
-        return answers::plain(codes::BAD_PACKET, settings);
+    match found {
+        Some(best) => {
+            let [page1, page2] = best.page.to_be_bytes();
+            let [score1, score2] = best.score.to_be_bytes();
+            Answer::Match(Code::Done, [page1, page2, score1, score2])
+        }
+        None => Answer::Match(Code::NotFound, [0; 4]),
     }
-    if scores.len() <= start {
-        return answers::plain(codes::BAD_PAGE, settings);
+}
+
+impl Sound<'_> {
+    // The best of the stored pages from start on, by the threshold of the level in force.
+    fn find(&self, start: u16, count: u16) -> Option<Match>
+        ensures { match_of result
+            ≡ search_of (chip_at self.now.chip) self.now.settings.now.level (reader_in self.now).guarded start count }
+    {
+        let threshold = search::threshold_of(self.chip.thresholds, self.settings.level);
+        search::best(self.index, self.chip.scores, threshold, start, count)
     }
-    let full = settings::filled_of(n, settings.filled1, settings.filled2);
-    if !full {
-        return answers::plain(codes::NOTHING_THERE, settings);
+
+    // Search (buffer, start, count).
+    pub(crate) fn search_for(&mut self, number: u8, start: u16, count: u16) -> Result<Answer, Code>
+        ensures kept { Kept self.old self.new }
+        ensures obeyed { said_of (answer_in result) self.new ≡ obeyed self.old (search_for number start count) }
+    {
+        let buffer = Buffer::try_from(number)?;
+        if self.chip.scores.len() <= usize::from(start) {
+            return Err(Code::BadPage);
+        }
+        if !self.is_filled(buffer) {
+            return Err(Code::NothingThere);
+        }
+        let found = self.find(start, count);
+        *self.settings = settings::remembered(*self.settings, u8::from(found.is_some()));
+        Ok(answer_of(found))
     }
-    let threshold = search::threshold_of(thresholds, settings.level);
-    let m = search::best(index, scores, threshold, start as u16, count as u16);
-    let found = bytes::flag(m.found);
-    answers::matched(m, settings::remembered(settings, found))
 }

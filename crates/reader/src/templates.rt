@@ -1,169 +1,128 @@
-// The commands over the library: Store, LoadChar, DeletChar, Empty, TempleteNum, ReadIndexTable. Each takes only the memory it touches, and
-// its contract is the table's row of every reader that has that memory.
-ghost use Rattle.std.specs.Prelude.{◌≡◌, ◌*◌, ◌/◌, ◌≤◌, ◌<◌, length};
-ghost use Rattle.protocol.specs.Numbers.{page_bytes, index_bytes, most_pages, highest_size};
-ghost use Rattle.protocol.specs.Bytes.{lay};
-ghost use Rattle.protocol.specs.Index.{set_bit};
+// The commands over the library: Store, LoadChar, DeletChar, Empty, TempleteNum, ReadIndexTable.
+ghost use Rattle.std.specs.Prelude.{◌≡◌, ◌/◌, ◌<◌, true, length};
+ghost use Rattle.protocol.specs.Numbers.{page_bytes};
+ghost use Rattle.protocol.specs.Index.{stored};
 ghost use Rattle.protocol.specs.Commands.{store, load_char, delet_char, empty, templete_num, read_index_table};
-ghost use Rattle.reader.specs.Buffers.{chosen_of};
-ghost use Rattle.reader.specs.Commands.{ObeyedCopy, ObeyedIndex};
-ghost use Rattle.rules.specs.Settings.{Legal};
+ghost use Rattle.reader.specs.Answers.{answer_in};
+ghost use Rattle.reader.specs.Buffers.{buffer_number};
+ghost use Rattle.reader.specs.Memory.{Kept, reader_in, filled_of, stored_numbered, said_of, obeyed};
 
 use crate::answers::Answer;
-use crate::{answers, buffers, origins};
+use crate::buffers::{self, Buffer};
+use crate::memory::Sound;
+use crate::pages::page_of;
 use library::{index, pages};
-use protocol::{Settings, codes, numbers};
-use rules::settings;
-use wire::bytes;
+use protocol::codes::Code;
+use protocol::numbers;
 
-// Copies a buffer to a page, and sets the page's bit.
-fn store_now<'a>(
-    templates: &mut [u8],
-    index: &mut [u8],
-    b: &'a [u8],
-    c: &'a [u8],
-    n: u8,
-    page: usize,
-)
-    requires { (length b.now ≡ page_bytes)
-        × ((length c.now ≡ page_bytes) × (page < length templates.old / page_bytes)) }
-    ensures { (templates.new ≡ lay (page_bytes * page) (chosen_of n b.now c.now) templates.old)
-        × (index.new ≡ set_bit index.old page) }
-{
-    let src = buffers::chosen(n, b, c);
-    pages::write_page(templates, page, src);
-    index::set_bit(index, page);
-}
+impl Sound<'_> {
+    // Whether a page is stored.
+    fn is_stored(&self, page: u16) -> bool
+        ensures { result ≡ stored self.now.index.now page }
+    {
+        index::has_bit(self.index, usize::from(page))
+    }
 
-// Store (buffer, page).
-pub(crate) fn store_page<'a>(
-    settings: Settings,
-    templates: &mut [u8],
-    index: &mut [u8],
-    b: &'a [u8],
-    c: &'a [u8],
-    n: u8,
-    page: usize,
-) -> Answer
-    requires { (length b.now ≡ page_bytes)
-        × ((length c.now ≡ page_bytes) × ((length templates.old / page_bytes ≤ most_pages) × Legal settings)) }
-    ensures { ObeyedCopy result settings (store n page)
-        templates.old index.old b.now c.now
-        templates.new index.new b.now c.now }
-{
-    let known = buffers::is_buffer(n);
-    if !known {
-        return answers::plain(codes::BAD_PACKET, settings);
+    // Copies a filled buffer to a page, which is stored then, and the buffer's origin.
+    fn store_buffer(&mut self, buffer: Buffer, page: u16)
+        requires there { page < length self.old.templates.now / page_bytes }
+        requires filled { filled_of (buffer_number buffer) self.old ≡ true }
+        ensures kept { Kept self.old self.new }
+        ensures stored { reader_in self.new ≡ stored_numbered (buffer_number buffer) page (reader_in self.old) }
+    {
+        let place = usize::from(page);
+        *self.settings = buffers::hold(*self.settings, buffer, 1, page);
+        index::set_bit(self.index, place);
+        // Of a field that is lent to be read, the proof keeps the length alone, but of `src` the bytes.
+        match buffer {
+            Buffer::First => {
+                let src = &mut *self.buffer1;
+                pages::write_page(self.templates, place, src);
+            }
+            Buffer::Second => {
+                let src = &mut *self.buffer2;
+                pages::write_page(self.templates, place, src);
+            }
+        }
     }
-    if templates.len() / numbers::PAGE <= page {
-        return answers::plain(codes::BAD_PAGE, settings);
-    }
-    let full = settings::filled_of(n, settings.filled1, settings.filled2);
-    if !full {
-        return answers::plain(codes::NOTHING_THERE, settings);
-    }
-    let taken = index::has_bit(index, page);
-    if taken {
-        return answers::plain(codes::PAGE_TAKEN, settings);
-    }
-    store_now(templates, index, b, c, n, page);
-    answers::plain(codes::DONE, buffers::hold(settings, n, 1, page as u16))
-}
 
-// LoadChar (buffer, page).
-pub(crate) fn load_page(
-    settings: Settings,
-    templates: &[u8],
-    index: &[u8],
-    buffer1: &mut [u8],
-    buffer2: &mut [u8],
-    n: u8,
-    page: usize,
-) -> Answer
-    requires { (length buffer1.old ≡ page_bytes)
-        × ((length buffer2.old ≡ page_bytes) × ((length templates.now / page_bytes ≤ most_pages) × Legal settings)) }
-    ensures { ObeyedCopy result settings (load_char n page)
-        templates.now index.now buffer1.old buffer2.old
-        templates.now index.now buffer1.new buffer2.new }
-{
-    let known = buffers::is_buffer(n);
-    if !known {
-        return answers::plain(codes::BAD_PACKET, settings);
+    // Store (buffer, page).
+    pub(crate) fn store(&mut self, number: u8, page: u16) -> Result<Answer, Code>
+        ensures kept { Kept self.old self.new }
+        ensures obeyed { said_of (answer_in result) self.new ≡ obeyed self.old (store number page) }
+    {
+        let buffer = Buffer::try_from(number)?;
+        if self.templates.len() / numbers::PAGE <= usize::from(page) {
+            return Err(Code::BadPage);
+        }
+        if !self.is_filled(buffer) {
+            return Err(Code::NothingThere);
+        }
+        if self.is_stored(page) {
+            return Err(Code::PageTaken);
+        }
+        self.store_buffer(buffer, page);
+        Ok(Answer::Alone(Code::Done))
     }
-    if templates.len() / numbers::PAGE <= page {
-        return answers::plain(codes::BAD_PAGE, settings);
+
+    // LoadChar (buffer, page).
+    pub(crate) fn load_char(&mut self, number: u8, page: u16) -> Result<Answer, Code>
+        ensures kept { Kept self.old self.new }
+        ensures obeyed { said_of (answer_in result) self.new ≡ obeyed self.old (load_char number page) }
+    {
+        let buffer = Buffer::try_from(number)?;
+        let place = usize::from(page);
+        if self.templates.len() / numbers::PAGE <= place {
+            return Err(Code::BadPage);
+        }
+        if !self.is_stored(page) {
+            return Err(Code::NothingThere);
+        }
+        self.load_buffer(buffer, place);
+        Ok(Answer::Alone(Code::Done))
     }
-    let there = index::has_bit(index, page);
-    if !there {
-        return answers::plain(codes::NOTHING_THERE, settings);
+
+    // DeletChar (page, count).
+    pub(crate) fn delet_char(&mut self, page: u16, count: u16) -> Result<Answer, Code>
+        ensures kept { Kept self.old self.new }
+        ensures obeyed { said_of (answer_in result) self.new ≡ obeyed self.old (delet_char page count) }
+    {
+        if !pages::is_span(page, count, self.templates.len() / numbers::PAGE) {
+            return Err(Code::BadRange);
+        }
+        pages::zero_pages(self.templates, page, count);
+        index::clear_bits(self.index, page, count);
+        self.forget(page, count);
+        Ok(Answer::Alone(Code::Done))
     }
-    buffers::load(n, buffer1, buffer2, templates, page);
-    answers::plain(codes::DONE, buffers::hold(settings, n, 1, page as u16))
-}
 
-// DeletChar (page, n).
-pub(crate) fn delete_pages(
-    settings: Settings,
-    templates: &mut [u8],
-    index: &mut [u8],
-    buffer1: &mut [u8],
-    buffer2: &mut [u8],
-    page: usize,
-    n: usize,
-) -> Answer
-    requires { (length buffer1.old ≡ page_bytes)
-        × ((length buffer2.old ≡ page_bytes) × ((page < 65536) × ((n < 65536) × Legal settings))) }
-    ensures { ObeyedCopy result settings (delet_char page n)
-        templates.old index.old buffer1.old buffer2.old
-        templates.new index.new buffer1.new buffer2.new }
-{
-    let there = pages::is_span(page as u16, n as u16, templates.len() / numbers::PAGE);
-    if !there {
-        return answers::plain(codes::BAD_RANGE, settings);
+    // Empty.
+    pub(crate) fn empty(&mut self) -> Answer
+        ensures kept { Kept self.old self.new }
+        ensures obeyed { said_of result self.new ≡ obeyed self.old empty }
+    {
+        let pages = self.templates.len() / numbers::PAGE;
+        self.templates.fill(0);
+        self.index.fill(0);
+        self.forget(0, pages as u16);
+        Answer::Alone(Code::Done)
     }
-    pages::zero_pages(templates, page as u16, n as u16);
-    index::clear_bits(index, page as u16, n as u16);
-    let s = origins::forget(settings, buffer1, buffer2, page, n);
-    answers::plain(codes::DONE, s)
-}
 
-// Empty.
-pub(crate) fn empty_all(
-    settings: Settings,
-    templates: &mut [u8],
-    index: &mut [u8],
-    buffer1: &mut [u8],
-    buffer2: &mut [u8],
-) -> Answer
-    requires { (length buffer1.old ≡ page_bytes)
-        × ((length buffer2.old ≡ page_bytes) × ((length templates.old / page_bytes ≤ most_pages) × Legal settings)) }
-    ensures { ObeyedCopy result settings empty
-        templates.old index.old buffer1.old buffer2.old
-        templates.new index.new buffer1.new buffer2.new }
-{
-    let pages = templates.len() / numbers::PAGE;
-    bytes::zero(templates);
-    bytes::zero(index);
-    let s = origins::forget(settings, buffer1, buffer2, 0, pages);
-    answers::plain(codes::DONE, s)
-}
+    // TempleteNum.
+    pub(crate) fn templete_num(&self) -> Answer
+        ensures { said_of result self.now ≡ obeyed self.now templete_num }
+    {
+        let count = index::count(self.index, numbers::INDEX as u8).unwrap();
+        Answer::Count(count.to_be_bytes())
+    }
 
-// TempleteNum.
-pub(crate) fn count_pages(settings: Settings, index: &[u8]) -> Answer
-    requires { (length index.now ≡ index_bytes) × (settings.size ≤ highest_size) }
-    ensures { ObeyedIndex result settings templete_num index.now }
-{
-    let n = index::count(index, numbers::INDEX as u8);
-    let mut bytes = [0u8; 32];
-    bytes[0] = (n / 256) as u8;
-    bytes[1] = (n % 256) as u8;
-    answers::listed(bytes, 2, settings)
-}
-
-// ReadIndexTable (page).
-pub(crate) fn read_index(settings: Settings, index: &[u8], page: u8) -> Answer
-    requires { settings.size ≤ highest_size }
-    ensures { ObeyedIndex result settings (read_index_table page) index.now }
-{
-    answers::page_of(settings, index, page, codes::BAD_PAGE)
+    // ReadIndexTable (page).
+    pub(crate) fn read_index_table(&self, page: u8) -> Result<Answer, Code>
+        ensures { said_of (answer_in result) self.now ≡ obeyed self.now (read_index_table page) }
+    {
+        match page_of(self.index, page) {
+            Some(bytes) => Ok(Answer::Page(bytes)),
+            None => Err(Code::BadPage),
+        }
+    }
 }

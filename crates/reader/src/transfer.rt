@@ -1,82 +1,77 @@
 // Steps 6 and 7: an open transfer ended, and its data packets.
-ghost use Rattle.std.specs.Prelude.{◌≡◌, true, List, ℕ, eqb, length};
+ghost use Rattle.std.specs.Prelude.{◌≡◌, ◌+◌, ◌≤◌, true, cond, eqb, length};
 ghost use Rattle.protocol.specs.Numbers.{page_bytes};
+ghost use Rattle.protocol.specs.Reader.{size_of};
 ghost use Rattle.protocol.specs.Step.{rested, take_as, take_in};
-ghost use Rattle.protocol.specs.Records.{plain_of, reader_of};
-ghost use Rattle.reader.specs.Answers.{said_of, Ready};
-ghost use Rattle.reader.specs.Calls.{Placing};
-ghost use Rattle.rules.specs.Settings.{Legal};
+ghost use Rattle.protocol.specs.Records.{plain_of};
+ghost use Rattle.rules.specs.Settings.{with_transfer};
+ghost use Rattle.reader.specs.declared.answers.Answer.TheVariants.{Silence};
+ghost use Rattle.reader.specs.Buffers.{buffer_number, with_fill};
+ghost use Rattle.reader.specs.Memory.{Kept, reader_in, said_of};
 
 use crate::answers::Answer;
-use crate::{answers, buffers};
-use protocol::{Settings, codes, numbers};
-use rules::settings;
+use crate::buffers;
+use crate::buffers::Buffer;
+use crate::memory::Sound;
+use protocol::Settings;
+use protocol::codes::Code;
+use rules::{settings, transfer};
 
-// Ends an open transfer: its buffer is zeroed.
-pub(crate) fn end_transfer(settings: Settings, buffer1: &mut [u8], buffer2: &mut [u8]) -> Settings
-    requires { (length buffer1.old ≡ page_bytes) × ((length buffer2.old ≡ page_bytes) × Legal settings) }
-    ensures { ((t i m : List ℕ)
-        → reader_of result t i m buffer1.new buffer2.new
-        ≡ rested (reader_of settings t i m buffer1.old buffer2.old))
-        × Legal result }
+// The settings once a data packet has gone in, up to a place: the last sets the filled mark and closes the transfer.
+fn moved_on(settings: Settings, buffer: Buffer, next: u16, last: bool) -> Settings
+    ensures { result ≡ cond last (with_transfer 0 0 (with_fill (buffer_number buffer) 1 settings)) (with_transfer settings.transfer next settings) }
 {
-    let n = settings.transfer;
-    if n == 0 {
-        return settings;
-    }
-    buffers::wipe(n, buffer1, buffer2);
-    let s = buffers::hold(settings, n, 0, numbers::NO_PAGE);
-    settings::moved(s, 0, 0)
-}
-
-// A data packet that fits goes in at the place reached; the last sets the filled mark and closes the transfer.
-fn place(
-    settings: Settings,
-    buffer1: &mut [u8],
-    buffer2: &mut [u8],
-    content: &[u8],
-    last: bool,
-) -> Answer
-    requires { Placing settings buffer1.old buffer2.old content.now }
-    ensures { ((t i m : List ℕ)
-        → said_of result t i m buffer1.new buffer2.new
-        ≡ take_as (reader_of settings t i m buffer1.old buffer2.old) (eqb settings.transfer 2) settings.got
-        content.now true last)
-        × Ready result }
-{
-    let got = settings.got as usize;
-    let next = (got + content.len()) as u16;
-    let n = settings.transfer;
-    buffers::fill(n, buffer1, buffer2, got, content);
     if last {
-        return answers::silent(settings::moved(buffers::mark(settings, n, 1), 0, 0));
+        settings::moved(buffers::mark(settings, buffer, 1), 0, 0)
+    } else {
+        settings::moved(settings, settings.transfer, next)
     }
-    answers::silent(settings::moved(settings, n, next))
 }
 
-// A data packet.
-pub(crate) fn take_part(
-    settings: Settings,
-    buffer1: &mut [u8],
-    buffer2: &mut [u8],
-    content: &[u8],
-    right: bool,
-    last: bool,
-) -> Answer
-    requires { (length buffer1.old ≡ page_bytes) × ((length buffer2.old ≡ page_bytes) × Legal settings) }
-    ensures { ((t i m : List ℕ)
-        → said_of result t i m buffer1.new buffer2.new
-        ≡ take_in (reader_of settings t i m buffer1.old buffer2.old) last right content.now
-        (plain_of settings).transfer)
-        × Ready result }
-{
-    if settings.transfer == 0 {
-        return answers::silent(settings);
+impl Sound<'_> {
+    // Ends an open transfer: its buffer is zeroed.
+    pub(crate) fn end_transfer(&mut self)
+        ensures kept { Kept self.old self.new }
+        ensures rested { reader_in self.new ≡ rested (reader_in self.old) }
+    {
+        if let Ok(buffer) = Buffer::try_from(self.settings.transfer) {
+            self.empty_buffer(buffer);
+            *self.settings = settings::moved(*self.settings, 0, 0);
+        }
     }
-    let fit = rules::transfer::does_fit(settings, right, last, content.len());
-    if fit {
-        return place(settings, buffer1, buffer2, content, last);
+
+    // A data packet that fits goes in at the place reached.
+    fn place(&mut self, buffer: Buffer, content: &[u8], last: bool)
+        requires opened { self.old.settings.now.transfer ≡ buffer_number buffer }
+        requires room { self.old.settings.now.got + length content.now ≤ page_bytes }
+        requires long { length content.now ≡ size_of self.old.settings.now.size }
+        ensures kept { Kept self.old self.new }
+        ensures placed { said_of Silence self.new
+            ≡ take_as (reader_in self.old) (eqb (buffer_number buffer) 2) self.old.settings.now.got content.now true last }
+    {
+        let at = usize::from(self.settings.got);
+        let next = at + content.len();
+        *self.settings = moved_on(*self.settings, buffer, next as u16, last);
+        match buffer {
+            Buffer::First => self.buffer1[at..next].copy_from_slice(content),
+            Buffer::Second => self.buffer2[at..next].copy_from_slice(content),
+        }
     }
-    let s = end_transfer(settings, buffer1, buffer2);
-    answers::plain(codes::TRANSFER_FAILED, s)
+
+    // A data packet.
+    pub(crate) fn take_part(&mut self, content: &[u8], right: bool, last: bool) -> Answer
+        ensures kept { Kept self.old self.new }
+        ensures taken { said_of result self.new
+            ≡ take_in (reader_in self.old) last right content.now (plain_of self.old.settings.now).transfer }
+    {
+        let Ok(buffer) = Buffer::try_from(self.settings.transfer) else {
+            return Answer::Silence;
+        };
+        if !transfer::does_fit(*self.settings, right, last, content.len()) {
+            self.end_transfer();
+            return Answer::Alone(Code::TransferFailed);
+        }
+        self.place(buffer, content, last);
+        Answer::Silence
+    }
 }

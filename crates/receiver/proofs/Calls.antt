@@ -9,23 +9,22 @@ use lib.Dec.{leb}
 use lib.ListN.{length, take, drop, length-take}
 use borrow.Author.Tests.{le-leb, lt-leb}
 use Rattle.protocol.specs.declared.Settings.{Settings}
-use Rattle.protocol.specs.declared.Switched.{Switched}
 use Rattle.protocol.specs.declared.Receiver.{Receiver}
-use Rattle.protocol.specs.declared.Received.{Received}
-use Rattle.protocol.specs.declared.Emptied.{Emptied}
+use Rattle.protocol.specs.declared.refusals.Refusal.{Refusal}
+use Rattle.protocol.specs.declared.refusals.Refusal.TheVariants.{BadLength, BadRoom, BadSetting, BadContent}
+use Rattle.protocol.specs.Codes.{refusal_number}
 use Rattle.protocol.specs.Numbers.{holds, reply_room, bad_length, bad_room, bad_setting}
 use Rattle.protocol.specs.Tests.{verdict}
 use Rattle.protocol.specs.Reader.{Reader, capacity}
 use Rattle.protocol.specs.Step.{step_of}
 use Rattle.protocol.specs.Call.{Shape, shaped, fit_lengths, fit_chip, fit_room, sound, Lent, Told, Ended, refused, carried, call_of, switch_refusal, switch_as, switch_of}
 use Rattle.protocol.specs.Receiver.{holding, Line, line, Handed, fitting, run_of, handed, declined, receive_refusal, receive_as, receive_of, line_switch_as, line_switch_of}
-use Rattle.protocol.specs.Records.{reader_of, chip_of, lent_of, switched_of, received_of, emptied_of}
+use Rattle.protocol.specs.Records.{reader_of, chip_of, lent_of, switched_of, switched_at, emptied_of, emptied_at}
 use Rattle.protocol.proofs.Laws.Answers.{call_kinds}
 use Rattle.protocol.proofs.Laws.Finder.{used_in}
 use Rattle.protocol.proofs.Laws.Holding.{handed_by, receive_call, receive_kinds}
 use Rattle.reader.proofs.Calls.{lengths_are}
 use Rattle.receiver.specs.Full.{full_refusal}
-use Rattle.receiver.specs.Made.{received, emptied}
 
 -- a call uses no more than its run has
 pub used_within : (σ : Shape) (r : Reader) (n : ℕ) (s : List ℕ) (lent : Lent) (e : Ended) → e ≡ call_of σ r (take n s) lent → e.told.used ≤ n
@@ -36,22 +35,27 @@ used_within σ r n s lent e q =
 
 -- ---- a count above what a receiver holds: refused by the lengths alone
 
-pub full : (v : ℕ) (h : Receiver) (s : Settings) (t i n b d c o piece room : List ℕ) (k : ℕ) (r : Received)
-    → holds < h.count → k ≡ full_refusal v (length t) (length i) (length n) (length b) (length d) (length c) (length o) (length room) → r ≡ received h s k 0 0
-    → received_of r t i n b d room ≡ receive_of (shaped v) (line (reader_of s t i n b d) h) piece (lent_of c o room)
+pub full : (v : ℕ) (h : Receiver) (r : Reader) (c o piece room : List ℕ) (k : ℕ) (fit : Bool)
+    → holds < h.count → (fit_lengths (shaped v) r.guarded && fit_chip (capacity r.guarded) (chip_of c o)) ≡ fit → k ≡ full_refusal fit (length room)
+    → declined k (line r h) room ≡ receive_of (shaped v) (line r h) piece (lent_of c o room)
 unfolding full_refusal receive_of receive_as receive_refusal verdict fit_room refused
-full v h s t i n b d c o piece room k r l e q =
-    let x : Line = line (reader_of s t i n b d) h in
-    rw (q, e, ← lengths_are v x.reader.guarded (chip_of c o), lt-leb _ _ l)
-    (go (fit_lengths (shaped v) x.reader.guarded) (fit_chip (capacity x.reader.guarded) (chip_of c o)) (leb reply_room (length room)) (sound x.reader))
+full v h r c o piece room k fit l f e =
+    rw (e, ← f, lt-leb _ _ l) (go (fit_lengths (shaped v) r.guarded) (fit_chip (capacity r.guarded) (chip_of c o)) (leb reply_room (length room)) (sound r))
   where
-    go : (f χ l w : Bool) → declined (cond (f && χ) (cond l bad_setting bad_room) bad_length) (line (reader_of s t i n b d) h) room
-        ≡ receive_as (shaped v) (line (reader_of s t i n b d) h) piece (lent_of c o room) (cond f (cond χ (cond l (cond w bad_setting bad_setting) bad_room) bad_length) bad_length)
+    go : (f χ l w : Bool) → declined (cond (f && χ) (cond l bad_setting bad_room) bad_length) (line r h) room
+        ≡ receive_as (shaped v) (line r h) piece (lent_of c o room) (cond f (cond χ (cond l (cond w bad_setting bad_setting) bad_room) bad_length) bad_length)
     go false χ l w = refl
     go true false l w = refl
     go true true false w = refl
     go true true true false = refl
     go true true true true = refl
+
+-- no refusal is 0
+pub refuses : (k : Refusal) → refusal_number k ≡ 0 → ⊥
+refuses BadLength e = omega arith
+refuses BadRoom e = omega arith
+refuses BadSetting e = omega arith
+refuses BadContent e = omega arith
 
 -- ---- a count that it holds: the reader's call on all held bytes decides
 
@@ -83,52 +87,22 @@ module _ (σ : Shape) (x : Line) (piece : List ℕ) (lent : Lent) (few : x.recei
   unfolding handed
   goes taken h z n k = rw (n, k, w) (sym (by_call ∙ ap (handed_by x piece e) z))
 
--- ---- a refused call: the line that it took is the one that it leaves
-
-module _ (σ : Shape) (h : Receiver) (s : Settings) (t i n b d piece c o room : List ℕ) where
-  abbrev taken_line : Line
-  taken_line = line (reader_of s t i n b d) h
-
-  declines : (e : Handed) → e ≡ receive_of σ taken_line piece (lent_of c o room) → (e.told.refusal ≡ 0 → ⊥) → e ≡ declined e.told.refusal taken_line room
-  unfolding refused handed
-  declines e q =
-      rw q
-      (receive_kinds σ taken_line piece (lent_of c o room) (λ (e : Handed). (e.told.refusal ≡ 0 → ⊥) → e ≡ declined e.told.refusal taken_line room)
-      (λ k z. refl) (λ l f m z. absurd (z refl)))
-
-  pub hands_back : (y : Received) (t' i' n' b' d' room' : List ℕ) → received_of y t' i' n' b' d' room' ≡ receive_of σ taken_line piece (lent_of c o room)
-      → (y.refusal ≡ 0 → ⊥) → (r : Received) → r ≡ received h s y.refusal 0 0 → received_of r t' i' n' b' d' room' ≡ receive_of σ taken_line piece (lent_of c o room)
-  unfolding refused
-  hands_back y t' i' n' b' d' room' q z r e =
-      let k : received_of y t' i' n' b' d' room' ≡ declined y.refusal taken_line room = declines (received_of y t' i' n' b' d' room') q z in
-      rw (
-        e,
-        ap (λ (e : Handed). e.after.reader.guarded.templates) k,
-        ap (λ (e : Handed). e.after.reader.guarded.index) k,
-        ap (λ (e : Handed). e.after.reader.guarded.notepad) k,
-        ap (λ (e : Handed). e.after.reader.guarded.buffer1.bytes) k,
-        ap (λ (e : Handed). e.after.reader.guarded.buffer2.bytes) k,
-        ap (λ (e : Handed). e.told.room) k,
-      )
-      (sym k ∙ q)
-
 -- ---- the line switch
 
-module _ (h : Receiver) (s : Settings) (b d : List ℕ) (y : Switched) (b' d' : List ℕ) (q : (t i n : List ℕ) → switched_of y t i n b' d' ≡ switch_of (reader_of s t i n b d)) (r : Emptied) where
-  pub empties : (v : Receiver) → y.refusal ≡ 0 → v ≡ holding [] → r ≡ emptied v y.settings 0
-      → (t i n : List ℕ) → emptied_of r t i n b' d' ≡ line_switch_of (line (reader_of s t i n b d) h)
+module _ (h : Receiver) (s q : Settings) (b d b' d' : List ℕ) (k : ℕ) (e : (t i n : List ℕ) → switched_of (switched_at q k) t i n b' d' ≡ switch_of (reader_of s t i n b d)) where
+  pub empties : (v : Receiver) → v ≡ holding [] → k ≡ 0
+      → (t i n : List ℕ) → emptied_of (emptied_at record { settings = q; receiver = v } k) t i n b' d' ≡ line_switch_of (line (reader_of s t i n b d) h)
   unfolding line_switch_of line_switch_as
-  empties v z k p t i n = rw (p, k, ← q t i n, z, z) refl
+  empties v z p t i n = rw (← e t i n, p, z) (ap (λ (j : ℕ). record { told = record { refusal = j; used = 0; length = 0; room = [] }; after = line (reader_of q t i n b' d') (holding []) }) (sym p))
 
-  pub leaves : (y.refusal ≡ 0 → ⊥) → r ≡ emptied h y.settings y.refusal
-      → (t i n : List ℕ) → emptied_of r t i n b' d' ≡ line_switch_of (line (reader_of s t i n b d) h)
+  pub leaves : (k ≡ 0 → ⊥) → (t i n : List ℕ) → emptied_of (emptied_at record { settings = q; receiver = h } k) t i n b' d' ≡ line_switch_of (line (reader_of s t i n b d) h)
   unfolding line_switch_of line_switch_as switch_of switch_as refused
-  leaves m p t i n = rw p (go (switch_refusal (reader_of s t i n b d).guarded) (q t i n))
+  leaves m t i n = go (switch_refusal (reader_of s t i n b d).guarded) (e t i n)
     where
       x : Line
       x = line (reader_of s t i n b d) h
 
-      go : (k : ℕ) → switched_of y t i n b' d' ≡ switch_as x.reader k
-          → emptied_of (emptied h y.settings y.refusal) t i n b' d' ≡ line_switch_as x (switch_as x.reader k) (switch_as x.reader k).told.refusal
+      go : (j : ℕ) → switched_of (switched_at q k) t i n b' d' ≡ switch_as x.reader j
+          → emptied_of (emptied_at record { settings = q; receiver = h } k) t i n b' d' ≡ line_switch_as x (switch_as x.reader j) (switch_as x.reader j).told.refusal
       go zero f = absurd (m (ap (λ (y : Ended). y.told.refusal) f))
-      go (suc k) f = ap (λ (y : Ended). record { told = y.told; after = line y.after h }) f
+      go (suc j) f = ap (λ (y : Ended). record { told = y.told; after = line y.after h }) f

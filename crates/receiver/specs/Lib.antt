@@ -1,2 +1,2 @@
 pub mod Full
-pub mod Made
+pub mod Handed

@@ -1,18 +1,23 @@
 // Request [1]: the receiver. It takes bytes as the cable gives them, holds them between calls, and answers at most one packet a call.
 #![tactic(auto)]
 
-ghost use Rattle.std.specs.Prelude.{◌≡◌, List, [], ℕ, min};
-ghost use Rattle.protocol.specs.Call.{core, shaped};
-ghost use Rattle.protocol.specs.Receiver.{holding, receive_of, line_switch_of};
-ghost use Rattle.protocol.specs.Records.{line_of, lent_of, received_of, emptied_of};
+ghost use Rattle.std.specs.Prelude.{◌≡◌, List, [], ℕ};
+ghost use Rattle.protocol.specs.Call.{shaped};
+ghost use Rattle.protocol.specs.Codes.{refusal_number, refusal_of};
+ghost use Rattle.protocol.specs.Receiver.{holding, line, receive_of, line_switch_of};
+ghost use Rattle.protocol.specs.Records.{line_of, emptied_of, emptied_at};
+ghost use Rattle.reader.specs.Calls.{lent_at};
+ghost use Rattle.reader.specs.Memory.{reader_at};
 ghost use Rattle.receiver.specs.Full.{full_refusal};
-ghost use Rattle.receiver.specs.Made.{received, emptied};
+ghost use Rattle.receiver.specs.Handed.{handed_at};
 
-use protocol::{Emptied, Line, Received, Receiver, Settings, numbers, refusals};
+use protocol::refusals::Refusal;
+use protocol::{Lengths, Line, Receiver, numbers};
 use reader::call;
+use reader::memory::{Chip, Reader};
 use wire::bytes;
 
-// A receiver that holds nothing.
+/// A receiver that holds nothing.
 pub fn empty() -> Receiver
     ensures { result ≡ holding [] }
 {
@@ -23,191 +28,84 @@ pub fn empty() -> Receiver
     }
 }
 
-// The lesser of two numbers.
-fn lesser(a: usize, b: usize) -> usize
-    ensures { result ≡ min a b }
+// The refusal of a call on a count above what a receiver holds: 1 and 2 come first. By whether the lent lengths are right, and by that of the reply room.
+#[tactic(auto, using(wire::proofs::Picks::picks), unfolding(crate::specs::Full::full_refusal))]
+fn full_refusal(fit: bool, room: usize) -> Refusal
+    ensures { refusal_number result ≡ full_refusal fit room }
 {
-    if a < b { a } else { b }
-}
-
-fn received_of(
-    receiver: Receiver,
-    settings: Settings,
-    refusal: u8,
-    taken: usize,
-    length: usize,
-) -> Received
-    ensures { result ≡ received receiver settings refusal taken length }
-{
-    Received {
-        line: Line { settings, receiver },
-        refusal,
-        taken,
-        length,
-    }
-}
-
-fn emptied_of(receiver: Receiver, settings: Settings, refusal: u8) -> Emptied
-    ensures { result ≡ emptied receiver settings refusal }
-{
-    Emptied {
-        line: Line { settings, receiver },
-        refusal,
-    }
-}
-
-// The refusal of a call on a count above what a receiver holds: 1 and 2 come first. The lent lengths are handed over, and that of the reply room.
-fn full_refusal(
-    noted: usize,
-    t: usize,
-    i: usize,
-    n: usize,
-    b: usize,
-    c: usize,
-    scores: usize,
-    thresholds: usize,
-    room: usize,
-) -> u8
-    ensures { result ≡ full_refusal noted t i n b c scores thresholds room }
-{
-    let fit = call::is_fit(noted, t, i, n, b, c, scores, thresholds);
     if !fit {
-        return refusals::BAD_LENGTH;
+        return Refusal::BadLength;
     }
     if room < numbers::REPLY_ROOM {
-        return refusals::BAD_ROOM;
+        return Refusal::BadRoom;
     }
-    refusals::BAD_SETTING
+    Refusal::BadSetting
 }
 
-// A call of a reader with a notepad of `noted` bytes: takes what fits of the piece behind the bytes held, does the reader's call on all of them, and
-// drops those used. The cells behind what is still held are zero then, and so is the spare byte.
-pub fn receive_shaped(
+/// A call of a reader whose notepad has `noted` bytes, document 01's with 512: takes what fits of the piece behind the bytes held, does the reader's call on all
+/// of them, and drops those used. The cells behind what is still held are zero then, and so is the spare byte. Refused, it leaves all as it was.
+pub fn receive(
     noted: usize,
-    line: Line,
-    templates: &mut [u8],
-    index: &mut [u8],
-    notepad: &mut [u8],
-    buffer1: &mut [u8],
-    buffer2: &mut [u8],
-    scores: &[u16],
-    thresholds: &[u16],
+    receiver: &mut Receiver,
+    reader: Reader<'_>,
+    chip: Chip<'_>,
     piece: &[u8],
     reply: &mut [u8],
-) -> Received
-    ensures { received_of result templates.new index.new notepad.new buffer1.new buffer2.new reply.new
-        ≡ receive_of (shaped noted)
-        (line_of line templates.old index.old notepad.old buffer1.old buffer2.old)
-        piece.now (lent_of scores.now thresholds.now reply.old) }
+) -> Result<Lengths, Refusal>
+    ensures { handed_at result receiver.new reader.exit reply.new
+        ≡ receive_of (shaped noted) (line (reader_at reader.entry) receiver.old) piece.now (lent_at chip.entry reply.old) }
 {
-    let receiver = line.receiver;
-    let settings = line.settings;
     let count = receiver.count as usize;
     if numbers::HOLDS < count {
-        let refusal = full_refusal(
-            noted,
-            templates.len(),
-            index.len(),
-            notepad.len(),
-            buffer1.len(),
-            buffer2.len(),
-            scores.len(),
-            thresholds.len(),
-            reply.len(),
-        );
-        return received_of(receiver, settings, refusal, 0, 0);
+        let fit = reader.has_fit_lengths(noted, chip);
+        return Err(full_refusal(fit, reply.len()));
     }
-    let taken = lesser(numbers::HOLDS - count, piece.len());
-    let to = count + taken;
-    let mut held = receiver.held;
-    bytes::put(&mut held[count..to], &piece[..taken]);
-    let c = call::step_shaped(
-        noted,
+    let taken = (numbers::HOLDS - count).min(piece.len());
+    let end = count + taken;
+    let mut run = receiver.held;
+    bytes::put(&mut run[count..end], &piece[..taken]);
+    // Taken apart and put together again: so the check follows what the call leaves behind each reference.
+    let Reader {
         settings,
         templates,
         index,
         notepad,
         buffer1,
         buffer2,
-        scores,
-        thresholds,
-        &held[..to],
-        reply,
-    );
-    let s = c.settings;
-    if c.refusal != refusals::ACCEPTED {
-        return received_of(receiver, s, c.refusal, 0, 0);
-    }
-    let used = c.used;
-    let left = to - used;
-    let kept = left as u16;
-    let mut rest = [0u8; numbers::HOLDS];
-    bytes::put(&mut rest, &held[used..to]);
-    Received {
-        line: Line {
-            settings: s,
-            receiver: Receiver {
-                held: rest,
-                spare: 0,
-                count: kept,
-            },
-        },
-        refusal: refusals::ACCEPTED,
-        taken,
-        length: c.length,
-    }
-}
-
-// A call of document 01's reader, whose notepad has 512. Refused, it hands back the line that it took and not the one that it got back: they are the
-// same, and so the compiler keeps no copy.
-pub fn receive(
-    line: Line,
-    templates: &mut [u8],
-    index: &mut [u8],
-    notepad: &mut [u8],
-    buffer1: &mut [u8],
-    buffer2: &mut [u8],
-    scores: &[u16],
-    thresholds: &[u16],
-    piece: &[u8],
-    reply: &mut [u8],
-) -> Received
-    ensures { received_of result templates.new index.new notepad.new buffer1.new buffer2.new reply.new
-        ≡ receive_of core
-        (line_of line templates.old index.old notepad.old buffer1.old buffer2.old)
-        piece.now (lent_of scores.now thresholds.now reply.old) }
-{
-    let received = receive_shaped(
-        numbers::NOTEPAD,
-        line,
+    } = reader;
+    let reader = Reader {
+        settings,
         templates,
         index,
         notepad,
         buffer1,
         buffer2,
-        scores,
-        thresholds,
-        piece,
-        reply,
-    );
-    if received.refusal != refusals::ACCEPTED {
-        return received_of(line.receiver, line.settings, received.refusal, 0, 0);
-    }
-    received
+    };
+    let lengths = reader.step(noted, chip, &run[..end], reply)?;
+    let left = end - lengths.used;
+    let mut held = [0u8; numbers::HOLDS];
+    bytes::put(&mut held, &run[lengths.used..end]);
+    *receiver = Receiver {
+        held,
+        spare: 0,
+        count: left as u16,
+    };
+    Ok(Lengths {
+        used: taken,
+        reply: lengths.reply,
+    })
 }
 
-// The line switch: the reader's, and the held bytes emptied. It knows only refusal 1, and changes nothing then.
-pub fn line_switch(line: Line, buffer1: &mut [u8], buffer2: &mut [u8]) -> Emptied
-    ensures { (t i n : List ℕ) → emptied_of result t i n buffer1.new buffer2.new
-        ≡ line_switch_of (line_of line t i n buffer1.old buffer2.old) }
+/// The line switch: the reader's, and the held bytes emptied. It knows only refusal 1, and changes nothing then.
+pub fn line_switch(
+    line: &mut Line,
+    buffer1: &mut [u8],
+    buffer2: &mut [u8],
+) -> Result<(), Refusal>
+    ensures { (t i n : List ℕ) → emptied_of (emptied_at line.new (refusal_of result)) t i n buffer1.new buffer2.new
+        ≡ line_switch_of (line_of line.old t i n buffer1.old buffer2.old) }
 {
-    let receiver = line.receiver;
-    let settings = line.settings;
-    let switched = call::line_switch(settings, buffer1, buffer2);
-    let s = switched.settings;
-    if switched.refusal != refusals::ACCEPTED {
-        return emptied_of(receiver, s, switched.refusal);
-    }
-    let none = empty();
-    emptied_of(none, s, refusals::ACCEPTED)
+    call::line_switch(&mut line.settings, buffer1, buffer2)?;
+    line.receiver = empty();
+    Ok(())
 }

@@ -1,14 +1,16 @@
 -- Size codes: the data bytes of each, and that a legal code is not changed by the cap.
 use mathlib.Core.Path.{◌≡◌, sym, ◌∙◌}
-use Prim.Native.Nat.{ℕ, ◌*◌, ◌%◌, ◌^◌, ◌≤◌, ◌<◌}
+use Prim.Native.Nat.{ℕ, ◌*◌, ◌%◌, ◌^◌, ◌≤◌}
 use native.Mathlib.Nat.{suc-mul}
 use native.Mathlib.Omega.{arith}
+use Rattle.std.proofs.Common.{min}
+use Rattle.std.proofs.lemmas.Bool.Decides.{nat_tests}
 use lib.Dec.{lit<}
 use lib.Pow.{pow-add, shl_exact}
 use lib.ListN.{length, length-replicate}
 use mathlib.Core.Bool.{Bool}
 use mathlib.Core.List.{List}
-use borrow.Author.Tests.{le-leb, lt-leb}
+use borrow.Author.Tests.{le-leb}
 use Rattle.protocol.specs.declared.Settings.{Settings}
 use Rattle.protocol.specs.Numbers.{highest_size, wraps_at}
 use Rattle.protocol.specs.Reader.{size_of}
@@ -34,18 +36,13 @@ unfolding size_of highest_size
 shifted code h = shl_exact 6 code 64 (lit< tt) (omega arith) ∙ sym (pow-add 2 5 code)
 
 -- whatever code it counts as, which is a legal one
-counted : (code k : ℕ) → capped_code code ≡ k → k ≤ highest_size → SizeOf code (32 * 2 ^ k % wraps_at)
-counted code k e h =
-    let z : Size (size_of k) = sizes k h in
-    let s = shifted k h in
-    record { is = rw e s; low = omega (arith, s, z.some); high = omega (arith, s, z.whole, suc-mul z.more (size_of k)) }
-
-pub size_known : (code : ℕ) → code ≤ highest_size → SizeOf code (32 * 2 ^ code % wraps_at)
-size_known code h = counted code code (capped_legal code h) h
-
-pub size_above : (code : ℕ) → highest_size < code → SizeOf code (32 * 2 ^ highest_size % wraps_at)
+pub size_counted : (code k : ℕ) → k ≡ min code highest_size → SizeOf code (32 * 2 ^ k % wraps_at)
 unfolding capped_code
-size_above code h = counted code highest_size (rw (lt-leb code highest_size h)) (omega arith)
+size_counted code k e =
+    let c : capped_code code ≡ k = grind (arith, nat_tests) in
+    let z : Size (size_of k) = sizes k (omega arith) in
+    let s = shifted k (omega arith) in
+    record { is = rw c s; low = omega (arith, s, z.some); high = omega (arith, s, z.whole, suc-mul z.more (size_of k)) }
 
 -- ---- a data packet
 

@@ -1,5 +1,8 @@
 -- What comes before a command's row: the length that each code fixes, and the lock.
-use Rattle.std.specs.Prelude.{Bool, true, cond, ◌||◌, not, ◌≡◌, List, ℕ, eqb}
+use Rattle.std.specs.Prelude.{Bool, true, cond, ◌||◌, not, ◌≡◌, ◌≢◌, List, ℕ, eqb, Result, MatchResult}
+use Rattle.protocol.specs.declared.codes.Code.{Code}
+use Rattle.protocol.specs.declared.command_codes.CommandCode.{CommandCode}
+use Rattle.protocol.specs.Codes.{code_number, command_number}
 use Rattle.protocol.specs.Numbers.{bad_packet, unknown_command, password_first}
 use Rattle.protocol.specs.Reader.{Plain, locked}
 use Rattle.protocol.specs.Commands.{hand_shake, Command, free, Known, none, some, commands, row_of}
@@ -28,3 +31,7 @@ gate_of right k n p =
     cond right
     (cond (eqb (len_of (row_of commands k)) 0) unknown_command
     (cond (eqb (len_of (row_of commands k)) n) (cond (is_free k || not (locked p)) 0 password_first) bad_packet)) bad_packet
+
+-- a code that passes is its command's; one that does not is stopped by that code
+abbrev pub Gated : Bool → ℕ → ℕ → Plain → Result CommandCode Code → Type 0
+Gated right k n p r = MatchResult r (λ c. (command_number c ≡ k) × (gate_of right k n p ≡ 0)) (λ e. (code_number e ≡ gate_of right k n p) × (gate_of right k n p ≢ 0))

@@ -1,5 +1,5 @@
-// The settings record: fresh, with one thing changed, locked, and legal.
-ghost use Rattle.std.specs.Prelude.{◌≡◌, true, cond, List, [], ℕ, ◌≤◌, eqb};
+// The settings record: fresh, with one thing changed, locked, and legal. C lends it, so its marks, the transfer's buffer and the origins are numbers.
+ghost use Rattle.std.specs.Prelude.{◌≡◌, ◌==◌, true, cond, List, [], ℕ, ◌≤◌, eqb, if◌then◌else◌};
 ghost use Rattle.protocol.specs.Numbers.{highest_size};
 ghost use Rattle.protocol.specs.Reader.{locked};
 ghost use Rattle.protocol.specs.Call.{fit_plain, fit_transfer};
@@ -9,7 +9,7 @@ ghost use Rattle.rules.specs.Settings.{with_mark, with_password, with_address, w
 use protocol::{Settings, numbers};
 use wire::bytes;
 
-// Fresh settings: password 0, address FFFFFFFFh, level 3, size code 2, baud factor 6, type 0, marks clear, no transfer, no origins, status bit 1 clear.
+/// Fresh settings: password 0, address FFFFFFFFh, level 3, size code 2, baud factor 6, type 0, marks clear, no transfer, no origins, status bit 1 clear.
 pub fn fresh() -> Settings
     ensures { (t i n b c : List ℕ) → reader_of result t i n b c ≡ fresh_of t i n b c }
 {
@@ -34,155 +34,138 @@ pub fn fresh() -> Settings
 pub fn marked(s: Settings, mark: u8) -> Settings
     ensures { result ≡ with_mark mark s }
 {
-    let mut t = s;
-    t.verified = mark;
-    t
+    Settings {
+        verified: mark,
+        ..s
+    }
 }
 
 pub fn with_password(s: Settings, p: [u8; 4]) -> Settings
     ensures { result ≡ with_password p s }
 {
-    let mut t = s;
-    t.password = p;
-    t.verified = 0;
-    t
+    Settings {
+        password: p,
+        verified: 0,
+        ..s
+    }
 }
 
 pub fn with_address(s: Settings, a: [u8; 4]) -> Settings
     ensures { result ≡ with_address a s }
 {
-    let mut t = s;
-    t.address = a;
-    t
+    Settings { address: a, ..s }
 }
 
 pub fn tuned(s: Settings, baud: u8, level: u8, size: u8) -> Settings
     ensures { result ≡ with_tuning baud level size s }
 {
-    let mut t = s;
-    t.baud = baud;
-    t.level = level;
-    t.size = size;
-    t
+    Settings {
+        baud,
+        level,
+        size,
+        ..s
+    }
 }
 
 pub fn moved(s: Settings, transfer: u8, got: u16) -> Settings
     ensures { result ≡ with_transfer transfer got s }
 {
-    let mut t = s;
-    t.transfer = transfer;
-    t.got = got;
-    t
+    Settings { transfer, got, ..s }
 }
 
 pub fn filled(s: Settings, one: u8, two: u8) -> Settings
     ensures { result ≡ with_filled one two s }
 {
-    let mut t = s;
-    t.filled1 = one;
-    t.filled2 = two;
-    t
+    Settings {
+        filled1: one,
+        filled2: two,
+        ..s
+    }
 }
 
 pub fn linked(s: Settings, one: u16, two: u16) -> Settings
     ensures { result ≡ with_origins one two s }
 {
-    let mut t = s;
-    t.origin1 = one;
-    t.origin2 = two;
-    t
+    Settings {
+        origin1: one,
+        origin2: two,
+        ..s
+    }
 }
 
-// Status bit 1 as this.
+/// Status bit 1 as this.
 pub fn remembered(s: Settings, found: u8) -> Settings
     ensures { result ≡ with_found found s }
 {
-    let mut t = s;
-    t.found = found;
-    t
+    Settings { found, ..s }
 }
 
-// Verified mark, filled marks and status bit 1 clear, no origins, no transfer.
+/// Verified mark, filled marks and status bit 1 clear, no origins, no transfer.
 pub fn switched(s: Settings) -> Settings
     ensures { result ≡ with_switch s }
 {
-    let mut t = s;
-    t.transfer = 0;
-    t.got = 0;
-    t.verified = 0;
-    t.filled1 = 0;
-    t.filled2 = 0;
-    t.found = 0;
-    t.origin1 = numbers::NO_PAGE;
-    t.origin2 = numbers::NO_PAGE;
-    t
+    Settings {
+        transfer: 0,
+        got: 0,
+        verified: 0,
+        filled1: 0,
+        filled2: 0,
+        found: 0,
+        origin1: numbers::NO_PAGE,
+        origin2: numbers::NO_PAGE,
+        ..s
+    }
 }
 
-// Whether the filled mark of a buffer is set.
-pub fn filled_of(n: u8, one: u8, two: u8) -> bool
-    ensures { result ≡ cond (eqb n 2) (is_set two) (is_set one) }
-{
-    if n == 2 { two == 1 } else { one == 1 }
-}
-
-// The origin of a buffer.
-pub fn origin_of(n: u8, one: u16, two: u16) -> u16
-    ensures { result ≡ cond (eqb n 2) two one }
+// The one of a buffer: the second's for number 2, and otherwise the first's.
+fn of_buffer<T: Copy>(n: u8, one: T, two: T) -> T
+    ensures { result ≡ (if n == 2 then two else one) }
 {
     if n == 2 { two } else { one }
 }
 
-// Whether the password is not zero and the verified mark clear.
+/// Whether the filled mark of a buffer is set.
+pub fn filled_of(n: u8, one: u8, two: u8) -> bool
+    ensures { result ≡ cond (eqb n 2) (is_set two) (is_set one) }
+{
+    of_buffer(n, one, two) == 1
+}
+
+/// The origin of a buffer.
+pub fn origin_of(n: u8, one: u16, two: u16) -> u16
+    ensures { result ≡ cond (eqb n 2) two one }
+{
+    of_buffer(n, one, two)
+}
+
+/// Whether the password is not zero and the verified mark clear.
 pub fn is_locked(s: Settings) -> bool
     ensures { result ≡ locked (plain_of s) }
 {
-    let p = s.password;
-    let zero = [0u8; 4];
-    let free = bytes::is_same(p, zero);
-    if free {
-        return false;
-    }
-    s.verified != 1
+    !bytes::is_same(s.password, [0; 4]) && s.verified != 1
 }
 
-// Status bit 1 as it shows: not while the reader is locked. No branch looks at it.
+/// Status bit 1 as it shows: not while the reader is locked. No branch looks at it.
 pub fn shows_found(s: Settings) -> bool
     ensures { result ≡ shown_of s }
 {
-    let locked = is_locked(s);
-    !locked & (s.found == 1)
+    !is_locked(s) & (s.found == 1)
 }
 
-// The data bytes of a size code; a code above the highest counts as the highest.
+/// The data bytes of a size code; a code above the highest counts as the highest.
 pub fn size_of(code: u8) -> usize
     ensures { SizeOf code result }
 {
-    if numbers::HIGHEST_SIZE < code {
-        return numbers::SMALLEST_SIZE << numbers::HIGHEST_SIZE;
-    }
-    numbers::SMALLEST_SIZE << code
+    numbers::SMALLEST_SIZE << code.min(numbers::HIGHEST_SIZE)
 }
 
 // Whether level, size code and baud factor are in their ranges.
 fn is_plain_fit(s: Settings) -> bool
     ensures { result ≡ fit_plain (plain_of s) }
 {
-    if s.level < numbers::LOWEST_LEVEL {
-        return false;
-    }
-    if numbers::HIGHEST_LEVEL < s.level {
-        return false;
-    }
-    if numbers::HIGHEST_SIZE < s.size {
-        return false;
-    }
-    if s.baud < numbers::LOWEST_BAUD {
-        return false;
-    }
-    if numbers::HIGHEST_BAUD < s.baud {
-        return false;
-    }
-    true
+    (numbers::LOWEST_LEVEL..=numbers::HIGHEST_LEVEL).contains(&s.level)
+        && s.size <= numbers::HIGHEST_SIZE
+        && (numbers::LOWEST_BAUD..=numbers::HIGHEST_BAUD).contains(&s.baud)
 }
 
 // Whether each mark is 0 or 1. The two take the same path, since the filled marks and status bit 1 are guarded.
@@ -194,43 +177,28 @@ fn has_fit_marks(s: Settings) -> bool
 
 // Whether the transfer beside fit marks is legal. The filled mark of its buffer is looked at last, and never on a locked reader.
 fn is_transfer_fit(s: Settings) -> bool
-    requires { (s.size ≤ highest_size) × (fit_marks (marks_of s) ≡ true) }
+    requires size { s.size ≤ highest_size }
+    requires marks { fit_marks (marks_of s) ≡ true }
     ensures { result ≡ fit_transfer (plain_of s) (reader_of s [] [] [] [] []).guarded
         (transfer_of (marks_of s) s.transfer s.got) }
 {
-    let got = s.got as usize;
-    let w = s.transfer;
-    if w == 0 {
-        return got == 0;
+    let got = usize::from(s.got);
+    match s.transfer {
+        0 => got == 0,
+        w @ 1..=2 => {
+            got % size_of(s.size) == 0
+                && got < numbers::PAGE
+                && !is_locked(s)
+                && !filled_of(w, s.filled1, s.filled2)
+        }
+        _ => false,
     }
-    if 2 < w {
-        return false;
-    }
-    if got % size_of(s.size) != 0 {
-        return false;
-    }
-    if numbers::PAGE <= got {
-        return false;
-    }
-    let locked = is_locked(s);
-    if locked {
-        return false;
-    }
-    let full = filled_of(w, s.filled1, s.filled2);
-    !full
 }
 
-// Whether settings, marks and transfer are legal (refusal 3, but for the index and the origins).
+/// Whether settings, marks and transfer are legal (refusal 3, but for the index and the origins).
 pub fn is_legal(s: Settings) -> bool
     ensures { result ≡ legal_of s }
 {
-    let fit = is_plain_fit(s);
-    if !fit {
-        return false;
-    }
     let marked = has_fit_marks(s);
-    if !marked {
-        return false;
-    }
-    is_transfer_fit(s)
+    is_plain_fit(s) && marked && is_transfer_fit(s)
 }

@@ -5,20 +5,18 @@ ghost use Rattle.rules.specs.Transfer.{does_fit};
 use crate::settings;
 use protocol::{Settings, numbers};
 
-// Whether a data packet of n content bytes goes in.
+/// Whether a data packet of n content bytes goes in.
 pub fn does_fit(settings: Settings, right: bool, last: bool, n: usize) -> bool
     ensures { result ≡ does_fit settings right last n }
 {
-    if !right {
-        return false;
-    }
     let z = settings::size_of(settings.size);
-    if n != z {
+    if !right || n != z {
         return false;
     }
-    let k = settings.got as usize + z;
+    let k = usize::from(settings.got) + z;
     if last {
-        return k == numbers::PAGE;
+        k == numbers::PAGE
+    } else {
+        k < numbers::PAGE
     }
-    k < numbers::PAGE
 }

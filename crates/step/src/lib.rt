@@ -7,8 +7,9 @@ ghost use Rattle.std.specs.Prelude.{◌≡◌, List, ℕ};
 ghost use Rattle.protocol.specs.Call.{core, call_of, switch_of};
 ghost use Rattle.protocol.specs.Records.{reader_of, lent_of, ended_of, switched_of, called_at, switched_at};
 
-use protocol::{Answered, Settings};
+use protocol::{Answered, Settings, numbers, refusals};
 use reader::call;
+use reader::memory::{Chip, Reader};
 
 // A call of the reader on lent settings.
 #[unsafe(no_mangle)]
@@ -30,15 +31,16 @@ pub extern "C" fn bystrodol_step(
         (reader_of settings.old templates.old index.old notepad.old buffer1.old buffer2.old)
         run.now (lent_of scores.now thresholds.now reply.old) }
 {
-    let called = call::step(
-        *settings, templates, index, notepad, buffer1, buffer2, scores, thresholds, run, reply,
-    );
-    *settings = called.settings;
-    Answered {
-        refusal: called.refusal,
-        used: called.used,
-        length: called.length,
-    }
+    let reader = Reader {
+        settings,
+        templates,
+        index,
+        notepad,
+        buffer1,
+        buffer2,
+    };
+    let chip = Chip { scores, thresholds };
+    reader.step(numbers::NOTEPAD, chip, run, reply).into()
 }
 
 // A line switch on lent settings.
@@ -52,7 +54,5 @@ pub extern "C" fn bystrodol_line_switch(
         → switched_of (switched_at settings.new result) t i n buffer1.new buffer2.new
         ≡ switch_of (reader_of settings.old t i n buffer1.old buffer2.old) }
 {
-    let switched = call::line_switch(*settings, buffer1, buffer2);
-    *settings = switched.settings;
-    switched.refusal
+    refusals::refusal_of(&call::line_switch(settings, buffer1, buffer2))
 }

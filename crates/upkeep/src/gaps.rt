@@ -13,7 +13,6 @@ use library::pages;
 use protocol::refusals::Refusal;
 use protocol::{Settings, numbers};
 use reader::call;
-use wire::bytes;
 
 // Copies a page to another place, by way of an array of its own: the compiler makes one memmove of it, and does not go byte by byte.
 fn move_page(templates: &mut [u8], from: usize, to: usize)
@@ -53,7 +52,7 @@ fn set_first(index: &mut [u8], count: usize)
     ensures { index.new ≡ first_bits (length index.old) count }
 {
     let whole = count / 8;
-    bytes::zero(index);
+    index.fill(0);
     index[..whole].fill(255);
     index[whole] = (1u8 << (count % 8)) - 1;
 }
@@ -65,7 +64,7 @@ fn close_library(templates: &mut [u8], index: &mut [u8], table: &mut [u16])
 {
     let n = gather(templates, index, table);
     let a = numbers::PAGE * n;
-    bytes::zero(&mut templates[a..]);
+    templates[a..].fill(0);
     set_first(index, n);
 }
 

@@ -11,7 +11,6 @@ use crate::lent;
 use library::{index, pages};
 use protocol::numbers;
 use protocol::refusals::Refusal;
-use wire::bytes;
 
 // The entries of a report: one for each bit of the index.
 const ENTRIES: usize = 8 * numbers::INDEX;
@@ -71,7 +70,7 @@ fn salvage_pages(templates: &mut [u8], index: &[u8], report: &mut [u8])
     ensures { PagesSalvaged templates.old index.now
         templates.new report.new }
 {
-    bytes::zero(report);
+    report.fill(0);
     let end = templates.len() / numbers::PAGE;
     let mut p = 0;
     while p < end {

@@ -1,6 +1,5 @@
 -- Pieces of a packet as the builder lays them, and what `put` does to any two slices.
-use Rattle.std.specs.Prelude.{◌≡◌, ℕ, cond, List, ◌∷◌, ◌++◌, length, nat_le}
-use Rattle.protocol.specs.declared.Built.{Built}
+use Rattle.std.specs.Prelude.{ℕ, cond, List, ◌∷◌, ◌++◌, length, nat_le}
 use Rattle.protocol.specs.Numbers.{first_mark, second_mark}
 use Rattle.protocol.specs.Bytes.{two, lay}
 
@@ -11,11 +10,3 @@ lay_front src d = cond (nat_le (length src) (length d)) (lay 0 src d) d
 -- the nine bytes before the content, of a packet with length field n
 unfoldable pub head_of : List ℕ → ℕ → ℕ → List ℕ
 head_of address identifier n = first_mark ∷ (second_mark ∷ (address ++ (identifier ∷ two n)))
-
--- what a function of the builder does: s laid over the room d from the place i on, and n given back; r and e are the result and the room after it
-pub record Laid (n i : ℕ) (s d : List ℕ) (r : ℕ) (e : List ℕ) : Type 0 where
-  pub given : r ≡ n
-  pub laid : e ≡ lay i s d
-
-abbrev pub built : ℕ → ℕ → Built
-built refusal length = record { refusal = refusal; length = length }

@@ -6,53 +6,37 @@ ghost use Rattle.protocol.specs.Finder.{start_of, all_but, find_of, used_of};
 ghost use Rattle.protocol.specs.Services.{used_service};
 ghost use Rattle.wire.specs.Limits.{limit_of};
 
-use crate::bytes;
-use protocol::{Found, Start, numbers};
+use protocol::identifiers::Identifier;
+use protocol::{Found, numbers};
 
 // The first place with EF followed by 01.
-pub fn start(s: &[u8]) -> Start
+pub fn start(s: &[u8]) -> Option<usize>
     ensures { result ≡ start_of s.now }
 {
-    if s.len() == 0 {
-        return Start::Nowhere;
-    }
-    let last = s.len() - 1;
-    let mut i = 0;
-    while i < last {
-        if s[i] == numbers::FIRST_MARK {
-            if s[i + 1] == numbers::SECOND_MARK {
-                return Start::At { place: i };
-            }
-        }
-        i += 1;
-    }
-    Start::Nowhere
+    s.windows(2).position(|w| w[0] == numbers::FIRST_MARK && w[1] == numbers::SECOND_MARK)
 }
 
 // The whole run, less one if it ends in EF.
+#[tactic(auto, using(crate::proofs::Picks::picks), unfolding(protocol::specs::Finder::all_but))]
 pub fn all_but(s: &[u8]) -> usize
     ensures { result ≡ all_but s.now }
 {
-    if s.len() == 0 {
-        return 0;
+    match s {
+        [.., numbers::FIRST_MARK] => s.len() - 1,
+        _ => s.len(),
     }
-    let last = s.len() - 1;
-    if s[last] == numbers::FIRST_MARK {
-        return last;
-    }
-    s.len()
 }
 
-// The largest length field of an identifier's packets; 0 where no packet has the identifier.
-pub fn limit_of(i: u8) -> usize
+// The largest length field of an identifier's packets; none where no packet has the identifier.
+pub fn limit_of(i: u8) -> Option<usize>
     ensures { result ≡ limit_of i }
 {
-    match i {
-        numbers::COMMAND_PACKET => numbers::LONGEST_OTHER,
-        numbers::DATA_PACKET => numbers::LONGEST,
-        numbers::ACKNOWLEDGE_PACKET => numbers::LONGEST_OTHER,
-        numbers::LAST_PACKET => numbers::LONGEST,
-        _ => 0,
+    match Identifier::try_from(i) {
+        Ok(Identifier::Command) => Some(numbers::LONGEST_OTHER),
+        Ok(Identifier::Data) => Some(numbers::LONGEST),
+        Ok(Identifier::Acknowledge) => Some(numbers::LONGEST_OTHER),
+        Ok(Identifier::Last) => Some(numbers::LONGEST),
+        Err(_) => None,
     }
 }
 
@@ -60,48 +44,40 @@ pub fn limit_of(i: u8) -> usize
 pub fn is_head(i: u8, n: usize) -> bool
     ensures { result ≡ accepts i n }
 {
-    if n < numbers::SHORTEST {
-        return false;
-    }
-    n <= limit_of(i)
+    limit_of(i).is_some_and(|most| (numbers::SHORTEST..=most).contains(&n))
 }
 
 // Steps 1 to 4.
 pub fn find(s: &[u8]) -> Found
     ensures { result ≡ find_of s.now }
 {
-    let f = start(s);
-    let Start::At { place } = f else {
+    let Some(at) = start(s) else {
         return Found::Noise { used: all_but(s) };
     };
-    let left = s.len() - place;
-    if left < numbers::HEAD {
-        return Found::Unfinished { at: place };
+    let packet = &s[at..];
+    let [_, _, _, _, _, _, identifier, high, low, behind @ ..] = packet else {
+        return Found::Unfinished { at };
+    };
+    let len = usize::from(u16::from_be_bytes([*high, *low]));
+    if !is_head(*identifier, len) {
+        return Found::Unfit { at };
     }
-    let i = s[place + numbers::IDENTIFIER_AT];
-    let l = place + numbers::LENGTH_AT;
-    let n = bytes::word(s[l], s[l + 1]);
-    let fit = is_head(i, n);
-    if fit {
-        if left < numbers::HEAD + n {
-            return Found::Unfinished { at: place };
-        }
-        return Found::Whole { at: place, len: n };
+    if behind.len() < len {
+        return Found::Unfinished { at };
     }
-    Found::Unfit { at: place }
+    Found::Whole { at, len }
 }
 
 // The bytes used, by what was found. What was found in a run lies in it, so that nothing wraps there.
+#[tactic(auto, unfolding(protocol::specs::Finder::used_of))]
 pub fn used_of(f: Found) -> usize
     ensures { result ≡ used_of f % wraps_at }
 {
     match f {
         Found::Noise { used } => used,
         Found::Unfinished { at } => at,
-        Found::Unfit { at } => std::num::wrapping_add_usize(at, 2),
-        Found::Whole { at, len } => {
-            std::num::wrapping_add_usize(std::num::wrapping_add_usize(at, numbers::HEAD), len)
-        }
+        Found::Unfit { at } => at.wrapping_add(2),
+        Found::Whole { at, len } => at.wrapping_add(numbers::HEAD).wrapping_add(len),
     }
 }
 

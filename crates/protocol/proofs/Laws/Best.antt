@@ -6,8 +6,7 @@ use native.Mathlib.Omega.{arith}
 use native.Mathlib.Decide.{ℕ_discrete}
 use lib.Dec.{ltb, leb}
 use borrow.Author.Tests.{ltb-true, ltb-false, leb-true, leb-false}
-use Rattle.protocol.specs.declared.Match.{Match}
-use Rattle.protocol.specs.Search.{hit, beats, best_of, pages_from}
+use Rattle.protocol.specs.Search.{Match, hit, beats, best_of, pages_from}
 
 module _ (f : ℕ → Bool) (s : ℕ → ℕ) (p : ℕ) where
   -- of the n pages from p on, q is the first chosen one with the highest score, k

@@ -9,8 +9,7 @@ use native.Mathlib.Decide.{dec_lt}
 use lib.Dec.{T, eqb, leb, leb→le, le→leb, lit<, ltb}
 use borrow.Author.Tests.{le-ltb, lt-leb, ltb-false}
 use lib.ListN.{length, length-append, get_or-eq_default}
-use Rattle.protocol.specs.declared.Start.{Start}
-use Rattle.protocol.specs.declared.Start.TheVariants.{Nowhere, At}
+use Rattle.std.specs.Prelude.{Option, None, Some}
 use Rattle.protocol.specs.declared.Found.{Found}
 use Rattle.protocol.specs.declared.Found.TheVariants.{Noise, Unfinished, Unfit, Whole}
 use Rattle.protocol.specs.Numbers.{first_mark, second_mark, head_bytes, frame_bytes, four_bytes, shortest, longest, longest_other}
@@ -63,48 +62,48 @@ longest_word = lit< tt
 
 -- ---- the first start
 
--- Nowhere: no place has the marks; At p: p has them, and no place before it
-abbrev pub FirstStart : List ℕ → Start → Type 0
-FirstStart s Nowhere = (q : ℕ) → marks_at s q ≡ false
-FirstStart s (At p) = (marks_at s p ≡ true) × ((q : ℕ) → q < p → marks_at s q ≡ false)
+-- None: no place has the marks; Some p: p has them, and no place before it
+abbrev pub FirstStart : List ℕ → Option ℕ → Type 0
+FirstStart s None = (q : ℕ) → marks_at s q ≡ false
+FirstStart s (Some p) = (marks_at s p ≡ true) × ((q : ℕ) → q < p → marks_at s q ≡ false)
 
 pub start_first : (s : List ℕ) → FirstStart s (start_of s)
 unfolding start_of later marks_at
 start_first [] = λ q. refl
 start_first (b ∷ s) = go (marks_at (b ∷ s) 0) refl (start_of s) (start_first s)
   where
-    go : (t : Bool) → marks_at (b ∷ s) 0 ≡ t → (r : Start) → FirstStart s r → FirstStart (b ∷ s) (cond t (At 0) (later r))
+    go : (t : Bool) → marks_at (b ∷ s) 0 ≡ t → (r : Option ℕ) → FirstStart s r → FirstStart (b ∷ s) (cond t (Some 0) (later r))
     go true e r h = (e, λ q l. absurd (not-suc-le-zero l))
-    go false e Nowhere h = at
+    go false e None h = at
       where
         at : (q : ℕ) → marks_at (b ∷ s) q ≡ false
         at zero = e
         at (suc q) = h q
-    go false e (At p) h = (h.0, at)
+    go false e (Some p) h = (h.0, at)
       where
         at : (q : ℕ) → q < suc p → marks_at (b ∷ s) q ≡ false
         at zero l = e
         at (suc q) l = h.1 q (le_of_suc-le-suc l)
 
 -- and there is no other first start
-pub start_nowhere : (s : List ℕ) → ((q : ℕ) → marks_at s q ≡ false) → start_of s ≡ Nowhere
+pub start_nowhere : (s : List ℕ) → ((q : ℕ) → marks_at s q ≡ false) → start_of s ≡ None
 start_nowhere s h = go (start_of s) (start_first s)
   where
-    go : (r : Start) → FirstStart s r → r ≡ Nowhere
-    go Nowhere f = refl
-    go (At p) f = absurd (true≢false (sym f.0 ∙ h p))
+    go : (r : Option ℕ) → FirstStart s r → r ≡ None
+    go None f = refl
+    go (Some p) f = absurd (true≢false (sym f.0 ∙ h p))
 
-pub start_at : (s : List ℕ) (p : ℕ) → marks_at s p ≡ true → ((q : ℕ) → q < p → marks_at s q ≡ false) → start_of s ≡ At p
+pub start_at : (s : List ℕ) (p : ℕ) → marks_at s p ≡ true → ((q : ℕ) → q < p → marks_at s q ≡ false) → start_of s ≡ Some p
 start_at s p m h = go (start_of s) (start_first s)
   where
-    go : (r : Start) → FirstStart s r → r ≡ At p
-    go Nowhere f = absurd (true≢false (sym m ∙ f p))
-    go (At q) f = either (dec_lt q p) (dec_lt p q)
+    go : (r : Option ℕ) → FirstStart s r → r ≡ Some p
+    go None f = absurd (true≢false (sym m ∙ f p))
+    go (Some q) f = either (dec_lt q p) (dec_lt p q)
       where
-        either : Dec (q < p) → Dec (p < q) → At q ≡ At p
+        either : Dec (q < p) → Dec (p < q) → Some q ≡ Some p
         either (yes l) d = absurd (true≢false (sym f.0 ∙ h q l))
         either (no k) (yes l) = absurd (true≢false (sym m ∙ f.1 p l))
-        either (no k) (no l) = let e : q ≡ p = omega arith in ap At e
+        either (no k) (no l) = let e : q ≡ p = omega arith in ap Some e
 
 -- both marks lie in the run
 pub marks_in : (s : List ℕ) (p : ℕ) → marks_at s p ≡ true → suc p < length s
@@ -140,9 +139,9 @@ found_in s = go (start_of s) (start_first s)
     at p h false true false ea eb ec = (ltb-false (length s) (end_at p (length_at s p)) ec, rw eb tt)
     at p h false false c ea eb ec = ltb-false (length s) (p + head_bytes) ea
 
-    go : (r : Start) → FirstStart s r → Within s (find_from s r)
-    go Nowhere h = none (eqb (byte_at s (length s - 1)) first_mark)
-    go (At p) h =
+    go : (r : Option ℕ) → FirstStart s r → Within s (find_from s r)
+    go None h = none (eqb (byte_at s (length s - 1)) first_mark)
+    go (Some p) h =
         at p (marks_in s p h.0) (ltb (length s) (p + head_bytes)) (accepts (identifier_at s p) (length_at s p)) (ltb (length s) (end_at p (length_at s p))) refl refl refl
 
 pub used_in : (s : List ℕ) → used_of (find_of s) ≤ length s
@@ -157,7 +156,7 @@ used_in s = go (find_of s) (found_in s)
 
 -- ---- a whole packet at p, by the facts that the code's tests give
 
-pub found_at : (s : List ℕ) (p n : ℕ) → length_at s p ≡ n → T (accepts (identifier_at s p) n) → end_at p n ≤ length s → find_from s (At p) ≡ Whole p n
+pub found_at : (s : List ℕ) (p n : ℕ) → length_at s p ≡ n → T (accepts (identifier_at s p) n) → end_at p n ≤ length s → find_from s (Some p) ≡ Whole p n
 unfolding find_from
 found_at s p n e t h =
     rw (e, le-ltb (length s) (p + head_bytes) (omega arith), T→true (accepts (identifier_at s p) n) t, le-ltb (length s) (end_at p n) h) refl

@@ -1,9 +1,19 @@
 -- The reader's line switch was refused and the held bytes stay, or it was made and none is held.
-use Rattle.receiver.proofs.Calls.{empties, leaves}
+use mathlib.Core.Path.{refl}
+use Rattle.protocol.specs.Codes.{refusal_of, refusal_number}
+use Rattle.reader.proofs.Rows.{is_err}
+use Rattle.receiver.proofs.Calls.{refuses, empties, leaves}
 use Rattle.receiver.proofs.line_switch.Goals as goal
 
-pub returns-then-switched-ne-ACCEPTED : goal.returns-then-switched-ne-ACCEPTED
-returns-then-switched-ne-ACCEPTED c = search leaves
+pub returns-in_err-line_switch : goal.returns-in_err-line_switch
+returns-in_err-line_switch c =
+    let x = c.args.line.now in
+    let e = rw (c.in_err-line_switch.was) at c.line_switch.ensures in
+    let k = c.in_err-line_switch.field-0.0 in
+    rw (is_err c.from_residual.result k c.from_residual.ensures.1) (leaves x.receiver x.settings c.line_switch.new.settings c.args.buffer1.now c.args.buffer2.now _ _ (refusal_number k) e (refuses k))
 
 pub returns : goal.returns
-returns c = search empties
+returns c =
+    let x = c.args.line.now in
+    let e = rw (c.in_ok-line_switch.was) at c.line_switch.ensures in
+    empties x.receiver x.settings c.line_switch.new.settings c.args.buffer1.now c.args.buffer2.now _ _ 0 e c.empty-line.result c.empty-line.ensures refl

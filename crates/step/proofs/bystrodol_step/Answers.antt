@@ -1,5 +1,7 @@
--- What the call by value ensures, since its settings are written back where they lay.
+-- What the call ensures, its outcome in numbers.
+use Rattle.protocol.specs.Call.{core}
 use Rattle.step.proofs.bystrodol_step.Goals as goal
 
 pub returns : goal.returns
-returns c = c.step-called.ensures
+unfolding core
+returns c = let e = c.into.ensures in rw e c.step.ensures

@@ -1,21 +1,13 @@
--- Where the index has the length that is asked for, its set bits are counted; otherwise the answer is the number that says so.
-use Rattle.std.proofs.Common.{◌≡◌, ℕ, List, length, sym, ◌∙◌, eq-eqb, ne_eqb}
-use Rattle.protocol.specs.Numbers.{no_count}
-use Rattle.protocol.specs.Index.{set_bits}
-use Rattle.library.specs.Lent.{count_of}
+-- Where the index has the length that is asked for, its set bits are counted; of another there is no count.
+use Rattle.std.proofs.Common.{arith}
+use Rattle.std.proofs.lemmas.Grind.{common_steps}
+use Rattle.library.specs.Lent.{counted_of}
 use Rattle.library.proofs.index.count.Goals as goal
 
-module _ (x : List ℕ) (n k : ℕ) (e : k ≡ n) where
-  counted : (r : ℕ) → length x ≡ k → r ≡ set_bits x → r ≡ count_of n x
-  unfolding count_of
-  counted r h f = rw (eq-eqb _ _ (h ∙ e)) f
+pub returns-then-index-from : goal.returns-then-index-from
+unfolding counted_of
+returns-then-index-from c = grind (arith, common_steps)
 
-  not_counted : (length x ≡ k → ⊥) → no_count ≡ count_of n x
-  unfolding count_of
-  not_counted h = rw (ne_eqb _ _ (λ f. h (f ∙ sym e)))
-
-pub returns-then-index-n : goal.returns-then-index-n
-returns-then-index-n c = search counted
-
-pub returns : goal.returns
-returns c = search not_counted
+pub returns-else-index-from : goal.returns-else-index-from
+unfolding counted_of
+returns-else-index-from c = grind (arith, common_steps)

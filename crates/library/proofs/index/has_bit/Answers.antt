@@ -1,16 +1,11 @@
--- A page is stored where its bit is 1; where the index has no byte for it, it is not.
-use Rattle.std.proofs.Common.{◌≡◌, ℕ, ◌/◌, ◌%◌, eqb, List}
-use Rattle.protocol.specs.Bytes.{byte_at}
-use Rattle.protocol.specs.Index.{bit, stored}
+-- Where the index has no byte for the page, the page is not stored.
+use Rattle.std.proofs.Common.{◌≡◌, ℕ, ◌/◌, ◌≤◌, ltb, List, length, le-ltb}
+use Rattle.protocol.specs.Index.{stored}
 use Rattle.library.proofs.Bits.{not_stored}
 use Rattle.library.proofs.index.has_bit.Goals as goal
 
-by_bit : (x : List ℕ) (p v : ℕ) → v ≡ bit (byte_at x (p / 8)) (p % 8) → eqb v 1 ≡ stored x p
-unfolding stored
-by_bit x p v e = rw e
+past : (x : List ℕ) (p : ℕ) → length x ≤ p / 8 → ltb (p / 8) (length x) ≡ stored x p
+past x p h = rw (le-ltb _ _ h) (not_stored x p h)
 
-pub returns-then-p-index : goal.returns-then-p-index
-returns-then-p-index c = search by_bit
-
-pub returns : goal.returns
-returns c = search not_stored
+pub returns-else-p-index : goal.returns-else-p-index
+returns-else-p-index c = search past

@@ -1,10 +1,6 @@
 -- A stored page's score reaches the least that is better just where the definition takes the page, and then the least is one more than that score.
-use Rattle.std.proofs.Common.{◌-◌}
 use Rattle.library.proofs.Best.{Searched}
 use Rattle.library.proofs.search.best_of.Given as goal
 
 abbrev pub invariant-loop-p : goal.invariant-loop-p
 invariant-loop-p l = Searched l.index l.scores l.threshold l.start l.end l.least l.page l.p
-
-abbrev pub decreases-loop-p : goal.decreases-loop-p
-decreases-loop-p l = l.end - l.p

@@ -11,8 +11,7 @@ use lib.Dec.{T, eqb, ltb, eqb→eq}
 use borrow.Author.Tests.{ltb-true, ltb-false, eqb-true, eqb-false, lt-ltb, le-ltb, eq-eqb, ne_eqb}
 use lib.ListN.{length, get_or, take, drop, length-take, length-drop}
 use lib.Seq.{get_or-take, get_or-drop}
-use Rattle.protocol.specs.declared.Start.{Start}
-use Rattle.protocol.specs.declared.Start.TheVariants.{Nowhere, At}
+use Rattle.std.specs.Prelude.{Option, None, Some}
 use Rattle.protocol.specs.declared.Found.{Found}
 use Rattle.protocol.specs.declared.Found.TheVariants.{Noise, Unfinished, Unfit, Whole}
 use Rattle.protocol.specs.Bytes.{two, byte_at, word_at, total, same}
@@ -96,7 +95,7 @@ no_marks s p e m = true≢false (sym (of_marks s p m) ∙ e)
 field_at : (s : List ℕ) (p : ℕ) → length_at s p ≡ length_field s p
 field_at s p = (parts s p 0).length_at_lem
 
-started : (s : List ℕ) (p : ℕ) → First s p → start_of s ≡ At p
+started : (s : List ℕ) (p : ℕ) → First s p → start_of s ≡ Some p
 started s p f = start_at s p (of_marks s p f.here) (λ q l. unmarked s q (f.before q l))
 
 -- ---- every run, and every case of it
@@ -117,9 +116,9 @@ finds s = go (start_of s) (start_first s)
     at p f n w false true true ea eb ec = unfinished f (ltb-false (length s) (p + 9) ea) (rw w ((accepts_means (get_or s (p + 6) 0) n).0 (rw eb tt))) (rw w (ltb-true (length s) (p + 9 + n) ec))
     at p f n w false true false ea eb ec = whole record { first = f; field = w; accepted = (accepts_means (get_or s (p + 6) 0) n).0 (rw eb tt); inside = ltb-false (length s) (p + 9 + n) ec }
 
-    go : (r : Start) → FirstStart s r → Finds s (find_from s r) (used_of (find_from s r))
-    go Nowhere h = none (λ q. no_marks s q (h q)) (eqb (get_or s (length s - 1) 0) 0xef) refl
-    go (At p) h =
+    go : (r : Option ℕ) → FirstStart s r → Finds s (find_from s r) (used_of (find_from s r))
+    go None h = none (λ q. no_marks s q (h q)) (eqb (get_or s (length s - 1) 0) 0xef) refl
+    go (Some p) h =
         at p record { here = marks_of_lem s p h.0; before = λ q l. no_marks s q (h.1 q l) } (length_at s p) (sym (field_at s p)) _ _ _ refl refl refl
 
 -- and no other: where a case holds, that is what is found, and so many bytes are used
@@ -132,7 +131,7 @@ found {s} (unfit {p} f l k) = rw (started s p f, le-ltb (length s) (p + 9) l, fi
 found {s} (unfinished {p} f l a m) =
     rw (started s p f, le-ltb (length s) (p + 9) l, field_at s p, T→true (accepts (get_or s (p + 6) 0) (length_field s p)) ((accepts_means (get_or s (p + 6) 0) (length_field s p)).1 a), lt-ltb (length s) (p + 9 + length_field s p) m) (refl, refl)
 found {s} (whole {p} {n} w) =
-    let e : find_from s (At p) ≡ Whole p n = found_at s p n (field_at s p ∙ w.field) ((accepts_means (get_or s (p + 6) 0) n).1 w.accepted) w.inside in
+    let e : find_from s (Some p) ≡ Whole p n = found_at s p n (field_at s p ∙ w.field) ((accepts_means (get_or s (p + 6) 0) n).1 w.accepted) w.inside in
     rw (started s p w.first, e) (refl, refl)
 
 -- a whole packet is found only where it stands

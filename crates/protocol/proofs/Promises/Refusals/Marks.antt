@@ -8,10 +8,10 @@ use mathlib.Core.List.{List}
 use Prim.Native.Nat.{ℕ, zero, suc, ◌≤◌}
 use native.Mathlib.Omega.{arith}
 use Rattle.protocol.specs.declared.Settings.{Settings}
-use Rattle.protocol.specs.declared.Called.{Called}
-use Rattle.protocol.specs.declared.Switched.{Switched}
-use Rattle.protocol.specs.declared.Received.{Received}
-use Rattle.protocol.specs.declared.Emptied.{Emptied}
+use Rattle.protocol.specs.Records.{Called}
+use Rattle.protocol.specs.Records.{Switched}
+use Rattle.protocol.specs.Records.{Received}
+use Rattle.protocol.specs.Records.{Emptied}
 use Rattle.protocol.specs.declared.Line.{Line}
 use Rattle.protocol.specs.Reader.{Reader, with_mark, with_transfer, emptied}
 use Rattle.protocol.specs.Step.{wiped, switched}

@@ -7,18 +7,17 @@ use Prim.Native.Nat.{ℕ}
 use lib.Dec.{eqb}
 use borrow.Author.Tests.{eqb-true}
 use Rattle.protocol.specs.declared.Settings.{Settings}
-use Rattle.protocol.specs.declared.Called.{Called}
-use Rattle.protocol.specs.declared.Switched.{Switched}
-use Rattle.protocol.specs.declared.Built.{Built}
-use Rattle.protocol.specs.declared.Received.{Received}
-use Rattle.protocol.specs.declared.Emptied.{Emptied}
+use Rattle.protocol.specs.Records.{Called}
+use Rattle.protocol.specs.Records.{Switched}
+use Rattle.protocol.specs.Records.{Received}
+use Rattle.protocol.specs.Records.{Emptied}
 use Rattle.protocol.specs.Numbers.{no_page}
 use Rattle.protocol.specs.Packet.{Made}
 use Rattle.protocol.specs.BringOver.{Brought}
 use Rattle.protocol.specs.Reader.{Marks, Transfer, closed, opened, unfit, Origin, no_origin, from_page, Reader}
 use Rattle.protocol.specs.Call.{Ended}
 use Rattle.protocol.specs.Receiver.{Handed}
-use Rattle.protocol.specs.Records.{fit_marks, is_set, mark_of, marks_of, transfer_of, origin_of, reader_of, ended_of, switched_of, received_of, emptied_of, made_of, brought_of}
+use Rattle.protocol.specs.Records.{fit_marks, is_set, mark_of, marks_of, transfer_of, origin_of, reader_of, ended_of, switched_of, received_of, emptied_of, Built, made_of, brought_of}
 use Rattle.protocol.proofs.Laws.Marks.{mark_is, fit_verified, fit_filled1, fit_filled2, fit_found, transfer_kinds}
 use Rattle.protocol.proofs.Promises.Words.Records.{reader_is}
 

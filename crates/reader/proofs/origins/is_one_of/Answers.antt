@@ -1,34 +1,25 @@
 -- None is not one of them; a page is, if it is neither before nor behind them.
 use mathlib.Core.Path.{◌≡◌, refl}
-use mathlib.Core.Bool.{false}
-use Prim.Native.Nat.{ℕ, ◌+◌, ◌≤◌, ◌<◌}
-use lib.Dec.{ltb}
-use borrow.Author.Tests.{ne_eqb, le-leb, lt-leb}
-use Rattle.protocol.specs.Numbers.{no_page}
-use Rattle.protocol.specs.Tests.{among}
+use Prim.Native.Nat.{ℕ}
+use native.Mathlib.Omega.{arith}
+use lib.Dec.{leb, ltb}
+use borrow.Author.Tests.{ne_eqb}
+use Rattle.std.specs.Ordering.{is_le, is_lt, nat_cmp}
 use Rattle.protocol.specs.Reader.{is_one_of}
 use Rattle.protocol.specs.Records.{origin_of}
+use Rattle.protocol.specs.Numbers.{no_page}
 use Rattle.reader.proofs.origins.is_one_of.Goals as goal
 
-module _ (o p n : ℕ) where
-  none : o ≡ no_page → false ≡ is_one_of (among p n) (origin_of o)
-  unfolding is_one_of origin_of
-  none e = rw e refl
+lt_cmp : (a b : ℕ) → is_lt (nat_cmp a b) ≡ ltb a b
+lt_cmp a b = grind arith
 
-  module _ (d : o ≡ no_page → ⊥) where
-    before : o < p → false ≡ is_one_of (among p n) (origin_of o)
-    unfolding is_one_of origin_of
-    before l = rw (ne_eqb o no_page d, lt-leb p o l) refl
+le_cmp : (a b : ℕ) → is_le (nat_cmp a b) ≡ leb a b
+le_cmp a b = grind arith
 
-    from_there : p ≤ o → ltb o (p + n) ≡ is_one_of (among p n) (origin_of o)
-    unfolding is_one_of origin_of
-    from_there l = rw (ne_eqb o no_page d, le-leb p o l) refl
+pub returns-then-origin-ne-NO_PAGE : goal.returns-then-origin-ne-NO_PAGE
+unfolding is_one_of origin_of
+returns-then-origin-ne-NO_PAGE c = let v = c.contains.ensures.value in rw (ne_eqb c.args.origin no_page c.if-origin-ne-NO_PAGE.true, v, lt_cmp, le_cmp, c.from-start.ensures, c.from-then-origin-ne-NO_PAGE.ensures, c.from.ensures) refl
 
-pub returns-then-origin-eq-NO_PAGE : goal.returns-then-origin-eq-NO_PAGE
-returns-then-origin-eq-NO_PAGE c = search none
-
-pub returns-then-p-page : goal.returns-then-p-page
-returns-then-p-page c = search before
-
-pub returns : goal.returns
-returns c = search from_there
+pub returns-else-origin-ne-NO_PAGE : goal.returns-else-origin-ne-NO_PAGE
+unfolding is_one_of origin_of
+returns-else-origin-ne-NO_PAGE c = rw (c.if-origin-ne-NO_PAGE.false) refl

@@ -1,9 +1,11 @@
 -- What is left to send, laid from here, gives the whole.
+use Rattle.std.specs.Slice.Iter.{chunks_exact_rest, chunks_exact_size}
+use mathlib.Core.Path.{◌≡◌}
 use Rattle.reader.proofs.Replies.{Sending}
 use Rattle.reader.proofs.reply.put_data.Given as goal
 
-abbrev pub invariant-loop-left : goal.invariant-loop-left
-invariant-loop-left l = Sending l.initial.reply l.address l.src l.at l.size l.count l.reply l.left l.from l.to
-
-abbrev pub decreases-loop-left : goal.decreases-loop-left
-decreases-loop-left l = l.left
+abbrev pub invariant-loop-content : goal.invariant-loop-content
+invariant-loop-content l =
+    (goal.iterator-loop-content).can_next l.content-iterator ×
+    (chunks_exact_size l.content-iterator ≡ l.size) ×
+    Sending l.settings.address l.bytes l.size l.at l.end l.initial.reply l.reply (chunks_exact_rest l.content-iterator) l.to

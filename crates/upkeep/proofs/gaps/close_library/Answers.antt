@@ -3,4 +3,4 @@ use Rattle.upkeep.proofs.Gathering.{tidied}
 use Rattle.upkeep.proofs.gaps.close_library.Goals as goal
 
 pub returns : goal.returns
-returns c = search tidied
+returns c = let z = c.fill.ensures.after (λ y e. e) in search tidied

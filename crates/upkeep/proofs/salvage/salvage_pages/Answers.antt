@@ -2,7 +2,7 @@ use Rattle.upkeep.proofs.Salvaging.{none_passed, reached, passed_on, all_passed}
 use Rattle.upkeep.proofs.salvage.salvage_pages.Goals as goal
 
 pub loop-p-init : goal.loop-p-init
-loop-p-init c = search none_passed
+loop-p-init c = let z = c.fill.ensures.after (λ y e. e) in search none_passed
 
 pub salvage_page-p-requires : goal.salvage_page-p-requires
 salvage_page-p-requires c = search reached

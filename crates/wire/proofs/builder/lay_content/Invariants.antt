@@ -1,11 +1,13 @@
 -- The bytes before place i of the content are laid and summed; at the end that is all of them.
-use Rattle.std.proofs.Common.{◌≡◌, ◌-◌, ◌≤◌, length, take}
-use Rattle.protocol.specs.Bytes.{lay}
-use Rattle.wire.proofs.Sums.{Summed}
+use Rattle.std.proofs.Common.{◌≡◌, ℕ, ◌%◌, List, take}
+use Rattle.protocol.specs.Numbers.{head_bytes}
+use Rattle.protocol.specs.Bytes.{total, lay}
 use Rattle.wire.proofs.builder.lay_content.Given as goal
 
-abbrev pub invariant-loop-i : goal.invariant-loop-i
-invariant-loop-i l = (l.i ≤ length l.content) × ((l.room ≡ lay l.at (take l.i l.content) l.initial.room) × ((length l.room ≡ length l.initial.room) × Summed l.content l.acc l.i))
+-- how far the loop has come
+pub record Laying (s d x : List ℕ) (n i : ℕ) : Type 0 where
+  pub laid : x ≡ lay head_bytes (take i s) d
+  pub sum : n ≡ total (take i s) % 65536
 
-abbrev pub decreases-loop-i : goal.decreases-loop-i
-decreases-loop-i l = length l.content - l.i
+abbrev pub invariant-loop-i : goal.invariant-loop-i
+invariant-loop-i l = Laying l.content l.initial.room l.room l.sum l.i

@@ -1,4 +1,3 @@
--- As one number, four bytes are equal just where all four are the same.
 use Rattle.std.proofs.Common.{rules}
 use Rattle.wire.proofs.Sums.{same_four}
 use Rattle.wire.proofs.bytes.is_same.Goals as goal

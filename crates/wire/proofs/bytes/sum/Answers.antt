@@ -1,12 +1,9 @@
-use Rattle.std.proofs.Common.{arith, rules}
-use Rattle.wire.proofs.Sums.{sum_none, sum_more, sum_all}
+use Rattle.std.proofs.Common.{rules, ◌≡◌, ℕ, ◌+◌, ◌%◌, ◌∙◌, zero-add, arith}
+use Rattle.std.specs.List.{fold}
+use Rattle.wire.proofs.Sums.{total_folded}
 use Rattle.wire.proofs.bytes.sum.Goals as goal
 
-pub loop-i-init : goal.loop-i-init
-loop-i-init c = (omega arith, sum_none _)
-
-pub loop-i-preserved : goal.loop-i-preserved
-loop-i-preserved c = (search rules, search sum_more)
-
 pub returns : goal.returns
-returns c = search sum_all
+returns c =
+    let e : c.fold.result ≡ fold (λ (n b : ℕ). (n + b) % 65536) 0 c.args.s.now = search rules in
+    e ∙ rw zero-add at (total_folded c.args.s.now 0 (omega arith))

@@ -1,27 +1,17 @@
--- A length field of at least 3 is below no limit of 0, so that the one test against the limit stands for identifier and length.
-use Rattle.std.proofs.Common.{◌≡◌, ℕ, ◌<◌, ◌≤◌, Bool, true, false, cond, ◌&&◌, leb, refl, arith, le-leb}
-use borrow.Author.Tests.{lt-leb}
+-- A length field fits where the identifier has a limit, and it is no less than 3 and no more than that.
+use Rattle.std.proofs.Common.{◌≡◌, ℕ, Bool, true, false, cond, ◌&&◌, leb, Option, None, Some, rules}
 use Rattle.protocol.specs.Numbers.{shortest}
 use Rattle.protocol.specs.Packet.{is_identifier, limit, accepts}
-use Rattle.protocol.proofs.Laws.Logic.{and_false}
 use Rattle.wire.specs.Limits.{limit_of}
 use Rattle.wire.proofs.finder.is_head.Goals as goal
 
-module _ (i n : ℕ) where
-  too_short : n < shortest → false ≡ accepts i n
-  unfolding accepts
-  too_short h = rw (lt-leb _ _ h, and_false (is_identifier i) false refl) refl
-
-  by_limit : shortest ≤ n → (m : ℕ) → m ≡ limit_of i → leb n m ≡ accepts i n
-  unfolding accepts limit_of
-  by_limit h m e = rw (e, le-leb _ _ h) (go (is_identifier i))
-    where
-      go : (b : Bool) → leb n (cond b (limit i) 0) ≡ (b && true && leb n (limit i))
-      go true = refl
-      go false = lt-leb n 0 (omega arith)
-
-pub returns-then-n-lt-SHORTEST : goal.returns-then-n-lt-SHORTEST
-returns-then-n-lt-SHORTEST c = search too_short
+by_limit : (i n : ℕ) (o : Option ℕ) (r : Bool) → o ≡ limit_of i → ((m : ℕ) → o ≡ Some m → r ≡ (leb shortest n && leb n m)) → (o ≡ None → r ≡ false) → r ≡ accepts i n
+unfolding accepts limit_of
+by_limit i n o r e f g = go (is_identifier i) e
+  where
+    go : (b : Bool) → o ≡ cond b (Some (limit i)) None → r ≡ (b && leb shortest n && leb n (limit i))
+    go true k = f (limit i) k
+    go false k = g k
 
 pub returns : goal.returns
-returns c = search by_limit
+returns c = by_limit _ _ _ _ c.limit_of.ensures (λ m e. search rules) (λ e. search rules)

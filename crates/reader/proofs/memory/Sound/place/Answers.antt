@@ -1,0 +1,38 @@
+-- The bytes lie in the open transfer's buffer; the last closes it and sets the mark, and any other moves it on.
+use mathlib.Core.Path.{◌≡◌, refl}
+use mathlib.Core.Bool.{true}
+use Rattle.protocol.specs.Table.{is_buffer}
+use Rattle.protocol.specs.Step.{silence}
+use Rattle.reader.specs.declared.buffers.Buffer.{Buffer}
+use Rattle.reader.specs.declared.buffers.Buffer.TheVariants.{First, Second}
+use Rattle.reader.specs.Buffers.{buffer_number, changed}
+use Rattle.reader.proofs.Transfers.{placed_legal, placed_reader, part_copied}
+use Rattle.reader.proofs.memory.Sound.place.Goals as goal
+
+named : (b : Buffer) → is_buffer (buffer_number b) ≡ true
+unfolding is_buffer
+named First = refl
+named Second = refl
+
+pub invariant_of-self : goal.invariant_of-self
+invariant_of-self c = let l = c.args.self.now.legal in let e = c.requires.opened in let n = named c.args.buffer in search placed_legal
+
+pub returns-in-First-clause-placed : goal.returns-in-First-clause-placed
+unfolding silence changed is_buffer
+returns-in-First-clause-placed c =
+    let s = c.args.self.now in
+    let z = part_copied _ _ _ s.buffer1.now _ c.copy_from_slice.ensures.after c.from-at.ensures in
+    let q = rw (c.in-First.is) at c.moved_on-self.ensures in
+    let e = rw (c.in-First.is) at c.requires.opened in
+    rw (c.in-First.is)
+    (placed_reader 1 _ s.settings.now s.legal e refl c.args.last _ s.templates.now s.index.now s.notepad.now s.buffer1.now s.buffer2.now _ _ c.args.content.now q (rw (c.from-at.ensures) refl) c.requires.long (rw z refl))
+
+pub returns-in-Second-clause-placed : goal.returns-in-Second-clause-placed
+unfolding silence changed is_buffer
+returns-in-Second-clause-placed c =
+    let s = c.args.self.now in
+    let z = part_copied _ _ _ s.buffer2.now _ c.copy_from_slice-in-Second.ensures.after c.from-at.ensures in
+    let q = rw (c.in-Second.is) at c.moved_on-self.ensures in
+    let e = rw (c.in-Second.is) at c.requires.opened in
+    rw (c.in-Second.is)
+    (placed_reader 2 _ s.settings.now s.legal e refl c.args.last _ s.templates.now s.index.now s.notepad.now s.buffer1.now s.buffer2.now _ _ c.args.content.now q (rw (c.from-at.ensures) refl) c.requires.long (rw z refl))
