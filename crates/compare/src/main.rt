@@ -71,7 +71,8 @@ fn read_pages<F: Read>(
     (last == Piece::End).then_some(numbers::MOST_PAGES)
 }
 
-// Both files whole: the indexes, the notepads, and the code of each page. It returns the number of pages, as above.
+// Both files whole: the indexes, the notepads, and the code of each page. It returns the number of pages, as above. The four arrays are in no struct, behind whose `&mut`
+// the check would forget how long they are.
 fn read<F: Read>(
     one: &mut Option<F>,
     two: &mut Option<F>,

@@ -18,7 +18,7 @@ const TEXT: usize = LINE * (numbers::MOST_PAGES + compare::NOTES);
 
 pub(crate) type Text = ArrayVec<u8, TEXT>;
 
-// T or N, page number in decimal, space, code, newline.
+// T or N, page number in decimal, space, code, newline: byte by byte, since of `write!` it is stated only what an `Ok` leaves, and nowhere that there is one.
 fn put_line(text: &mut Text, letter: u8, page: usize, code: u8)
     requires few { page < 1000 }
     requires room { length text.old.items + 7 ≤ 7112 }

@@ -9,7 +9,7 @@ ghost use Rattle.offline.specs.Records.{closed_of, moved_at};
 ghost use Rattle.upkeep.specs.Gaps.{Shelved, Gathered, move_page, Tidied, followed_in};
 
 use crate::lent;
-use library::pages;
+use library::{index, pages};
 use protocol::refusals::Refusal;
 use protocol::{Settings, numbers};
 use reader::call;
@@ -33,7 +33,7 @@ fn gather(templates: &mut [u8], index: &[u8], table: &mut [u16]) -> usize
     let mut next = 0;
     let end = templates.len() / numbers::PAGE;
     for p in 0..end {
-        if lent::is_stored(index, p) {
+        if index::is_stored(index, p) {
             table[p] = next as u16;
             if next < p {
                 move_page(templates, p, next);

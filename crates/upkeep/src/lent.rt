@@ -1,7 +1,6 @@
-// What every call here asks of a lent library: its lengths (refusal 1), whether a page is stored, and whether bytes are the same.
-ghost use Rattle.std.specs.Prelude.{◌≡◌, ◌/◌, ◌<◌, length};
+// What every call here asks of a lent library: its lengths (refusal 1), and whether bytes are the same.
+ghost use Rattle.std.specs.Prelude.{◌≡◌};
 ghost use Rattle.protocol.specs.Bytes.{same};
-ghost use Rattle.protocol.specs.Index.{stored};
 ghost use Rattle.upkeep.specs.Lent.{fits_lent};
 
 use protocol::numbers;
@@ -18,16 +17,8 @@ pub(crate) fn is_fit(t: usize, i: usize, n: usize, wanted: usize) -> bool
         && n == wanted
 }
 
-// Whether a page that the index has a bit for is stored. `index::has_bit` tests that it has one: with it, closing no gap of 1000 pages takes 1.32 times plain C's
-// instructions, where the bar is 1.1.
-pub(crate) fn is_stored(index: &[u8], p: usize) -> bool
-    requires { p / 8 < length index.now }
-    ensures { result ≡ stored index.now p }
-{
-    index[p / 8] >> (p % 8) & 1 == 1
-}
-
-// Whether two slices have the same bytes. All are looked at, which lets the compiler take sixteen at a time.
+// Whether two slices have the same bytes. All are looked at, which lets the compiler take sixteen at a time: with `a == b`, which stops at the first that differs, salvage
+// of 1000 clean pages takes 2.83 times plain C's instructions, and comparing 1000 same pages 1.69 times, where the bar is 1.1.
 pub(crate) fn is_equal(a: &[u8], b: &[u8]) -> bool
     ensures { result ≡ same a.now b.now }
 {
