@@ -40,33 +40,3 @@ impl From<UnknownCode> for Code {
         Code::UnknownCommand
     }
 }
-
-pub const DONE: u8 = 0x00;
-
-pub const BAD_PACKET: u8 = 0x01;
-
-pub const NOT_FOUND: u8 = 0x09;
-
-pub const BAD_PAGE: u8 = 0x0B;
-
-pub const NOTHING_THERE: u8 = 0x0C;
-
-pub const NOTHING_TO_SEND: u8 = 0x0D;
-
-pub const TRANSFER_FAILED: u8 = 0x0E;
-
-pub const BAD_RANGE: u8 = 0x10;
-
-pub const WRONG_PASSWORD: u8 = 0x13;
-
-pub const UNKNOWN_COMMAND: u8 = 0x19;
-
-pub const BAD_PARAMETER: u8 = 0x1A;
-
-pub const BAD_VALUE: u8 = 0x1B;
-
-pub const BAD_NOTE_PAGE: u8 = 0x1C;
-
-pub const PASSWORD_FIRST: u8 = 0x21;
-
-pub const PAGE_TAKEN: u8 = 0x22;

@@ -94,15 +94,6 @@ pub const LONGEST_OTHER: usize = 256;
 // What a receiver holds at most: the longest packet (request [1]).
 pub const HOLDS: usize = HEAD + LONGEST;
 
-// Identifiers.
-pub const COMMAND_PACKET: u8 = 1;
-
-pub const DATA_PACKET: u8 = 2;
-
-pub const ACKNOWLEDGE_PACKET: u8 = 7;
-
-pub const LAST_PACKET: u8 = 8;
-
 // ---- the index count
 
 // Its answer to an index of another length.

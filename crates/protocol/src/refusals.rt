@@ -27,13 +27,3 @@ pub fn refusal_of<T>(outcome: &Result<T, Refusal>) -> u8
         Err(refusal) => u8::from(*refusal),
     }
 }
-
-pub const ACCEPTED: u8 = 0;
-
-pub const BAD_LENGTH: u8 = 1;
-
-pub const BAD_ROOM: u8 = 2;
-
-pub const BAD_SETTING: u8 = 3;
-
-pub const BAD_CONTENT: u8 = 4;
