@@ -104,15 +104,15 @@ impl Bench {
         ensures written { OnOk result (Appends (W.contents output.old) (W.contents output.new)
             (replies (line_at self.old) piece.now)) }
     {
-        let mut from = 0;
+        let mut rest = piece;
         loop {
             let before = self.receiver.count;
-            let lengths = self.offer(&piece[from..], reply)?;
+            let lengths = self.offer(rest, reply)?;
             write(output, &reply[..lengths.reply]).map_err(Failure::Write)?;
             if is_last(lengths.used, before, self.receiver.count) {
                 return Ok(());
             }
-            from += lengths.used;
+            rest = &rest[lengths.used..];
         }
     }
 }
