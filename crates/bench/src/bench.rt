@@ -19,6 +19,7 @@ const PAGES: usize = 64;
 
 const TEMPLATES: usize = PAGES * numbers::PAGE;
 
+// The reader and its line, with all its memory: fixed arrays, as on the boards.
 #[derive(Drop)]
 pub(crate) struct Bench {
     settings: Settings,
@@ -70,11 +71,8 @@ impl Bench {
         ensures { Offered (line_at self.old) piece.now (lent_of no_scores no_thresholds reply.old)
             (offered_at result self.new reply.new) }
     {
-        // Read so that the check knows how many bytes lie there, and that they are bytes.
-        let _password = self.settings.password[0];
-        let _address = self.settings.address[0];
+        // By one byte read the check knows how long each array behind `self` is.
         let _held = self.receiver.held[0];
-        let _index = self.index[0];
         let scores = [0u16; PAGES];
         let thresholds = [0u16; numbers::LEVELS];
         let reader = Reader {
@@ -89,11 +87,18 @@ impl Bench {
             scores: &scores,
             thresholds: &thresholds,
         };
-        receiver::receive(numbers::NOTEPAD, &mut self.receiver, reader, chip, piece, reply)
+        receiver::receive(
+            numbers::NOTEPAD,
+            &mut self.receiver,
+            reader,
+            chip,
+            piece,
+            reply,
+        )
     }
 
-    // Offers a piece up to the last call, and writes each reply. A loop, not a `for`: it goes on until a call is the last, and ends since each other call brings
-    // the end of the piece nearer.
+    // Offers a piece up to the last call, and writes each reply. A refusal and a failed write end it. A `loop`: only a call's outcome shows that it was the last;
+    // it ends, since each other call leaves less of the piece, or fewer bytes held.
     pub(crate) fn answer<W: Write>(
         &mut self,
         output: &mut W,

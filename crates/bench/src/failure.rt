@@ -1,7 +1,9 @@
 // Why the program stops before its input ends.
+ghost use Rattle.std.specs.Prelude.{◌≡◌};
+ghost use Rattle.bench.specs.declared.failure.Failure.TheVariants.{Refused};
+
 use protocol::refusals::Refusal;
-use std::fmt;
-use std::io;
+use std::{fmt, io};
 
 #[derive(Drop)]
 pub(crate) enum Failure {
@@ -10,6 +12,7 @@ pub(crate) enum Failure {
     Refused,
 }
 
+// The line on standard error.
 impl fmt::Display for Failure {
     fn fmt<W: fmt::Write>(&self, f: &mut fmt::Formatter<W>) -> fmt::Result {
         match self {
@@ -21,6 +24,8 @@ impl fmt::Display for Failure {
 }
 
 impl From<Refusal> for Failure {
+    ghost from_gives = { λ _ failure. failure ≡ Refused };
+
     fn from(_: Refusal) -> Failure {
         Failure::Refused
     }

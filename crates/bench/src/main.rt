@@ -41,6 +41,7 @@ fn talk<R: Read, W: Write>(input: &mut R, output: &mut W) -> Result<(), Failure>
     Ok(())
 }
 
+// A failure is told on standard error; the exit status is 0 all the same.
 fn main(rt: HostRuntime) {
     if let Err(failure) = talk(&mut rt.stdin(), &mut rt.stdout()) {
         let _ = eprintln!(rt; "{failure}");
