@@ -16,4 +16,4 @@ starts s h t i n b d z f e = rw (f t i n b d, e, z.pages, z.bits, z.notes, z.one
 
 pub returns-clause-started : goal.returns-clause-started
 returns-clause-started c =
-    starts _ _ _ _ _ _ _ record { pages = search rules; bits = search rules; notes = search rules; one = search rules; two = search rules } c.fresh.ensures c.empty.ensures
+    starts _ _ _ _ _ _ _ (search rules) c.fresh.ensures c.empty.ensures
