@@ -1,7 +1,6 @@
 -- What a receiver's call keeps within, and a piece offered up to rest.
 use Rattle.std.proofs.Common.{true, false, Option, None, Some, ◌≡◌, refl, sym, ap, ◌∙◌, subst, List, [], ◌∷◌, ◌++◌, ℕ, ◌+◌, ◌-◌, ◌*◌, ◌≤◌, ◌<◌, arith, eqb, eqb→eq, leb→le, length, get_or, take, drop, length-take, length-drop, take_all, append_assoc, append-nil, w8, Fits, eq-eqb}
 use Rattle.std.proofs.lemmas.Bool.{true≢false}
-use Rattle.std.proofs.lemmas.List.{drop-drop}
 use Rattle.std.proofs.Math.Decide.{dec_le}
 use Rattle.std.proofs.Math.Seq.{take-nil}
 use Rattle.std.specs.List.{concat}

@@ -4,7 +4,7 @@
 mod bench;
 mod failure;
 
-ghost use Rattle.std.specs.Prelude.{◌≤◌, ◌≡◌, [], take, length, OnErr, IfOk};
+ghost use Rattle.std.specs.Prelude.{◌≤◌, [], take, length, OnErr, IfOk};
 ghost use Rattle.std.specs.Io.KnownBytes.{Consumes};
 
 use bench::Bench;
