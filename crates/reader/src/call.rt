@@ -207,7 +207,7 @@ impl Reader<'_> {
     }
 }
 
-/// The line switch: any settings and both buffers; marks and status bit 1 cleared, transfer closed, buffers zeroed, origins none. It knows only refusal 1.
+/// The line switch, for which no whole reader is lent: any settings and both buffers; marks and status bit 1 cleared, transfer closed, buffers zeroed, origins none. It knows only refusal 1.
 pub fn line_switch(
     settings: &mut Settings,
     buffer1: &mut [u8],
