@@ -1,5 +1,5 @@
 // What the board's C firmware links, libboard.a: each door of the crate `board` under its own name, with the same clauses.
-// include/bystrodol.h is the C face.
+// A crate is a library or an archive and not both, so each door stands in two. include/bystrodol.h is the C face.
 #![tactic(auto)]
 
 ghost use Rattle.std.specs.Prelude.{◌≡◌, List, ℕ};

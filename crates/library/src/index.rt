@@ -40,6 +40,7 @@ pub fn byte_of(index: &[u8], at: u8) -> u8
     found
 }
 
+// Setting and clearing are two functions of a line each: one with a truth that tells them apart is no plainer.
 pub fn set_bit(index: &mut [u8], p: usize)
     ensures { index.new ≡ set_bit index.old p }
 {

@@ -1,6 +1,6 @@
 // What a C firmware links that hands whole runs over, libstep.a: the two doors of the crate `step` under their own names, with the same clauses.
-// include/bystrodol.h is the C face. It stands apart from `board_c`, so that in the archive of each one function leads to the reader's call, and the compiler
-// builds the call into it.
+// A crate is a library or an archive and not both, so each door stands in two. include/bystrodol.h is the C face.
+// It stands apart from `board_c`, so that in the archive of each one function leads to the reader's call, and the compiler builds the call into it.
 #![tactic(auto)]
 
 ghost use Rattle.std.specs.Prelude.{◌≡◌, List, ℕ};

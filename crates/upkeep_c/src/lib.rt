@@ -1,5 +1,6 @@
 // What a C firmware links that works on a library between two calls, libupkeep.a: the doors of the crate `upkeep` under their own names, with the same clauses.
-// include/bystrodol.h is the C face. It stands apart from `board_c`: in an archive where two functions test settings the compiler builds the test into neither.
+// A crate is a library or an archive and not both, so each door stands in two. include/bystrodol.h is the C face.
+// It stands apart from `board_c`: in an archive where two functions test settings the compiler builds the test into neither.
 #![tactic(auto)]
 
 ghost use Rattle.std.specs.Prelude.{◌≡◌, List, ℕ};
