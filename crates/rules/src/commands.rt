@@ -10,9 +10,9 @@ use protocol::Settings;
 use protocol::codes::Code;
 use protocol::command_codes::CommandCode;
 
-/// The length field that a command fixes.
+// The length field that a command fixes.
 #[tactic(auto, unfolding(crate::specs::Commands::len_of, protocol::specs::Commands::row_of, protocol::specs::Commands::commands))]
-pub fn required(command: CommandCode) -> usize
+fn required(command: CommandCode) -> usize
     ensures { result ≡ len_of (row_of commands (command_number command)) }
 {
     match command {
@@ -32,9 +32,9 @@ pub fn required(command: CommandCode) -> usize
     }
 }
 
-/// Whether a locked reader carries the command out too.
+// Whether a locked reader carries the command out too.
 #[tactic(auto, unfolding(crate::specs::Commands::is_free))]
-pub fn is_free(command: CommandCode) -> bool
+fn is_free(command: CommandCode) -> bool
     ensures { result ≡ is_free (command_number command) }
 {
     matches!(
