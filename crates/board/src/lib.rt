@@ -59,7 +59,7 @@ pub extern "C" fn bystrodol_count(index: &[u8]) -> u16
 pub extern "C" fn bystrodol_bring_over(old: &[u8], index: &mut [u8]) -> u8
     ensures { brought_of result index.new ≡ bring_over old.now index.old }
 {
-    refusals::refusal_of(&index::bring_over(old, index))
+    refusals::outcome_number(&index::bring_over(old, index))
 }
 
 // A call of the receiver on a lent line.
@@ -105,7 +105,7 @@ pub extern "C" fn bystrodol_receiver_switch(
         → emptied_of (emptied_at line.new result) t i n buffer1.new buffer2.new
         ≡ line_switch_of (line_of line.old t i n buffer1.old buffer2.old) }
 {
-    refusals::refusal_of(&receiver::line_switch(line, buffer1, buffer2))
+    refusals::outcome_number(&receiver::line_switch(line, buffer1, buffer2))
 }
 
 // Fresh settings.

@@ -3,7 +3,7 @@ ghost use Rattle.std.specs.Prelude.{◌≡◌, ◌*◌, ◌/◌, ◌%◌, ◌<�
 ghost use Rattle.protocol.specs.Bytes.{byte_at};
 ghost use Rattle.protocol.specs.Index.{stored, set_bit, clear_bit, clear_bits, set_bits, clear_from};
 ghost use Rattle.protocol.specs.BringOver.{bring_over};
-ghost use Rattle.protocol.specs.Codes.{refusal_of};
+ghost use Rattle.protocol.specs.Codes.{outcome_number};
 ghost use Rattle.protocol.specs.Records.{brought_of};
 ghost use Rattle.library.specs.Lent.{counted_of};
 
@@ -108,7 +108,7 @@ pub fn count(index: &[u8], len: u8) -> Option<u16>
 
 /// Brings an index that was stored before request [6] over to a lent one: its bytes, and zero bytes behind them.
 pub fn bring_over(old: &[u8], index: &mut [u8]) -> Result<(), Refusal>
-    ensures { brought_of (refusal_of result) index.new ≡ bring_over old.now index.old }
+    ensures { brought_of (outcome_number result) index.new ≡ bring_over old.now index.old }
 {
     if old.len() != OLD_INDEX || index.len() != INDEX {
         return Err(Refusal::BadLength);

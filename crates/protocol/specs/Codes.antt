@@ -22,9 +22,9 @@ refusal_number BadSetting = bad_setting
 refusal_number BadContent = bad_content
 
 -- what a caller gets back: the refusal, or 0
-abbrev pub refusal_of : {T : Type 0} → Result T Refusal → ℕ
-refusal_of (Ok x) = 0
-refusal_of (Err e) = refusal_number e
+abbrev pub outcome_number : {T : Type 0} → Result T Refusal → ℕ
+outcome_number (Ok x) = 0
+outcome_number (Err e) = refusal_number e
 
 -- ---- acknowledge codes
 

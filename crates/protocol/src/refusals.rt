@@ -1,6 +1,6 @@
 // Why a call is refused. A caller in C gets the number, which specs/Numbers.antt names for the definitions, and 0 for a call that is carried out.
 ghost use Rattle.std.specs.Prelude.{◌≡◌};
-ghost use Rattle.protocol.specs.Codes.{refusal_number, refusal_of};
+ghost use Rattle.protocol.specs.Codes.{refusal_number, outcome_number};
 
 #[derive(Clone, Copy, Debug, PartialEq, Eq)]
 pub enum Refusal {
@@ -19,8 +19,8 @@ impl From<Refusal> for u8 {
 }
 
 /// The number for a caller in C.
-pub fn refusal_of<T>(outcome: &Result<T, Refusal>) -> u8
-    ensures { result ≡ refusal_of outcome.now }
+pub fn outcome_number<T>(outcome: &Result<T, Refusal>) -> u8
+    ensures { result ≡ outcome_number outcome.now }
 {
     match outcome {
         Ok(_) => 0,

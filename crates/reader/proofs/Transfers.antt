@@ -5,7 +5,7 @@ use mathlib.Core.List.{List, []}
 use Prim.Native.Nat.{ℕ, zero, suc, ◌+◌, ◌-◌, ◌≤◌}
 use native.Mathlib.Omega.{arith}
 use lib.Dec.{eqb, ltb}
-use lib.ListN.{length}
+use lib.ListN.{length, take, drop}
 use borrow.Rule.Slice.PartMut.{put_mid}
 use borrow.Author.Tests.{eqb-true, ltb-true}
 use Rattle.protocol.specs.Numbers.{page_bytes, transfer_failed}
@@ -18,7 +18,8 @@ use Rattle.protocol.specs.Step.{says, silence, ended, rested, fits, take_as, tak
 use Rattle.protocol.specs.Records.{marks_of, plain_of, reader_of}
 use Rattle.protocol.proofs.Laws.Marks.{fit_mark_lem, none_beside, into_beside}
 use Rattle.rules.specs.Settings.{with_transfer, Legal}
-use Rattle.library.proofs.Parts.{part_laid}
+use Rattle.library.proofs.Parts.{part_put}
+use Rattle.wire.specs.Laying.{lay_front}
 use Rattle.reader.specs.Buffers.{buffers, changed, with_fill}
 use Rattle.reader.proofs.Laws.{chosen_filled, chosen_bytes, chosen_origin}
 use Rattle.reader.proofs.ByNumber.{held_fit, changed_marked, changed_kept, moved_legal, filled_legal}
@@ -88,9 +89,9 @@ part_facts p k l s c e =
 
 -- ---- placed
 
--- a part that is lent comes back with these bytes
-pub part_copied : (a g : ℕ) (c x y : List ℕ) → y ≡ c → a ≡ g → put_mid a (a + length c - a) x y ≡ lay g c x
-part_copied a g c x y e f = rw (e, ← f) (part_laid a (a + length c) x c (omega arith) (omega arith))
+-- bytes put over a part that is as long
+pub part_copied : (a g : ℕ) (c x y : List ℕ) → a + length c ≤ length x → y ≡ lay_front c (take (a + length c - a) (drop a x)) → a ≡ g → put_mid a (a + length c - a) x y ≡ lay g c x
+part_copied a g c x y h e f = rw (← f) (part_put a (length c) x c y refl h e)
 
 -- the settings once a data packet of n bytes has gone into buffer k: the last sets the filled mark and closes the transfer
 module _ (k n : ℕ) (s : Settings) (j : Legal s) (e : s.transfer ≡ k) (o : is_buffer k ≡ true) where

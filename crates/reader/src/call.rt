@@ -3,7 +3,7 @@ ghost use Rattle.std.specs.Prelude.{◌≡◌, ◌&&◌, List, ℕ, ◌+◌, ◌
 ghost use Rattle.protocol.specs.declared.Found.TheVariants.{Whole};
 ghost use Rattle.protocol.specs.Numbers.{page_bytes, head_bytes, most_pages, reply_room};
 ghost use Rattle.protocol.specs.Bytes.{same};
-ghost use Rattle.protocol.specs.Codes.{refusal_of};
+ghost use Rattle.protocol.specs.Codes.{outcome_number};
 ghost use Rattle.protocol.specs.Packet.{address_at, right_at};
 ghost use Rattle.protocol.specs.Step.{hear_as, hear_at, answer};
 ghost use Rattle.protocol.specs.Call.{shaped, call_of, switch_of};
@@ -209,7 +209,7 @@ pub fn line_switch(
     buffer1: &mut [u8],
     buffer2: &mut [u8],
 ) -> Result<(), Refusal>
-    ensures { (t i n : List ℕ) → switched_of (switched_at settings.new (refusal_of result)) t i n buffer1.new buffer2.new
+    ensures { (t i n : List ℕ) → switched_of (switched_at settings.new (outcome_number result)) t i n buffer1.new buffer2.new
         ≡ switch_of (reader_of settings.old t i n buffer1.old buffer2.old) }
 {
     if buffer1.len() != numbers::PAGE {

@@ -16,6 +16,7 @@ use crate::memory::Sound;
 use protocol::Settings;
 use protocol::codes::Code;
 use rules::{settings, transfer};
+use wire::bytes;
 
 // The settings once a data packet has gone in, up to a place: the last sets the filled mark and closes the transfer.
 fn moved_on(settings: Settings, buffer: Buffer, next: u16, last: bool) -> Settings
@@ -52,9 +53,10 @@ impl Sound<'_> {
         let at = usize::from(self.settings.got);
         let next = at + content.len();
         *self.settings = moved_on(*self.settings, buffer, next as u16, last);
+        // By `put`, whose two slices the compiler knows to lie apart: copy_from_slice between fields would need memmove of a board's C library.
         match buffer {
-            Buffer::First => self.buffer1[at..next].copy_from_slice(content),
-            Buffer::Second => self.buffer2[at..next].copy_from_slice(content),
+            Buffer::First => bytes::put(&mut self.buffer1[at..next], content),
+            Buffer::Second => bytes::put(&mut self.buffer2[at..next], content),
         }
     }
 

@@ -3,7 +3,7 @@
 
 ghost use Rattle.std.specs.Prelude.{◌≡◌, List, [], ℕ};
 ghost use Rattle.protocol.specs.Call.{shaped};
-ghost use Rattle.protocol.specs.Codes.{refusal_number, refusal_of};
+ghost use Rattle.protocol.specs.Codes.{refusal_number, outcome_number};
 ghost use Rattle.protocol.specs.Receiver.{holding, line, receive_of, line_switch_of};
 ghost use Rattle.protocol.specs.Records.{line_of, emptied_of, emptied_at};
 ghost use Rattle.reader.specs.Calls.{lent_at};
@@ -102,7 +102,7 @@ pub fn line_switch(
     buffer1: &mut [u8],
     buffer2: &mut [u8],
 ) -> Result<(), Refusal>
-    ensures { (t i n : List ℕ) → emptied_of (emptied_at line.new (refusal_of result)) t i n buffer1.new buffer2.new
+    ensures { (t i n : List ℕ) → emptied_of (emptied_at line.new (outcome_number result)) t i n buffer1.new buffer2.new
         ≡ line_switch_of (line_of line.old t i n buffer1.old buffer2.old) }
 {
     call::line_switch(&mut line.settings, buffer1, buffer2)?;

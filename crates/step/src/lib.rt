@@ -54,5 +54,5 @@ pub extern "C" fn bystrodol_line_switch(
         → switched_of (switched_at settings.new result) t i n buffer1.new buffer2.new
         ≡ switch_of (reader_of settings.old t i n buffer1.old buffer2.old) }
 {
-    refusals::refusal_of(&call::line_switch(settings, buffer1, buffer2))
+    refusals::outcome_number(&call::line_switch(settings, buffer1, buffer2))
 }

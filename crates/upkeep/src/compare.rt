@@ -4,7 +4,7 @@ ghost use Rattle.protocol.specs.Numbers.{page_bytes, notepad_bytes};
 ghost use Rattle.protocol.specs.Bytes.{same, lay};
 ghost use Rattle.protocol.specs.Index.{stored};
 ghost use Rattle.protocol.specs.Tests.{listed};
-ghost use Rattle.protocol.specs.Codes.{refusal_of};
+ghost use Rattle.protocol.specs.Codes.{outcome_number};
 ghost use Rattle.protocol.specs.Call.{core};
 ghost use Rattle.offline.specs.Compare.{library, page_code, page_says, compare_of};
 ghost use Rattle.offline.specs.Records.{compared_of};
@@ -138,7 +138,7 @@ fn are_fit(one: Library, two: Library, entries: usize) -> bool
 
 // Two libraries of equal capacity with their notepads, and a report of C + 16 bytes.
 pub fn compare(one: Library, two: Library, report: &mut [u8]) -> Result<(), Refusal>
-    ensures { compared_of (refusal_of result) report.new ≡ compare_of core
+    ensures { compared_of (outcome_number result) report.new ≡ compare_of core
         (library one.entry.index.now one.entry.notepad.now one.entry.templates.now)
         (library two.entry.index.now two.entry.notepad.now two.entry.templates.now)
         report.old }

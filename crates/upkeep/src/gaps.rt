@@ -2,7 +2,7 @@
 ghost use Rattle.std.specs.Prelude.{◌≡◌, List, ℕ, ◌*◌, ◌/◌, ◌<◌, length};
 ghost use Rattle.protocol.specs.Numbers.{page_bytes};
 ghost use Rattle.protocol.specs.Call.{core};
-ghost use Rattle.protocol.specs.Codes.{refusal_of};
+ghost use Rattle.protocol.specs.Codes.{outcome_number};
 ghost use Rattle.protocol.specs.Records.{reader_of};
 ghost use Rattle.offline.specs.CloseGaps.{first_bits, close_of};
 ghost use Rattle.offline.specs.Records.{closed_of, moved_at};
@@ -83,7 +83,7 @@ pub fn close_gaps(
     table: &mut [u16],
 ) -> Result<(), Refusal>
     ensures { (n b d : List ℕ)
-        → closed_of (moved_at settings.new (refusal_of result)) templates.new index.new table.new n b d
+        → closed_of (moved_at settings.new (outcome_number result)) templates.new index.new table.new n b d
         ≡ close_of core (reader_of settings.old templates.old index.old n b d) table.old }
 {
     let pages = templates.len() / numbers::PAGE;

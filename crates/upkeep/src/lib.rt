@@ -12,7 +12,7 @@ ghost use Rattle.offline.specs.Records.{closed_of, moved_at, salvaged_of, compar
 
 use compare::Library;
 use protocol::Settings;
-use protocol::refusals::refusal_of;
+use protocol::refusals::outcome_number;
 
 pub mod compare;
 pub mod gaps;
@@ -31,7 +31,7 @@ pub extern "C" fn bystrodol_close_gaps(
         → closed_of (moved_at settings.new result) templates.new index.new table.new n b d
         ≡ close_of core (reader_of settings.old templates.old index.old n b d) table.old }
 {
-    refusal_of(&gaps::close_gaps(settings, templates, index, table))
+    outcome_number(&gaps::close_gaps(settings, templates, index, table))
 }
 
 // Salvages a library, and reports what was done to each page and bit: the refusal or 0.
@@ -40,7 +40,7 @@ pub extern "C" fn bystrodol_salvage(templates: &mut [u8], index: &mut [u8], repo
     ensures { salvaged_of result templates.new index.new report.new
         ≡ salvage_of core templates.old index.old report.old }
 {
-    refusal_of(&salvage::salvage(templates, index, report))
+    outcome_number(&salvage::salvage(templates, index, report))
 }
 
 // Compares two libraries with their notepads, and reports how they differ: the refusal or 0.
@@ -69,5 +69,5 @@ pub extern "C" fn bystrodol_compare(
         notepad: notepad2,
         templates: templates2,
     };
-    refusal_of(&compare::compare(one, two, report))
+    outcome_number(&compare::compare(one, two, report))
 }

@@ -1,7 +1,7 @@
 // Salvage (request [10]): bits at or above C are cleared, vacant pages are zeroed, and a report says of each what was done.
 ghost use Rattle.std.specs.Prelude.{◌≡◌, ◌*◌, ◌/◌, ◌<◌, length};
 ghost use Rattle.protocol.specs.Numbers.{page_bytes};
-ghost use Rattle.protocol.specs.Codes.{refusal_of};
+ghost use Rattle.protocol.specs.Codes.{outcome_number};
 ghost use Rattle.protocol.specs.Call.{core};
 ghost use Rattle.offline.specs.Salvage.{is_blank, salvage_of};
 ghost use Rattle.offline.specs.Records.{salvaged_of};
@@ -95,7 +95,7 @@ fn report_bits(index: &[u8], report: &mut [u8], c: usize)
 
 // A stored index and templates salvaged, and a report of 1024 bytes.
 pub fn salvage(templates: &mut [u8], index: &mut [u8], report: &mut [u8]) -> Result<(), Refusal>
-    ensures { salvaged_of (refusal_of result) templates.new index.new report.new
+    ensures { salvaged_of (outcome_number result) templates.new index.new report.new
         ≡ salvage_of core templates.old index.old report.old }
 {
     if !lent::is_fit(templates.len(), index.len(), report.len(), ENTRIES) {

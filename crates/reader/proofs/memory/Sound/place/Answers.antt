@@ -1,6 +1,9 @@
 -- The bytes lie in the open transfer's buffer; the last closes it and sets the mark, and any other moves it on.
 use mathlib.Core.Path.{◌≡◌, refl}
 use mathlib.Core.Bool.{true}
+use Prim.Native.Nat.{◌+◌, ◌≤◌}
+use native.Mathlib.Omega.{arith}
+use lib.ListN.{length}
 use Rattle.protocol.specs.Table.{is_buffer}
 use Rattle.protocol.specs.Step.{silence}
 use Rattle.reader.specs.declared.buffers.Buffer.{Buffer}
@@ -21,7 +24,11 @@ pub returns-in-First-clause-placed : goal.returns-in-First-clause-placed
 unfolding silence changed is_buffer
 returns-in-First-clause-placed c =
     let s = c.args.self.now in
-    let z = part_copied _ _ _ s.buffer1.now _ c.copy_from_slice.ensures.after c.from-at.ensures in
+    let g = c.from-at.ensures in
+    let w = c.requires.room in
+    let f = s.first in
+    let h : c.from-at.result + length c.args.content.now ≤ length s.buffer1.now = omega arith in
+    let z = part_copied _ _ _ s.buffer1.now _ h c.put.ensures g in
     let q = rw (c.in-First.is) at c.moved_on-self.ensures in
     let e = rw (c.in-First.is) at c.requires.opened in
     rw (c.in-First.is)
@@ -31,7 +38,11 @@ pub returns-in-Second-clause-placed : goal.returns-in-Second-clause-placed
 unfolding silence changed is_buffer
 returns-in-Second-clause-placed c =
     let s = c.args.self.now in
-    let z = part_copied _ _ _ s.buffer2.now _ c.copy_from_slice-in-Second.ensures.after c.from-at.ensures in
+    let g = c.from-at.ensures in
+    let w = c.requires.room in
+    let f = s.second in
+    let h : c.from-at.result + length c.args.content.now ≤ length s.buffer2.now = omega arith in
+    let z = part_copied _ _ _ s.buffer2.now _ h c.put-in-Second.ensures g in
     let q = rw (c.in-Second.is) at c.moved_on-self.ensures in
     let e = rw (c.in-Second.is) at c.requires.opened in
     rw (c.in-Second.is)
