@@ -1,17 +1,14 @@
 -- The buffers by number: what one that is changed and marked makes of the reader.
 use mathlib.Core.Path.{◌≡◌, refl, ap}
-use mathlib.Core.Bool.{Bool, true, false, ◌||◌, cond}
-use mathlib.Core.Logic.{◌⊎◌, inl, inr, ⊎_elim}
+use mathlib.Core.Bool.{Bool, true, false, cond}
 use mathlib.Core.List.{List}
 use Prim.Native.Nat.{ℕ, ◌*◌, ◌≤◌, ◌<◌}
 use lib.Dec.{eqb}
-use borrow.Author.Tests.{eqb-true, ne_eqb}
 use Rattle.protocol.specs.declared.Settings.{Settings}
 use Rattle.protocol.specs.Numbers.{page_bytes, no_page}
 use Rattle.protocol.specs.Bytes.{zeros, part}
 use Rattle.protocol.specs.Reader.{Marks, Transfer, Guarded, capacity, emptied, loaded_from, with_buffer, contents, reader}
 use Rattle.protocol.specs.Reader as readers
-use Rattle.protocol.specs.Table.{is_buffer}
 use Rattle.protocol.proofs.Laws.Marks.{fit_mark_lem, fit_marks_lem, fit_verified, fit_filled1, fit_filled2, fit_found}
 use Rattle.protocol.specs.Records.{fit_mark, fit_marks, is_set, marks_of, transfer_of, origin_of, plain_of, buffer, reader_of}
 use Rattle.rules.specs.Settings.{with_transfer, Legal}
@@ -20,29 +17,7 @@ use Rattle.reader.specs.Memory.{with_numbered}
 use Rattle.reader.specs.Buffers.{chosen_of, Buffers, buffers, changed, with_fill, with_held}
 use Rattle.reader.proofs.Laws.{page_origin}
 
--- ---- a number that names a buffer
-
-either : (a b : Bool) → (a || b) ≡ true → (a ≡ true) ⊎ (b ≡ true)
-either true b e = inl refl
-either false b e = inr e
-
-one_or_two : (n : ℕ) → is_buffer n ≡ true → (n ≡ 1) ⊎ (n ≡ 2)
-unfolding is_buffer
-one_or_two n e = ⊎_elim (λ h. inl (eqb-true n 1 h)) (λ h. inr (eqb-true n 2 h)) (either (eqb n 1) (eqb n 2) e)
-
-pub not_none : (n : ℕ) → is_buffer n ≡ true → eqb n 0 ≡ false
-not_none n e = ⊎_elim (λ h. rw h refl) (λ h. rw h refl) (one_or_two n e)
-
 -- ---- one of them changed
-
-module _ (n : ℕ) (f : List ℕ → List ℕ) (b c x : List ℕ) where
-  pub second_changed : n ≡ 2 → x ≡ f c → buffers b x ≡ changed n f b c
-  unfolding changed
-  second_changed e g = rw (e, g) refl
-
-  pub first_changed : (n ≡ 2 → ⊥) → x ≡ f b → buffers x c ≡ changed n f b c
-  unfolding changed
-  first_changed e g = rw (ne_eqb _ _ e, g) refl
 
 module _ (f : List ℕ → List ℕ) (t i n b c : List ℕ) (u v o q : ℕ) (z : Bool) where
   held_at : (on a : ℕ) (w : Bool)

@@ -61,9 +61,6 @@ pub counts : (n : ℕ) (x : List ℕ) → length x ≡ n → counted_of n x ≡ 
 unfolding counted_of
 counts n x e = rw (eq-eqb _ _ e) refl
 
--- a 16-bit number's high byte
-pub high_byte : (n : ℕ) → n < 65536 → n / 256 ≡ n / 256 % 256
-high_byte n h = omega arith
 
 -- ---- ReadSysPara
 

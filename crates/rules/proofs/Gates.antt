@@ -6,12 +6,12 @@ use mathlib.Core.List.{List}
 use Prim.Native.Nat.{ℕ}
 use native.Mathlib.Omega.{arith}
 use lib.Dec.{eqb}
-use borrow.Author.Tests.{eqb-true, eq-eqb, ne_eqb}
+use borrow.Author.Tests.{eqb-true, eq-eqb}
 use Rattle.protocol.specs.Numbers.{bad_packet, unknown_command, password_first}
 use Rattle.protocol.specs.Bytes.{byte_at}
 use Rattle.protocol.specs.Packet.{length_of}
 use Rattle.protocol.specs.Reader.{Plain, Reader, locked}
-use Rattle.protocol.specs.Commands.{hand_shake, free, Entry, row, commands, Known, none, some, row_of, order_as, order_of}
+use Rattle.protocol.specs.Commands.{Entry, commands, Known, none, some, row_of, order_as, order_of}
 use Rattle.protocol.specs.Search.{Chip}
 use Rattle.protocol.specs.Step.{says, obey, heed}
 use Rattle.protocol.proofs.Laws.Commands.{Each, At, row_law, own_code, BarredRow, barred_rows}
@@ -81,15 +81,3 @@ gate_passes right k n p e = go right refl (eqb (len_of (row_of commands k)) 0) r
     go true ea false eb false ed f ef = let z : ◌≡◌ {A = ℕ} bad_packet 0 = rw (ea, eb, ed) at e in absurd (omega arith)
     go true ea false eb true ed false ef = let z : ◌≡◌ {A = ℕ} password_first 0 = rw (ea, eb, ed, ef) at e in absurd (omega arith)
     go true ea false eb true ed true ef = record { sum = ea; admits = record { long = eqb-true _ _ ed; open' = ef } }
-
--- a code that is none of the others is 40h, or unknown
-pub last_row : (k : ℕ) (c : List ℕ) → (k ≡ 0x04 → ⊥) → (k ≡ 0x06 → ⊥) → (k ≡ 0x07 → ⊥) → (k ≡ 0x08 → ⊥) → (k ≡ 0x09 → ⊥) → (k ≡ 0x0c → ⊥) → (k ≡ 0x0d → ⊥) → (k ≡ 0x0e → ⊥)
-    → (k ≡ 0x0f → ⊥) → (k ≡ 0x12 → ⊥) → (k ≡ 0x13 → ⊥) → (k ≡ 0x15 → ⊥) → (k ≡ 0x18 → ⊥) → (k ≡ 0x19 → ⊥) → (k ≡ 0x1d → ⊥) → (k ≡ 0x1f → ⊥)
-    → read_of (row_of commands k) c ≡ free hand_shake
-unfolding read_of row_of commands
-last_row k c h h0 h1 h2 h3 h4 h5 h6 h7 h8 h9 h10 h11 h12 h13 h14 =
-    rw (ne_eqb k 0x04 h, ne_eqb k 0x06 h0, ne_eqb k 0x07 h1, ne_eqb k 0x08 h2, ne_eqb k 0x09 h3, ne_eqb k 0x0c h4, ne_eqb k 0x0d h5, ne_eqb k 0x0e h6, ne_eqb k 0x0f h7, ne_eqb k 0x12 h8, ne_eqb k 0x13 h9, ne_eqb k 0x15 h10, ne_eqb k 0x18 h11, ne_eqb k 0x19 h12, ne_eqb k 0x1d h13, ne_eqb k 0x1f h14) (go (eqb k 0x40))
-  where
-    go : (t : Bool) → read_of (cond t (some (row 0x40 3 (λ c. free hand_shake))) none) c ≡ free hand_shake
-    go true = refl
-    go false = refl
