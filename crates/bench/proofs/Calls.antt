@@ -1,7 +1,6 @@
 -- What a receiver's call keeps within, and a piece offered up to rest.
 use Rattle.std.proofs.Common.{true, false, Option, None, Some, ◌≡◌, refl, sym, ap, ◌∙◌, subst, List, [], ◌∷◌, ◌++◌, ℕ, ◌+◌, ◌-◌, ◌*◌, ◌≤◌, ◌<◌, arith, eqb, eqb→eq, leb→le, length, get_or, take, drop, length-take, length-drop, take_all, append_assoc, append-nil, w8, Fits, eq-eqb}
 use Rattle.std.proofs.lemmas.Bool.{true≢false}
-use Rattle.std.proofs.lemmas.List.{drop-drop}
 use Rattle.std.proofs.Math.Decide.{dec_le}
 use Rattle.std.proofs.Math.Seq.{take-nil}
 use Rattle.std.specs.List.{concat}
@@ -78,19 +77,18 @@ offer_within h s t i n b d piece room q t' i' n' b' d' room' p a z f e =
       cells = z;
     }
 
--- ---- a piece offered, at a place of it: what is left gives the whole
+-- ---- a piece offered, with a rest of it: the rest gives the whole
 
 -- the chip at every call
 abbrev χ : Chip
 χ = chip_of no_scores no_thresholds
 
--- o₀ and o are the bytes of the output, where they are known: what was written of the replies, and then those to what is left
-pub record Offering (x₀ : Line) (piece : List ℕ) (o₀ : Option (List ℕ)) (x : Line) (from : ℕ) (o : Option (List ℕ)) : Type 0 where
-  pub inside : from ≤ length piece
-  pub left : (drained χ x₀.reader (bytes_in x₀.receiver ++ piece)).after ≡ (drained χ x.reader (bytes_in x.receiver ++ drop from piece)).after
+-- o₀ and o are the bytes of the output, where they are known: what was written of the replies, and then those to the rest
+pub record Offering (x₀ : Line) (piece : List ℕ) (o₀ : Option (List ℕ)) (x : Line) (rest : List ℕ) (o : Option (List ℕ)) : Type 0 where
+  pub left : (drained χ x₀.reader (bytes_in x₀.receiver ++ piece)).after ≡ (drained χ x.reader (bytes_in x.receiver ++ rest)).after
   pub sent : List ℕ
   pub written : Appends o₀ o sent
-  pub still : replies x₀ piece ≡ sent ++ replies x (drop from piece)
+  pub still : replies x₀ piece ≡ sent ++ replies x rest
 
 appends_none : (o : Option (List ℕ)) → Appends o o []
 appends_none None = tt
@@ -102,11 +100,12 @@ appends_more (Some a) None c s t e f = elim e [ ]
 appends_more (Some a) (Some b) None s t e f = elim f [ ]
 appends_more (Some a) (Some b) (Some c) s t e f = f ∙ ap (λ (y : List ℕ). y ++ t) e ∙ append_assoc a s t
 
-pub begins : (x : Line) (piece : List ℕ) (o : Option (List ℕ)) → Offering x piece o x 0 o
-begins x piece o = record { inside = omega arith; left = refl; sent = []; written = appends_none o; still = refl }
+pub begins : (x : Line) (piece : List ℕ) (o : Option (List ℕ)) → Offering x piece o x piece o
+begins x piece o = record { left = refl; sent = []; written = appends_none o; still = refl }
 
-rest : (a : ℕ) (s : List ℕ) → take (length s - a) (drop a s) ≡ drop a s
-rest a s = take_all (length s - a) (drop a s) (simp length-drop (omega arith))
+-- a slice up to its end
+to_end : (a : ℕ) (s : List ℕ) → take (length s - a) (drop a s) ≡ drop a s
+to_end a s = take_all (length s - a) (drop a s) (simp length-drop (omega arith))
 
 after_replied : (a : List ℕ) (d : Ran) → (replied a d).after ≡ d.after
 unfolding replied
@@ -118,48 +117,40 @@ unfolding replied
 replies_replied [] d = refl
 replies_replied (b ∷ a) d = refl
 
-module _ (x₀ : Line) (piece : List ℕ) (o₀ : Option (List ℕ)) (x : Line) (from : ℕ) (w : Option (List ℕ)) (k : Offering x₀ piece o₀ x from w) (room : List ℕ) (o : Handed)
-    (f : Offered x (take (length piece - from) (drop from piece)) (lent_of no_scores no_thresholds room) o) (e : o.told.refusal ≡ 0) where
+module _ (x₀ : Line) (piece : List ℕ) (o₀ : Option (List ℕ)) (x : Line) (s : List ℕ) (w : Option (List ℕ)) (k : Offering x₀ piece o₀ x s w) (room : List ℕ) (o : Handed)
+    (f : Offered x s (lent_of no_scores no_thresholds room) o) (e : o.told.refusal ≡ 0) where
   abbrev lent : Lent
   lent = lent_of no_scores no_thresholds room
 
-  here : o ≡ receive_of core x (drop from piece) lent
-  here = f.call ∙ ap (λ (s : List ℕ). receive_of core x s lent) (rest from piece)
-
-  -- the drain of what is left begins with this call
-  next : drained χ x.reader (bytes_in x.receiver ++ drop from piece)
-      ≡ replied (reply_of o.told) (drained χ o.after.reader (bytes_in o.after.receiver ++ drop o.told.used (drop from piece)))
+  -- the drain of the rest begins with this call
+  next : drained χ x.reader (bytes_in x.receiver ++ s)
+      ≡ replied (reply_of o.told) (drained χ o.after.reader (bytes_in o.after.receiver ++ drop o.told.used s))
   next =
-      let s : List ℕ = drop from piece in
       let all : take (length s) s ≡ s = take_all (length s) s (omega arith) in
-      let whole : o ≡ receive_of core x (take (length s) s) lent = here ∙ ap (λ (y : List ℕ). receive_of core x y lent) (sym all) in
+      let whole : o ≡ receive_of core x (take (length s) s) lent = f.call ∙ ap (λ (y : List ℕ). receive_of core x y lent) (sym all) in
       subst
       (λ (y : Handed). drained χ x.reader (bytes_in x.receiver ++ s) ≡ replied (reply_of y.told) (drained χ y.after.reader (bytes_in y.after.receiver ++ drop y.told.used s)))
       (sym whole)
       (offered core χ x (length s) s lent (λ i. refl) (subst (λ (y : Handed). y.told.refusal ≡ 0) whole e))
 
   -- one call more, whose reply is written
-  pub again : (v : Option (List ℕ)) → Appends w v (reply_of o.told) → Offering x₀ piece o₀ o.after (from + o.told.used) v
+  pub again : (v : Option (List ℕ)) → Appends w v (reply_of o.told) → Offering x₀ piece o₀ o.after (take (length s - o.told.used) (drop o.told.used s)) v
   again v a =
-      let s : List ℕ = drop from piece in
-      let further : drop o.told.used s ≡ drop (from + o.told.used) piece = drop-drop o.told.used from piece in
+      subst (λ (y : List ℕ). Offering x₀ piece o₀ o.after y v) (sym (to_end o.told.used s))
       record {
-        inside = omega (arith, f.taken, k.inside, length-take (length piece - from) (drop from piece), length-drop from piece);
-        left =
-            k.left ∙ ap (λ (d : Ran). d.after) next ∙ after_replied _ _
-            ∙ ap (λ (y : List ℕ). (drained χ o.after.reader (bytes_in o.after.receiver ++ y)).after) further;
+        left = k.left ∙ ap (λ (d : Ran). d.after) next ∙ after_replied _ _;
         sent = k.sent ++ reply_of o.told;
         written = appends_more o₀ w v k.sent (reply_of o.told) k.written a;
         still =
-            k.still ∙ ap (λ (y : List ℕ). k.sent ++ y) (ap (λ (d : Ran). concat d.replies) next ∙ replies_replied _ _ ∙ ap (λ (y : List ℕ). reply_of o.told ++ replies o.after y) further)
+            k.still ∙ ap (λ (y : List ℕ). k.sent ++ y) (ap (λ (d : Ran). concat d.replies) next ∙ replies_replied _ _)
             ∙ sym (append_assoc k.sent (reply_of o.told) _);
       }
 
   -- which brings the end nearer
   pub closer : is_last o.told.used x.receiver.count o.after.receiver.count ≡ false
-      → 2 * (length piece - (from + o.told.used)) + o.after.receiver.count < 2 * (length piece - from) + x.receiver.count
+      → 2 * length (take (length s - o.told.used) (drop o.told.used s)) + o.after.receiver.count < 2 * length s + x.receiver.count
   closer n =
-      let l : length (take (length piece - from) (drop from piece)) ≡ length piece - from = ap length (rest from piece) ∙ length-drop from piece in
+      let l : length (take (length s - o.told.used) (drop o.told.used s)) ≡ length s - o.told.used = ap length (to_end o.told.used s) ∙ length-drop o.told.used s in
       omega (arith, f.nearer e n)
 
   -- and the last
@@ -175,14 +166,14 @@ module _ (x₀ : Line) (piece : List ℕ) (o₀ : Option (List ℕ)) (x : Line) 
     over =
         let u = took in
         let c = stayed in
-        ap (λ (y : Handed). y.after) here ∙ all_drained core x (drop from piece) lent f.cells (rw here at e) (rw here at u) (rw here at c) χ ∙ sym k.left
+        ap (λ (y : Handed). y.after) f.call ∙ all_drained core x s lent f.cells (rw f.call at e) (rw f.call at u) (rw f.call at c) χ ∙ sym k.left
 
-    none_left : drop from piece ≡ []
+    none_left : s ≡ []
     unfolding holds longest
     none_left =
         let u = took in
         let c = stayed in
-        offers_nothing core x (drop from piece) lent f.cells (rw here at e) (rw here at u) (rw here at c)
+        offers_nothing core x s lent f.cells (rw f.call at e) (rw f.call at u) (rw f.call at c)
 
     -- it answers nothing, and so does the drain
     silent : reply_of o.told ≡ []
@@ -190,14 +181,14 @@ module _ (x₀ : Line) (piece : List ℕ) (o₀ : Option (List ℕ)) (x : Line) 
     silent =
         let u = took in
         let c = stayed in
-        let l : o.told.length ≡ 0 = ap (λ (y : Handed). y.told.length) here ∙ answers_nothing core x (drop from piece) lent f.cells (rw here at e) (rw here at u) (rw here at c) in
+        let l : o.told.length ≡ 0 = ap (λ (y : Handed). y.told.length) f.call ∙ answers_nothing core x s lent f.cells (rw f.call at e) (rw f.call at u) (rw f.call at c) in
         rw l refl
 
     unused : used_of (find_of (bytes_in x.receiver)) ≡ 0
     unfolding holds longest fitting run_of
     unused =
         let c = stayed in
-        let one : o ≡ receive_of core x [] lent = here ∙ ap (λ (y : List ℕ). receive_of core x y lent) none_left in
+        let one : o ≡ receive_of core x [] lent = f.call ∙ ap (λ (y : List ℕ). receive_of core x y lent) none_left in
         let z : (receive_of core x [] lent).told.refusal ≡ 0 = rw one at e in
         let m : (receive_of core x [] lent).after.receiver.count ≡ x.receiver.count = rw one at c in
         let run : run_of x.receiver [] ≡ bytes_in x.receiver = ap (λ (y : List ℕ). bytes_in x.receiver ++ y) (take-nil (holds - x.receiver.count)) ∙ append-nil (bytes_in x.receiver) in
@@ -205,7 +196,7 @@ module _ (x₀ : Line) (piece : List ℕ) (o₀ : Option (List ℕ)) (x : Line) 
         let u : used_of (find_of (run_of x.receiver [])) ≡ 0 = omega (arith, m, count_after core x [] lent z, length_held core x [] lent f.cells z, used_in (run_of x.receiver [])) in
         rw run at u
 
-    none_answered : replies x (drop from piece) ≡ []
+    none_answered : replies x s ≡ []
     unfolding at_rest
     none_answered =
         ap (replies x) none_left ∙ ap (λ (y : List ℕ). concat (drained χ x.reader y).replies) (append-nil (bytes_in x.receiver))

@@ -1,2 +1,3 @@
+pub mod Bench
 pub mod Offer
 pub mod Start
