@@ -146,13 +146,6 @@ module _ (x₀ : Line) (piece : List ℕ) (o₀ : Option (List ℕ)) (x : Line) 
             ∙ sym (append_assoc k.sent (reply_of o.told) _);
       }
 
-  -- which brings the end nearer
-  pub closer : is_last o.told.used x.receiver.count o.after.receiver.count ≡ false
-      → 2 * length (take (length s - o.told.used) (drop o.told.used s)) + o.after.receiver.count < 2 * length s + x.receiver.count
-  closer n =
-      let l : length (take (length s - o.told.used) (drop o.told.used s)) ≡ length s - o.told.used = ap length (to_end o.told.used s) ∙ length-drop o.told.used s in
-      omega (arith, f.nearer e n)
-
   -- and the last
   module _ (n : is_last o.told.used x.receiver.count o.after.receiver.count ≡ true) where
     took : o.told.used ≡ 0

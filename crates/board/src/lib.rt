@@ -91,7 +91,15 @@ pub extern "C" fn bystrodol_receive(
         buffer2,
     };
     let chip = Chip { scores, thresholds };
-    receiver::receive(numbers::NOTEPAD, &mut line.receiver, reader, chip, piece, reply).into()
+    receiver::receive(
+        numbers::NOTEPAD,
+        &mut line.receiver,
+        reader,
+        chip,
+        piece,
+        reply,
+    )
+    .into()
 }
 
 // A line switch on a lent line, which empties its receiver.

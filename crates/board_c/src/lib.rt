@@ -35,8 +35,8 @@ pub extern "C" fn bystrodol_build(
     content: &[u8],
     room: &mut [u8],
 ) -> usize
-    ensures { let m = build_service address identifier content.now room.old in
-        (result ≡ m.length) × (room.new ≡ m.room) }
+    ensures length { result ≡ (build_service address identifier content.now room.old).length }
+    ensures room { room.new ≡ (build_service address identifier content.now room.old).room }
 {
     board::bystrodol_build(address, identifier, content, room)
 }

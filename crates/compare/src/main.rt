@@ -13,7 +13,7 @@ use std::io::Read;
 use std::rt::{Env, Files};
 use upkeep::compare;
 
-// The bytes that the system takes for a file's name at most.
+// The bytes that the system takes for a file's name at most: `arg` writes it into a lent slice.
 const NAME: usize = 4096;
 
 // What a file gave when it was asked for so many bytes: all of them; or none, at its end.
@@ -23,7 +23,7 @@ enum Piece {
     End,
 }
 
-// Fills a slice from a file. None where the file could not be opened or read, or ends within the slice.
+// Fills a slice from a file, by a `while`, since each read gives as many bytes as it likes. None where the file could not be opened or read, or ends within the slice.
 fn fill<F: Read>(file: &mut Option<F>, out: &mut [u8]) -> Option<Piece> {
     let file = file.as_mut()?;
     let mut n = 0;

@@ -1,5 +1,5 @@
 // The index: page p is the bit of weight 2^(p mod 8) in byte p / 8. A page that the index has no bit for is not stored, and stays so.
-ghost use Rattle.std.specs.Prelude.{◌≡◌, ◌*◌, ◌/◌, ◌%◌, ◌<◌, ◌≤◌, length};
+ghost use Rattle.std.specs.Prelude.{◌≡◌, ◌*◌, ◌/◌, ◌<◌, ◌≤◌, length};
 ghost use Rattle.protocol.specs.Bytes.{byte_at};
 ghost use Rattle.protocol.specs.Index.{stored, set_bit, clear_bit, clear_bits, set_bits, clear_from};
 ghost use Rattle.protocol.specs.BringOver.{bring_over};

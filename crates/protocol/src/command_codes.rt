@@ -1,6 +1,5 @@
 // The codes of the commands; specs/Commands.antt has their numbers in its table.
-ghost use Rattle.std.specs.Prelude.{◌≡◌};
-ghost use Rattle.protocol.specs.Codes.{command_number, Names};
+ghost use Rattle.protocol.specs.Codes.{Names};
 
 #[derive(Clone, Copy, Debug, PartialEq, Eq)]
 pub enum CommandCode {

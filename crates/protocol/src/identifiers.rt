@@ -1,5 +1,4 @@
 // The identifiers of packets; specs/Numbers.antt names their numbers.
-ghost use Rattle.std.specs.Prelude.{◌≡◌};
 ghost use Rattle.protocol.specs.Codes.{Identifies};
 
 #[derive(Clone, Copy, Debug, PartialEq, Eq)]

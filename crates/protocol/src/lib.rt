@@ -20,6 +20,7 @@ pub enum Found {
 
 // A reader's settings. The transfer is two numbers: its buffer, 1 or 2, and the bytes got so far; no transfer is 0 and 0. The origin of a buffer
 // is the number of a page, or FFFFh for none. A mark is 0 or 1, and found is status bit 1: a Search found a page; any byte may lie there.
+// They are numbers, and no enums, since C lends the record.
 #[repr(C)]
 #[derive(Clone, Copy)]
 pub struct Settings {
@@ -62,7 +63,8 @@ pub struct Answered {
     pub length: usize,
 }
 
-// The bytes that are held between calls: the first `count` cells. The spare byte means nothing; every call that is not refused leaves it 0.
+// The bytes that are held between calls: the first `count` cells. The spare byte means nothing; every call that is not refused leaves it 0. C lends it,
+// so it is cells and a count.
 #[repr(C)]
 #[derive(Clone, Copy)]
 pub struct Receiver {

@@ -7,7 +7,7 @@ use lib.Dec.{eqb}
 use Rattle.protocol.specs.declared.Settings.{Settings}
 use Rattle.protocol.specs.Numbers.{page_bytes, no_page}
 use Rattle.protocol.specs.Bytes.{zeros, part}
-use Rattle.protocol.specs.Reader.{Marks, Transfer, Guarded, capacity, emptied, loaded_from, with_buffer, contents, reader}
+use Rattle.protocol.specs.Reader.{Transfer, Guarded, emptied, loaded_from, with_buffer, contents, reader}
 use Rattle.protocol.specs.Reader as readers
 use Rattle.protocol.proofs.Laws.Marks.{fit_mark_lem, fit_marks_lem, fit_verified, fit_filled1, fit_filled2, fit_found}
 use Rattle.protocol.specs.Records.{fit_mark, fit_marks, is_set, marks_of, transfer_of, origin_of, plain_of, buffer, reader_of}

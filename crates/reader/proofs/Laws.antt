@@ -61,7 +61,6 @@ pub counts : (n : ℕ) (x : List ℕ) → length x ≡ n → counted_of n x ≡ 
 unfolding counted_of
 counts n x e = rw (eq-eqb _ _ e) refl
 
-
 -- ---- ReadSysPara
 
 pub parameter_list : (s k p l : ℕ) (a : List ℕ) (z f : ℕ) → length a ≡ 4

@@ -1,8 +1,9 @@
 -- The two buffers by number: 2 is the second, any other the first.
-use Rattle.std.specs.Prelude.{true, false, cond, List, ◌≡◌, ℕ, eqb, Result, MatchResult}
+use Rattle.std.specs.Prelude.{true, false, cond, List, ◌≡◌, ℕ, eqb, Option, None, Some, Result, MatchResult}
 use Rattle.protocol.specs.declared.Settings.{Settings}
 use Rattle.protocol.specs.declared.codes.Code.{Code}
 use Rattle.protocol.specs.declared.codes.Code.TheVariants.{BadPacket}
+use Rattle.protocol.specs.Numbers.{no_page}
 use Rattle.protocol.specs.Table.{is_buffer}
 use Rattle.rules.specs.Settings.{with_filled, with_origins}
 use Rattle.reader.specs.declared.buffers.Buffer.{Buffer}
@@ -39,3 +40,8 @@ with_fill n on s = with_filled (cond (eqb n 2) s.filled1 on) (cond (eqb n 2) on 
 -- and its origin too
 abbrev pub with_held : ℕ → ℕ → ℕ → Settings → Settings
 with_held n on o s = with_origins (cond (eqb n 2) s.origin1 o) (cond (eqb n 2) o s.origin2) (with_fill n on s)
+
+-- one filled from a page, its origin, or empty
+abbrev pub with_page : ℕ → Option ℕ → Settings → Settings
+with_page n None s = with_held n 0 no_page s
+with_page n (Some p) s = with_held n 1 p s

@@ -5,7 +5,7 @@ ghost use Rattle.protocol.specs.Bytes.{part};
 ghost use Rattle.protocol.specs.Reader.{emptied, loaded_from};
 ghost use Rattle.protocol.specs.Commands.{up_char, down_char};
 ghost use Rattle.reader.specs.Answers.{answer_in};
-ghost use Rattle.reader.specs.Buffers.{buffer_number, with_fill, with_held, IsNamed};
+ghost use Rattle.reader.specs.Buffers.{buffer_number, with_fill, with_page, IsNamed};
 ghost use Rattle.reader.specs.Memory.{Kept, reader_in, filled_of, with_numbered, said_of, obeyed};
 
 use crate::answers::Answer;
@@ -36,34 +36,36 @@ impl TryFrom<u8> for Buffer {
     }
 }
 
-// The settings with a buffer's filled mark.
-pub(crate) fn mark(settings: Settings, buffer: Buffer, on: u8) -> Settings
-    ensures { result ≡ with_fill (buffer_number buffer) on settings }
+// The settings with a buffer's filled mark set.
+pub(crate) fn mark(settings: Settings, buffer: Buffer) -> Settings
+    ensures { result ≡ with_fill (buffer_number buffer) 1 settings }
 {
     match buffer {
         Buffer::First => Settings {
-            filled1: on,
+            filled1: 1,
             ..settings
         },
         Buffer::Second => Settings {
-            filled2: on,
+            filled2: 1,
             ..settings
         },
     }
 }
 
-// The settings with a buffer's filled mark and its origin.
-pub(crate) fn hold(settings: Settings, buffer: Buffer, on: u8, origin: u16) -> Settings
-    ensures { result ≡ with_held (buffer_number buffer) on origin settings }
+// The settings with a buffer filled from a page, its origin, or with it empty.
+pub(crate) fn hold(settings: Settings, buffer: Buffer, page: Option<u16>) -> Settings
+    ensures { result ≡ with_page (buffer_number buffer) page settings }
 {
+    let filled = u8::from(page.is_some());
+    let origin = page.unwrap_or(numbers::NO_PAGE);
     match buffer {
         Buffer::First => Settings {
-            filled1: on,
+            filled1: filled,
             origin1: origin,
             ..settings
         },
         Buffer::Second => Settings {
-            filled2: on,
+            filled2: filled,
             origin2: origin,
             ..settings
         },
@@ -86,7 +88,7 @@ impl Sound<'_> {
         ensures kept { Kept self.old self.new }
         ensures emptied { reader_in self.new ≡ with_numbered (buffer_number buffer) emptied (reader_in self.old) }
     {
-        *self.settings = hold(*self.settings, buffer, 0, numbers::NO_PAGE);
+        *self.settings = hold(*self.settings, buffer, None);
         match buffer {
             Buffer::First => self.buffer1.fill(0),
             Buffer::Second => self.buffer2.fill(0),
@@ -100,7 +102,7 @@ impl Sound<'_> {
         ensures loaded { reader_in self.new ≡ with_numbered (buffer_number buffer)
             (loaded_from page (part (page_bytes * page) page_bytes self.old.templates.now)) (reader_in self.old) }
     {
-        *self.settings = hold(*self.settings, buffer, 1, page as u16);
+        *self.settings = hold(*self.settings, buffer, Some(page as u16));
         // Of a field that is lent to be read, the proof keeps the length alone, but of this the bytes.
         let templates = &mut *self.templates;
         match buffer {

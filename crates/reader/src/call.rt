@@ -152,7 +152,11 @@ impl Reader<'_> {
         requires { length self.now.templates.now / page_bytes ≤ most_pages }
         ensures { result ≡ sound_of (length self.now.templates.now / page_bytes) self.now.index.now self.now.settings.now }
     {
-        is_sound(*self.settings, self.index, self.templates.len() / numbers::PAGE)
+        is_sound(
+            *self.settings,
+            self.index,
+            self.templates.len() / numbers::PAGE,
+        )
     }
 
     /// A call of a reader whose notepad has `noted` bytes, document 01's with 512: the chip's scores and thresholds, a received run, and a reply room.
@@ -203,7 +207,7 @@ impl Reader<'_> {
     }
 }
 
-/// The line switch: any settings and both buffers; marks and status bit 1 cleared, transfer closed, buffers zeroed, origins none. It knows only refusal 1.
+/// The line switch, for which no whole reader is lent: any settings and both buffers; marks and status bit 1 cleared, transfer closed, buffers zeroed, origins none. It knows only refusal 1.
 pub fn line_switch(
     settings: &mut Settings,
     buffer1: &mut [u8],

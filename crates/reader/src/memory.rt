@@ -23,7 +23,7 @@ pub struct Chip<'a> {
     pub thresholds: &'a [u16],
 }
 
-// A reader that refusals 1 and 3 let pass, with the chip of the call.
+// A reader that refusals 1 and 3 let pass, with the chip of the call. Its ghost fields are what every command may rely on.
 #[derive(Drop)]
 pub(crate) struct Sound<'a> {
     pub(crate) settings: &'a mut Settings,

@@ -70,7 +70,7 @@ impl Parameter {
     }
 }
 
-// The status word.
+// The status word. Here and below `as` widens or narrows what is proved to fit: `try_from` would bring an error that cannot come.
 fn status(verified: bool, found: bool) -> u16
     ensures { result ≡ status_of verified found }
 {

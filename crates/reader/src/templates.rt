@@ -31,7 +31,7 @@ impl Sound<'_> {
         ensures stored { reader_in self.new ≡ stored_numbered (buffer_number buffer) page (reader_in self.old) }
     {
         let place = usize::from(page);
-        *self.settings = buffers::hold(*self.settings, buffer, 1, page);
+        *self.settings = buffers::hold(*self.settings, buffer, Some(page));
         index::set_bit(self.index, place);
         // Of a field that is lent to be read, the proof keeps the length alone, but of `src` the bytes.
         match buffer {

@@ -23,7 +23,7 @@ fn moved_on(settings: Settings, buffer: Buffer, next: u16, last: bool) -> Settin
     ensures { result ≡ cond last (with_transfer 0 0 (with_fill (buffer_number buffer) 1 settings)) (with_transfer settings.transfer next settings) }
 {
     if last {
-        settings::moved(buffers::mark(settings, buffer, 1), 0, 0)
+        settings::moved(buffers::mark(settings, buffer), 0, 0)
     } else {
         settings::moved(settings, settings.transfer, next)
     }

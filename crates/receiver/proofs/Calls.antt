@@ -18,12 +18,11 @@ use Rattle.protocol.specs.Tests.{verdict}
 use Rattle.protocol.specs.Reader.{Reader, capacity}
 use Rattle.protocol.specs.Step.{step_of}
 use Rattle.protocol.specs.Call.{Shape, shaped, fit_lengths, fit_chip, fit_room, sound, Lent, Told, Ended, refused, carried, call_of, switch_refusal, switch_as, switch_of}
-use Rattle.protocol.specs.Receiver.{holding, Line, line, Handed, fitting, run_of, handed, declined, receive_refusal, receive_as, receive_of, line_switch_as, line_switch_of}
+use Rattle.protocol.specs.Receiver.{holding, Line, line, fitting, run_of, handed, declined, receive_refusal, receive_as, receive_of, line_switch_as, line_switch_of}
 use Rattle.protocol.specs.Records.{reader_of, chip_of, lent_of, switched_of, switched_at, emptied_of, emptied_at}
 use Rattle.protocol.proofs.Laws.Answers.{call_kinds}
 use Rattle.protocol.proofs.Laws.Finder.{used_in}
-use Rattle.protocol.proofs.Laws.Holding.{handed_by, receive_call, receive_kinds}
-use Rattle.reader.proofs.Calls.{lengths_are}
+use Rattle.protocol.proofs.Laws.Holding.{handed_by, receive_call}
 use Rattle.receiver.specs.Full.{full_refusal}
 
 -- a call uses no more than its run has

@@ -97,11 +97,7 @@ pub fn receive(
 }
 
 /// The line switch: the reader's, and the held bytes emptied. It knows only refusal 1, and changes nothing then.
-pub fn line_switch(
-    line: &mut Line,
-    buffer1: &mut [u8],
-    buffer2: &mut [u8],
-) -> Result<(), Refusal>
+pub fn line_switch(line: &mut Line, buffer1: &mut [u8], buffer2: &mut [u8]) -> Result<(), Refusal>
     ensures { (t i n : List ℕ) → emptied_of (emptied_at line.new (outcome_number result)) t i n buffer1.new buffer2.new
         ≡ line_switch_of (line_of line.old t i n buffer1.old buffer2.old) }
 {

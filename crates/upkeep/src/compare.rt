@@ -55,7 +55,7 @@ fn of_bytes(a: &[u8], b: &[u8]) -> Difference
     }
 }
 
-// What is said of page p, by two indexes and the bytes of the page in each library.
+// What is said of page p, by two indexes and the bytes of the page in each library: the number that goes into the report.
 pub fn page_code(index1: &[u8], index2: &[u8], p: usize, a: &[u8], b: &[u8]) -> u8
     ensures { result ≡ page_code (stored index1.now p) (stored index2.now p)
         (same a.now b.now) }

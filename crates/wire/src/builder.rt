@@ -83,7 +83,8 @@ pub fn lay_packet(address: [u8; 4], identifier: u8, content: &[u8], room: &mut [
     end + 2
 }
 
-// Builds a packet at the front of the room, where identifier and content are a packet's and the room is long enough, in this order.
+// Builds a packet at the front of the room, where identifier and content are a packet's and the room is long enough, in this order. The identifier is a number,
+// since C may hand over any.
 pub fn build(
     address: [u8; 4],
     identifier: u8,

@@ -27,7 +27,7 @@ pub fn all_but(s: &[u8]) -> usize
     }
 }
 
-// The largest length field of an identifier's packets; none where no packet has the identifier.
+// The largest length field of an identifier's packets; none where no packet has the identifier. It is a number, since any may come off the line.
 pub fn limit_of(i: u8) -> Option<usize>
     ensures { result ≡ limit_of i }
 {

@@ -1,6 +1,6 @@
 -- The reader's line switch was refused and the held bytes stay, or it was made and none is held.
 use mathlib.Core.Path.{refl}
-use Rattle.protocol.specs.Codes.{outcome_number, refusal_number}
+use Rattle.protocol.specs.Codes.{refusal_number}
 use Rattle.reader.proofs.Rows.{is_err}
 use Rattle.receiver.proofs.Calls.{refuses, empties, leaves}
 use Rattle.receiver.proofs.line_switch.Goals as goal

@@ -1,6 +1,5 @@
 -- A count above what is held is refused by the lengths alone. Else the reader is called on all held bytes, and refused, or what it left is held.
 use mathlib.Core.Path.{◌≡◌, refl, sym, ◌∙◌}
-use Prim.Native.Nat.{◌≤◌, min}
 use lib.ListN.{length}
 use borrow.Author.Rules.{rules}
 use Rattle.protocol.specs.Numbers.{holds, longest}
@@ -9,7 +8,7 @@ use Rattle.protocol.specs.Call.{refused}
 use Rattle.reader.specs.Memory.{reader_at, chip_at}
 use Rattle.reader.proofs.Calls.{lengths_are}
 use Rattle.reader.proofs.Rows.{is_err}
-use Rattle.receiver.proofs.Cells.{fits_within, fits_long, in_cells, in_run, cells_run, fits_many, rest_held}
+use Rattle.receiver.proofs.Cells.{cells_run, fits_many, rest_held}
 use Rattle.receiver.proofs.Calls.{refuses, full, stops, goes, used_within}
 use Rattle.receiver.proofs.receive.Goals as goal
 
