@@ -7,7 +7,6 @@ use Rattle.std.specs.List.{concat}
 use Rattle.std.specs.Io.KnownBytes.{Appends}
 use Rattle.protocol.specs.declared.Settings.{Settings}
 use Rattle.protocol.specs.declared.Receiver.{Receiver}
-use Rattle.protocol.specs.Records.{Received}
 use Rattle.protocol.specs.Numbers.{reply_room, four_bytes, holds, longest}
 use Rattle.protocol.specs.Bytes.{Bytes}
 use Rattle.protocol.specs.Finder.{find_of, used_of}
@@ -16,7 +15,7 @@ use Rattle.protocol.specs.Search.{Chip}
 use Rattle.protocol.specs.Call.{core, Lent, fit_chip, fit_room, Typed, refused, reply_of}
 use Rattle.protocol.specs.Receiver.{bytes_in, Line, line, Handed, fitting, run_of, handed, receive_of}
 use Rattle.dialogues.specs.Caller.{Ran, replied, at_rest, drained}
-use Rattle.protocol.specs.Records.{reader_of, chip_of, lent_of, received_of}
+use Rattle.protocol.specs.Records.{Received, reader_of, chip_of, lent_of, received_of}
 use Rattle.protocol.proofs.Laws.Logic.{and_l, and_r}
 use Rattle.protocol.proofs.Laws.Finder.{used_in}
 use Rattle.protocol.proofs.Laws.Holding.{receive_kinds, receive_legal}

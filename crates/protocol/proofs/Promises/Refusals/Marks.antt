@@ -8,10 +8,6 @@ use mathlib.Core.List.{List}
 use Prim.Native.Nat.{ℕ, zero, suc, ◌≤◌}
 use native.Mathlib.Omega.{arith}
 use Rattle.protocol.specs.declared.Settings.{Settings}
-use Rattle.protocol.specs.Records.{Called}
-use Rattle.protocol.specs.Records.{Switched}
-use Rattle.protocol.specs.Records.{Received}
-use Rattle.protocol.specs.Records.{Emptied}
 use Rattle.protocol.specs.declared.Line.{Line}
 use Rattle.protocol.specs.Reader.{Reader, with_mark, with_transfer, emptied}
 use Rattle.protocol.specs.Step.{wiped, switched}
@@ -19,7 +15,7 @@ use Rattle.protocol.specs.Call.{core, Typed, Lent, Ended, refused, carried, call
 use Rattle.protocol.specs.Dialogue.{received, on}
 use Rattle.protocol.specs.Receiver as receivers
 use Rattle.protocol.specs.Receiver.{Handed, handed, receive_of, line_switch_of}
-use Rattle.protocol.specs.Records.{marks_of, reader_of, line_of, ended_of, switched_of, received_of, emptied_of}
+use Rattle.protocol.specs.Records.{Called, Switched, Received, Emptied, marks_of, reader_of, line_of, ended_of, switched_of, received_of, emptied_of}
 use Rattle.protocol.proofs.Laws.Answers.{call_stays, switch_stays}
 use Rattle.protocol.proofs.Laws.Holding.{receive_kinds, switch_kinds}
 use Rattle.protocol.proofs.Promises.Words.Words.{Marked}

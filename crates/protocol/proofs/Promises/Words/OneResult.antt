@@ -6,18 +6,21 @@ use mathlib.Core.List.{List}
 use Prim.Native.Nat.{ℕ}
 use lib.Dec.{eqb}
 use borrow.Author.Tests.{eqb-true}
+use Rattle.std.specs.Prelude.{Result, Ok, Err}
 use Rattle.protocol.specs.declared.Settings.{Settings}
-use Rattle.protocol.specs.Records.{Called}
-use Rattle.protocol.specs.Records.{Switched}
-use Rattle.protocol.specs.Records.{Received}
-use Rattle.protocol.specs.Records.{Emptied}
-use Rattle.protocol.specs.Numbers.{no_page}
+use Rattle.protocol.specs.declared.Lengths.{Lengths}
+use Rattle.protocol.specs.declared.Answered.{Answered}
+use Rattle.protocol.specs.declared.Taken.{Taken}
+use Rattle.protocol.specs.declared.refusals.Refusal.{Refusal}
+use Rattle.protocol.specs.declared.refusals.Refusal.TheVariants.{BadLength, BadRoom, BadSetting, BadContent}
+use Rattle.protocol.specs.Codes.{outcome_number}
+use Rattle.protocol.specs.Numbers.{bad_length, bad_room, bad_setting, no_page}
 use Rattle.protocol.specs.Packet.{Made}
 use Rattle.protocol.specs.BringOver.{Brought}
 use Rattle.protocol.specs.Reader.{Marks, Transfer, closed, opened, unfit, Origin, no_origin, from_page, Reader}
 use Rattle.protocol.specs.Call.{Ended}
 use Rattle.protocol.specs.Receiver.{Handed}
-use Rattle.protocol.specs.Records.{fit_marks, is_set, mark_of, marks_of, transfer_of, origin_of, reader_of, ended_of, switched_of, received_of, emptied_of, Built, made_of, brought_of}
+use Rattle.protocol.specs.Records.{fit_marks, is_set, mark_of, marks_of, transfer_of, origin_of, reader_of, answered_of, taken_of, Called, ended_of, Switched, switched_of, Received, received_of, Emptied, emptied_of, Built, built_of, made_of, brought_of}
 use Rattle.protocol.proofs.Laws.Marks.{mark_is, fit_verified, fit_filled1, fit_filled2, fit_found, transfer_kinds}
 use Rattle.protocol.proofs.Promises.Words.Records.{reader_is}
 
@@ -169,3 +172,59 @@ one_build x y o o' e = (λ j. record { refusal = (e j).refusal; length = (e j).l
 -- the refusal of bringing over, and the lent index
 pub one_brought : (k k' : ℕ) (x x' : List ℕ) → brought_of k x ≡ brought_of k' x' → (k ≡ k') × (x ≡ x')
 one_brought k k' x x' e = (ap (λ (b : Brought). b.refusal) e, ap (λ (b : Brought). b.index) e)
+
+-- ---- an outcome of the code is pinned with them, since its numbers give it back
+
+refusal_at : ℕ → Refusal
+refusal_at k = cond (eqb k bad_length) BadLength (cond (eqb k bad_room) BadRoom (cond (eqb k bad_setting) BadSetting BadContent))
+
+outcome_at : {T : Type 0} → ℕ → T → Result T Refusal
+outcome_at k x = cond (eqb k 0) (Ok x) (Err (refusal_at k))
+
+answered_back : (o : Result Lengths Refusal) → outcome_at (answered_of o).refusal record { used = (answered_of o).used; reply = (answered_of o).length } ≡ o
+unfolding outcome_at refusal_at
+answered_back (Ok n) = refl
+answered_back (Err BadLength) = refl
+answered_back (Err BadRoom) = refl
+answered_back (Err BadSetting) = refl
+answered_back (Err BadContent) = refl
+
+-- a call's
+pub one_outcome : (o p : Result Lengths Refusal) → answered_of o ≡ answered_of p → o ≡ p
+one_outcome o p e = sym (answered_back o) ∙ ap (λ (a : Answered). outcome_at a.refusal record { used = a.used; reply = a.length }) e ∙ answered_back p
+
+taken_back : (o : Result Lengths Refusal) → outcome_at (taken_of o).refusal record { used = (taken_of o).taken; reply = (taken_of o).length } ≡ o
+unfolding outcome_at refusal_at
+taken_back (Ok n) = refl
+taken_back (Err BadLength) = refl
+taken_back (Err BadRoom) = refl
+taken_back (Err BadSetting) = refl
+taken_back (Err BadContent) = refl
+
+-- a receiver's call's
+pub one_taken : (o p : Result Lengths Refusal) → taken_of o ≡ taken_of p → o ≡ p
+one_taken o p e = sym (taken_back o) ∙ ap (λ (a : Taken). outcome_at a.refusal record { used = a.taken; reply = a.length }) e ∙ taken_back p
+
+built_back : (o : Result ℕ Refusal) → outcome_at (built_of o).refusal (built_of o).length ≡ o
+unfolding outcome_at refusal_at
+built_back (Ok n) = refl
+built_back (Err BadLength) = refl
+built_back (Err BadRoom) = refl
+built_back (Err BadSetting) = refl
+built_back (Err BadContent) = refl
+
+-- the builder's
+pub one_built : (o p : Result ℕ Refusal) → built_of o ≡ built_of p → o ≡ p
+one_built o p e = sym (built_back o) ∙ ap (λ (b : Built). outcome_at b.refusal b.length) e ∙ built_back p
+
+bare_back : (o : Result Unit Refusal) → outcome_at (outcome_number o) tt ≡ o
+unfolding outcome_at refusal_at
+bare_back (Ok n) = refl
+bare_back (Err BadLength) = refl
+bare_back (Err BadRoom) = refl
+bare_back (Err BadSetting) = refl
+bare_back (Err BadContent) = refl
+
+-- and one that has nothing beside its refusal
+pub one_number : (o p : Result Unit Refusal) → outcome_number o ≡ outcome_number p → o ≡ p
+one_number o p e = sym (bare_back o) ∙ ap (λ (k : ℕ). outcome_at k tt) e ∙ bare_back p

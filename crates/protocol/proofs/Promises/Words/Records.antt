@@ -5,14 +5,10 @@ use mathlib.Core.List.{List, []}
 use Prim.Native.Nat.{ℕ}
 use lib.Dec.{eqb}
 use Rattle.protocol.specs.declared.Settings.{Settings}
-use Rattle.protocol.specs.Records.{Called}
 use Rattle.protocol.specs.declared.Answered.{Answered}
-use Rattle.protocol.specs.Records.{Switched}
 use Rattle.protocol.specs.declared.Line.{Line}
-use Rattle.protocol.specs.Records.{Received}
 use Rattle.protocol.specs.declared.Taken.{Taken}
-use Rattle.protocol.specs.Records.{Emptied}
-use Rattle.protocol.specs.Records.{marks_of, transfer_of, origin_of, reader_of, line_of, lent_of, ended_of, switched_of, received_of, emptied_of, called_at, switched_at, received_at, emptied_at, Built, made_of, brought_of}
+use Rattle.protocol.specs.Records.{Called, Switched, Received, Emptied, marks_of, transfer_of, origin_of, reader_of, line_of, lent_of, ended_of, switched_of, received_of, emptied_of, called_at, switched_at, received_at, emptied_at, Built, made_of, brought_of}
 
 -- settings; templates, index, notepad, buffers 1 and 2. A mark is set where its byte is 1. `transfer_of` and `origin_of` are in Words
 pub reader_is : (s : Settings) (t i n b d : List ℕ) → reader_of s t i n b d
