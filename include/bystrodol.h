@@ -2,7 +2,8 @@
  * bystrodol.h: the EF01 reader core for C99 and C++: the whole reader, four plain services, closing the gaps of a library, cleaning one
  * up, comparing two, and bringing over an older index.
  *
- * There are three archives, for x86-64 Linux, which `tools/archives` writes. bystrodol_step and bystrodol_line_switch are in
+ * There are three archives, for x86-64 Linux, which `tools/archives` writes. They are made for processors that are x86-64-v2, with SSSE3 and
+ * SSE4.1, and do not look whether theirs is one. bystrodol_step and bystrodol_line_switch are in
  * target/staticlib/libstep.a; bystrodol_close_gaps, bystrodol_salvage and bystrodol_compare are in target/staticlib/libupkeep.a; all else
  * is in target/staticlib/libboard.a. Link those whose functions you call, in any order, behind your own files. None needs another. Of the C library libstep.a and libboard.a need memcpy and memset,
  * libupkeep.a memmove and memset, and nothing else. Each function is a section of its own: with --gc-sections the linker drops those that
