@@ -8,8 +8,8 @@ ghost use Rattle.bench.specs.Start.{Zeroed};
 
 use crate::failure::Failure;
 use protocol::refusals::Refusal;
-use protocol::{Lengths, Receiver, Settings, numbers};
-use reader::memory::{Chip, Reader};
+use protocol::{Lengths, Line, numbers, outcomes};
+use reader::memory::{Chip, Memory};
 use rules::settings;
 use std::io;
 use std::io::Write;
@@ -22,8 +22,7 @@ const TEMPLATES: usize = PAGES * numbers::PAGE;
 // The reader and its line, with all its memory: fixed arrays, as on the boards.
 #[derive(Drop)]
 pub(crate) struct Bench {
-    settings: Settings,
-    receiver: Receiver,
+    line: Line,
     templates: [u8; TEMPLATES],
     index: [u8; numbers::INDEX],
     notepad: [u8; numbers::NOTEPAD],
@@ -55,8 +54,10 @@ impl Bench {
         ensures started { line_at result ≡ started }
     {
         Bench {
-            settings: settings::fresh(),
-            receiver: receiver::empty(),
+            line: Line {
+                settings: settings::fresh(),
+                receiver: receiver::empty(),
+            },
             templates: [0u8; TEMPLATES],
             index: [0u8; numbers::INDEX],
             notepad: [0u8; numbers::NOTEPAD],
@@ -72,11 +73,10 @@ impl Bench {
             (offered_at result self.new reply.new) }
     {
         // By one byte read the check knows how long each array behind `self` is.
-        let _held = self.receiver.held[0];
+        let _held = self.line.receiver.held[0];
         let scores = [0u16; PAGES];
         let thresholds = [0u16; numbers::LEVELS];
-        let reader = Reader {
-            settings: &mut self.settings,
+        let memory = Memory {
             templates: &mut self.templates,
             index: &mut self.index,
             notepad: &mut self.notepad,
@@ -87,14 +87,8 @@ impl Bench {
             scores: &scores,
             thresholds: &thresholds,
         };
-        receiver::receive(
-            numbers::NOTEPAD,
-            &mut self.receiver,
-            reader,
-            chip,
-            piece,
-            reply,
-        )
+        let outcome = receiver::receive(numbers::NOTEPAD, self.line, memory, chip, piece, reply);
+        outcomes::write_back(&mut self.line, outcome)
     }
 
     // Offers a piece up to the last call, and writes each reply. A refusal and a failed write end it. A `loop`: only a call's outcome shows that it was the last;
@@ -111,10 +105,10 @@ impl Bench {
     {
         let mut rest = piece;
         loop {
-            let before = self.receiver.count;
+            let before = self.line.receiver.count;
             let lengths = self.offer(rest, reply)?;
             write(output, &reply[..lengths.reply]).map_err(Failure::Write)?;
-            if is_last(lengths.used, before, self.receiver.count) {
+            if is_last(lengths.used, before, self.line.receiver.count) {
                 return Ok(());
             }
             rest = &rest[lengths.used..];

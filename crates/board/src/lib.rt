@@ -11,8 +11,8 @@ ghost use Rattle.protocol.specs.Receiver.{receive_of, line_switch_of};
 ghost use Rattle.protocol.specs.Records.{reader_of, line_of, fresh_of, lent_of, received_of, emptied_of, received_at, emptied_at, brought_of};
 
 use library::index;
-use protocol::{Line, Settings, Taken, numbers, refusals};
-use reader::memory::{Chip, Reader};
+use protocol::{Line, Settings, Taken, numbers, outcomes, refusals};
+use reader::memory::{Chip, Memory};
 use rules::settings;
 use wire::{builder, bytes, finder};
 
@@ -82,8 +82,7 @@ pub extern "C" fn bystrodol_receive(
         (line_of line.old templates.old index.old notepad.old buffer1.old buffer2.old)
         piece.now (lent_of scores.now thresholds.now reply.old) }
 {
-    let reader = Reader {
-        settings: &mut line.settings,
+    let memory = Memory {
         templates,
         index,
         notepad,
@@ -91,15 +90,8 @@ pub extern "C" fn bystrodol_receive(
         buffer2,
     };
     let chip = Chip { scores, thresholds };
-    receiver::receive(
-        numbers::NOTEPAD,
-        &mut line.receiver,
-        reader,
-        chip,
-        piece,
-        reply,
-    )
-    .into()
+    let outcome = receiver::receive(numbers::NOTEPAD, *line, memory, chip, piece, reply);
+    outcomes::write_back(line, outcome).into()
 }
 
 // A line switch on a lent line, which empties its receiver.
@@ -113,7 +105,8 @@ pub extern "C" fn bystrodol_receiver_switch(
         → emptied_of (emptied_at line.new result) t i n buffer1.new buffer2.new
         ≡ line_switch_of (line_of line.old t i n buffer1.old buffer2.old) }
 {
-    refusals::outcome_number(&receiver::line_switch(line, buffer1, buffer2))
+    let outcome = receiver::line_switch(*line, buffer1, buffer2);
+    outcomes::write_back_alone(line, outcome)
 }
 
 // Fresh settings.

@@ -128,6 +128,20 @@ abbrev pub answered_of : Result Lengths Refusal → Answered
 answered_of (Ok n) = record { refusal = 0; used = n.used; length = n.reply }
 answered_of (Err e) = record { refusal = refusal_number e; used = 0; length = 0 }
 
+-- a record that went in by value, and comes back with the lengths unless the call is refused: what it is then, and the rest
+abbrev pub after_of : {T : Type 0} → T → Result (T × Lengths) Refusal → T
+after_of x (Ok p) = p.0
+after_of x (Err e) = x
+
+-- the same of a call that gives nothing beside it
+abbrev pub left_of : {T : Type 0} → T → Result T Refusal → T
+left_of x (Ok y) = y
+left_of x (Err e) = x
+
+abbrev pub lengths_of : {T : Type 0} → Result (T × Lengths) Refusal → Result Lengths Refusal
+lengths_of (Ok p) = Ok p.1
+lengths_of (Err e) = Err e
+
 abbrev pub taken_of : Result Lengths Refusal → Taken
 taken_of (Ok n) = record { refusal = 0; taken = n.used; length = n.reply }
 taken_of (Err e) = record { refusal = refusal_number e; taken = 0; length = 0 }

@@ -5,7 +5,7 @@ pub mod codes;
 pub mod command_codes;
 pub mod identifiers;
 pub mod numbers;
-mod outcomes;
+pub mod outcomes;
 pub mod refusals;
 
 // What stands in a run (steps 1 to 4): nothing that starts a packet; one that is not all there yet; a start that no packet has;

@@ -10,7 +10,7 @@ use Rattle.protocol.specs.Step.{Said}
 use Rattle.protocol.specs.Call.{shaped, library_fits, buffers_fit, chip_fits, Lent, Ended, carried}
 use Rattle.protocol.specs.Records.{ended_of, called_at, answered_of}
 use Rattle.reader.specs.declared.memory.Chip.{Chip}
-use Rattle.reader.specs.declared.memory.Reader.{Reader}
+use Rattle.reader.specs.declared.memory.Memory.{Memory}
 use Rattle.reader.specs.Memory.{chip_at}
 
 -- a whole packet at p, with length field n, lies within its run
@@ -23,9 +23,9 @@ pub record Lies (s : List ℕ) (p n : ℕ) : Type 0 where
 unfoldable pub lengths_fit : ℕ → ℕ → ℕ → ℕ → ℕ → ℕ → ℕ → ℕ → Bool
 lengths_fit noted t i n b c scores thresholds = (library_fits (shaped noted) (t / page_bytes) t i n && buffers_fit b c) && chip_fits (t / page_bytes) scores thresholds
 
--- those of a reader and its chip
-abbrev pub reader_fits : ℕ → Reader → Chip → Bool
-reader_fits noted r x =
+-- those of a memory and its chip
+abbrev pub memory_fits : ℕ → Memory → Chip → Bool
+memory_fits noted r x =
     lengths_fit noted (length r.templates.now) (length r.index.now) (length r.notepad.now) (length r.buffer1.now) (length r.buffer2.now) (length x.scores.now) (length x.thresholds.now)
 
 -- an answer carried into the reply room, with the bytes used
@@ -36,12 +36,13 @@ carried_of used a room = carried record { used = used; reply = a.reply; after = 
 abbrev pub lent_at : Chip → List ℕ → Lent
 lent_at x room = record { chip = chip_at x; room = room }
 
--- a call's outcome, what it left behind the reader's references, and the reply room after it
+-- what a call left behind the memory's references
 abbrev pub Left : Type 0
-Left = MutBor Settings × (MutBor (List ℕ) × (MutBor (List ℕ) × (MutBor (List ℕ) × (MutBor (List ℕ) × (MutBor (List ℕ) × Unit {0})))))
+Left = MutBor (List ℕ) × (MutBor (List ℕ) × (MutBor (List ℕ) × (MutBor (List ℕ) × (MutBor (List ℕ) × Unit {0}))))
 
-abbrev pub ended_at : Result Lengths Refusal → Left → List ℕ → Ended
-ended_at o x room = ended_of (called_at x.0.now (answered_of o)) x.1.0.now x.1.1.0.now x.1.1.1.0.now x.1.1.1.1.0.now x.1.1.1.1.1.0.now room
+-- the settings after a call and its outcome, the memory, and the reply room
+abbrev pub ended_at : Settings → Result Lengths Refusal → Left → List ℕ → Ended
+ended_at s o x room = ended_of (called_at s (answered_of o)) x.0.now x.1.0.now x.1.1.0.now x.1.1.1.0.now x.1.1.1.1.0.now room
 
 -- a packet that was heard: the bytes used and the reply's length, and the reader and the reply room after it
 abbrev pub heard_at : Lengths → readers.Reader → List ℕ → Ended

@@ -1,6 +1,7 @@
 -- The reader of the definitions that lies in what is lent, and what a call leaves of it.
 use Rattle.std.specs.Prelude.{Bool, cond, ◌≡◌, ℕ, eqb}
 use Rattle.protocol.specs.Reader.{Buffer, buffer_of, with_buffer, without, without_pages, reader}
+use Rattle.protocol.specs.declared.Settings.{Settings}
 use Rattle.protocol.specs.Reader as readers
 use Rattle.protocol.specs.Search as searches
 use Rattle.protocol.specs.Commands.{Free, Barred}
@@ -9,12 +10,12 @@ use Rattle.protocol.specs.Step.{Said, carry, carry_free}
 use Rattle.protocol.specs.Records.{is_set, reader_of, chip_of}
 use Rattle.reader.specs.declared.answers.Answer.{Answer}
 use Rattle.reader.specs.declared.memory.Chip.{Chip}
-use Rattle.reader.specs.declared.memory.Reader.{Reader}
+use Rattle.reader.specs.declared.memory.Memory.{Memory}
 use Rattle.reader.specs.declared.memory.Sound.{Sound}
 use Rattle.reader.specs.Answers.{spoken_of}
 
-abbrev pub reader_at : Reader → readers.Reader
-reader_at r = reader_of r.settings.now r.templates.now r.index.now r.notepad.now r.buffer1.now r.buffer2.now
+abbrev pub reader_at : Settings → Memory → readers.Reader
+reader_at s r = reader_of s r.templates.now r.index.now r.notepad.now r.buffer1.now r.buffer2.now
 
 abbrev pub reader_in : Sound → readers.Reader
 reader_in r = reader_of r.settings.now r.templates.now r.index.now r.notepad.now r.buffer1.now r.buffer2.now

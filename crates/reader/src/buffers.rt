@@ -96,18 +96,19 @@ impl Sound<'_> {
     }
 
     // Copies a page to a buffer, which is filled then, and the page its origin.
-    pub(crate) fn load_buffer(&mut self, buffer: Buffer, page: usize)
+    pub(crate) fn load_buffer(&mut self, buffer: Buffer, page: u16)
         requires { page < length self.old.templates.now / page_bytes }
         ensures kept { Kept self.old self.new }
         ensures loaded { reader_in self.new ≡ with_numbered (buffer_number buffer)
             (loaded_from page (part (page_bytes * page) page_bytes self.old.templates.now)) (reader_in self.old) }
     {
-        *self.settings = hold(*self.settings, buffer, Some(page as u16));
+        *self.settings = hold(*self.settings, buffer, Some(page));
+        let place = usize::from(page);
         // Of a field that is lent to be read, the proof keeps the length alone, but of this the bytes.
         let templates = &mut *self.templates;
         match buffer {
-            Buffer::First => pages::read_page(self.buffer1, templates, page),
-            Buffer::Second => pages::read_page(self.buffer2, templates, page),
+            Buffer::First => pages::read_page(self.buffer1, templates, place),
+            Buffer::Second => pages::read_page(self.buffer2, templates, place),
         }
     }
 

@@ -7,13 +7,13 @@ ghost use Rattle.protocol.specs.Codes.{outcome_number};
 ghost use Rattle.protocol.specs.Packet.{address_at, right_at};
 ghost use Rattle.protocol.specs.Step.{hear_as, hear_at, answer};
 ghost use Rattle.protocol.specs.Call.{shaped, call_of, switch_of};
-ghost use Rattle.protocol.specs.Records.{reader_of, switched_of, switched_at};
+ghost use Rattle.protocol.specs.Records.{reader_of, after_of, lengths_of, left_of, switched_of, switched_at};
 ghost use Rattle.rules.specs.Settings.{sound_of};
 ghost use Rattle.reader.specs.Memory.{Kept, reader_at, reader_in, chip_at, said_of};
-ghost use Rattle.reader.specs.Calls.{Lies, reader_fits, lent_at, ended_at, heard_at, carried_of};
+ghost use Rattle.reader.specs.Calls.{Lies, memory_fits, lent_at, ended_at, heard_at, carried_of};
 
 use crate::answers::Answer;
-use crate::memory::{Chip, Reader, Sound};
+use crate::memory::{Chip, Memory, Sound};
 use crate::{fields, origins};
 use library::index;
 use protocol::identifiers::Identifier;
@@ -113,62 +113,47 @@ pub fn is_sound_of(settings: Settings, index: &[u8], pages: usize) -> bool
     is_sound(settings, index, pages)
 }
 
-impl Reader<'_> {
+impl Memory<'_> {
     /// Whether the lent lengths are right, the reply room's apart (refusal 1), where the notepad is to have `noted` bytes.
     #[tactic(auto, using(wire::proofs::Picks::picks), unfolding(crate::specs::Calls::lengths_fit, protocol::specs::Tests::within))]
     pub fn has_fit_lengths(&self, noted: usize, chip: Chip<'_>) -> bool
-        ensures { result ≡ reader_fits noted self.now chip.entry }
+        ensures { result ≡ memory_fits noted self.now chip.entry }
     {
         let pages = self.templates.len() / numbers::PAGE;
-        if self.templates.len() != numbers::PAGE * pages {
-            return false;
-        }
-        if pages < 1 {
-            return false;
-        }
-        if numbers::MOST_PAGES < pages {
-            return false;
-        }
-        if self.index.len() != numbers::INDEX {
-            return false;
-        }
-        if self.notepad.len() != noted {
-            return false;
-        }
-        if self.buffer1.len() != numbers::PAGE {
-            return false;
-        }
-        if self.buffer2.len() != numbers::PAGE {
-            return false;
-        }
-        if chip.scores.len() != pages {
-            return false;
-        }
-        chip.thresholds.len() == numbers::LEVELS
+        self.templates.len() == numbers::PAGE * pages
+            && (1..=numbers::MOST_PAGES).contains(&pages)
+            && self.index.len() == numbers::INDEX
+            && self.notepad.len() == noted
+            && self.buffer1.len() == numbers::PAGE
+            && self.buffer2.len() == numbers::PAGE
+            && chip.scores.len() == pages
+            && chip.thresholds.len() == numbers::LEVELS
     }
 
-    // Whether its settings, transfer, index bits and origins are legal.
-    fn is_sound(&self) -> bool
+    // Whether settings, transfer, index bits and origins are legal with it.
+    fn is_sound(&self, settings: Settings) -> bool
         requires { length self.now.templates.now / page_bytes ≤ most_pages }
-        ensures { result ≡ sound_of (length self.now.templates.now / page_bytes) self.now.index.now self.now.settings.now }
+        ensures { result ≡ sound_of (length self.now.templates.now / page_bytes) self.now.index.now settings }
     {
         is_sound(
-            *self.settings,
+            settings,
             self.index,
             self.templates.len() / numbers::PAGE,
         )
     }
 
-    /// A call of a reader whose notepad has `noted` bytes, document 01's with 512: the chip's scores and thresholds, a received run, and a reply room.
+    /// A call of a reader whose notepad has `noted` bytes, document 01's with 512: its settings, the chip's scores and thresholds, a received run, and a reply
+    /// room. It gives back the settings, the bytes used and the reply's length; refused, it leaves all as it was.
     pub fn step(
         self,
         noted: usize,
+        settings: Settings,
         chip: Chip<'_>,
         run: &[u8],
         reply: &mut [u8],
-    ) -> Result<Lengths, Refusal>
-        ensures { ended_at result self.exit reply.new
-            ≡ call_of (shaped noted) (reader_at self.entry) run.now (lent_at chip.entry reply.old) }
+    ) -> Result<(Settings, Lengths), Refusal>
+        ensures { ended_at (after_of settings result) (lengths_of result) self.exit reply.new
+            ≡ call_of (shaped noted) (reader_at settings self.entry) run.now (lent_at chip.entry reply.old) }
     {
         if !self.has_fit_lengths(noted, chip) {
             return Err(Refusal::BadLength);
@@ -176,26 +161,24 @@ impl Reader<'_> {
         if reply.len() < numbers::REPLY_ROOM {
             return Err(Refusal::BadRoom);
         }
-        if !self.is_sound() {
+        if !self.is_sound(settings) {
             return Err(Refusal::BadSetting);
         }
         let found = finder::find(run);
         let Found::Whole { at, len } = found else {
-            return Ok(Lengths {
-                used: finder::used_of(found),
-                reply: 0,
-            });
+            let used = finder::used_of(found);
+            return Ok((settings, Lengths { used, reply: 0 }));
         };
-        let Reader {
-            settings,
+        let Memory {
             templates,
             index,
             notepad,
             buffer1,
             buffer2,
         } = self;
+        let mut after = settings;
         let mut sound = Sound {
-            settings,
+            settings: &mut after,
             templates,
             index,
             notepad,
@@ -203,18 +186,20 @@ impl Reader<'_> {
             buffer2,
             chip,
         };
-        Ok(sound.hear_packet(run, at, len, reply))
+        let lengths = sound.hear_packet(run, at, len, reply);
+        Ok((after, lengths))
     }
 }
 
-/// The line switch, for which no whole reader is lent: any settings and both buffers; marks and status bit 1 cleared, transfer closed, buffers zeroed, origins none. It knows only refusal 1.
+/// The line switch, for which no whole reader is lent: any settings and both buffers; marks and status bit 1 cleared, transfer closed, buffers zeroed, origins
+/// none. It knows only refusal 1.
 pub fn line_switch(
-    settings: &mut Settings,
+    settings: Settings,
     buffer1: &mut [u8],
     buffer2: &mut [u8],
-) -> Result<(), Refusal>
-    ensures { (t i n : List ℕ) → switched_of (switched_at settings.new (outcome_number result)) t i n buffer1.new buffer2.new
-        ≡ switch_of (reader_of settings.old t i n buffer1.old buffer2.old) }
+) -> Result<Settings, Refusal>
+    ensures { (t i n : List ℕ) → switched_of (switched_at (left_of settings result) (outcome_number result)) t i n buffer1.new buffer2.new
+        ≡ switch_of (reader_of settings t i n buffer1.old buffer2.old) }
 {
     if buffer1.len() != numbers::PAGE {
         return Err(Refusal::BadLength);
@@ -224,6 +209,5 @@ pub fn line_switch(
     }
     buffer1.fill(0);
     buffer2.fill(0);
-    *settings = settings::switched(*settings);
-    Ok(())
+    Ok(settings::switched(settings))
 }

@@ -1,14 +1,13 @@
-// What a reader lies in: its settings and its lent memory; and what the chip gives for a call.
+// What a reader is lent: its memory, and what the chip gives for a call. Its settings go in and come back by value.
 ghost use Rattle.std.specs.Prelude.{◌≡◌, ◌*◌, ◌/◌, ◌≤◌, length};
 ghost use Rattle.protocol.specs.Numbers.{page_bytes, index_bytes, most_pages};
 ghost use Rattle.rules.specs.Settings.{Legal};
 
 use protocol::Settings;
 
-/// A reader as it is lent, with any settings and any lengths.
+/// A reader's memory as it is lent, of any lengths.
 #[derive(Drop)]
-pub struct Reader<'a> {
-    pub settings: &'a mut Settings,
+pub struct Memory<'a> {
     pub templates: &'a mut [u8],
     pub index: &'a mut [u8],
     pub notepad: &'a mut [u8],

@@ -71,14 +71,13 @@ impl Sound<'_> {
         ensures obeyed { said_of (answer_in result) self.new ≡ obeyed self.old (load_char number page) }
     {
         let buffer = Buffer::try_from(number)?;
-        let place = usize::from(page);
-        if self.templates.len() / numbers::PAGE <= place {
+        if self.templates.len() / numbers::PAGE <= usize::from(page) {
             return Err(Code::BadPage);
         }
         if !self.is_stored(page) {
             return Err(Code::NothingThere);
         }
-        self.load_buffer(buffer, place);
+        self.load_buffer(buffer, page);
         Ok(Answer::Alone(Code::Done))
     }
 

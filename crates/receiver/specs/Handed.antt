@@ -1,13 +1,19 @@
--- What a receiver's call handed back, and what it left.
+-- The line of the definitions that lies in what is lent, and what a call leaves of it.
 use Rattle.std.specs.Prelude.{List, ℕ, Result}
 use Rattle.protocol.specs.declared.Lengths.{Lengths}
-use Rattle.protocol.specs.declared.Receiver.{Receiver}
+use Rattle.protocol.specs.declared.Line.{Line}
 use Rattle.protocol.specs.declared.refusals.Refusal.{Refusal}
 use Rattle.protocol.specs.Receiver.{Handed}
+use Rattle.protocol.specs.Receiver as receivers
 use Rattle.protocol.specs.Records.{received_of, received_at, taken_of}
+use Rattle.reader.specs.declared.memory.Memory.{Memory}
+use Rattle.reader.specs.Memory.{reader_at}
 use Rattle.reader.specs.Calls.{Left}
 
--- its outcome, the receiver, what it left behind the reader's references, and the reply room
-abbrev pub handed_at : Result Lengths Refusal → Receiver → Left → List ℕ → Handed
-handed_at o h x room =
-    received_of (received_at record { settings = x.0.now; receiver = h } (taken_of o)) x.1.0.now x.1.1.0.now x.1.1.1.0.now x.1.1.1.1.0.now x.1.1.1.1.1.0.now room
+-- the line of the definitions that a line and its lent memory are
+abbrev pub line_at : Line → Memory → receivers.Line
+line_at l m = receivers.line (reader_at l.settings m) l.receiver
+
+-- the line after a call and its outcome, the memory, and the reply room
+abbrev pub handed_at : Line → Result Lengths Refusal → Left → List ℕ → Handed
+handed_at l o x room = received_of (received_at l (taken_of o)) x.0.now x.1.0.now x.1.1.0.now x.1.1.1.0.now x.1.1.1.1.0.now room

@@ -4,4 +4,7 @@ use Rattle.board.proofs.bystrodol_receive.Goals as goal
 
 pub returns : goal.returns
 unfolding core
-returns c = let e = c.into.ensures in rw e c.receive.ensures
+returns c =
+    let w = c.write_back.ensures in
+    let e = c.into.ensures in
+    rw (e, w.record, w.lengths) c.receive-outcome.ensures

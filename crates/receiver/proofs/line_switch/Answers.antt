@@ -5,15 +5,15 @@ use Rattle.reader.proofs.Rows.{is_err}
 use Rattle.receiver.proofs.Calls.{refuses, empties, leaves}
 use Rattle.receiver.proofs.line_switch.Goals as goal
 
-pub returns-in_err-line_switch : goal.returns-in_err-line_switch
-returns-in_err-line_switch c =
-    let x = c.args.line.now in
-    let e = rw (c.in_err-line_switch.was) at c.line_switch.ensures in
-    let k = c.in_err-line_switch.field-0.0 in
-    rw (is_err c.from_residual.result k c.from_residual.ensures.1) (leaves x.receiver x.settings c.line_switch.new.settings c.args.buffer1.now c.args.buffer2.now _ _ (refusal_number k) e (refuses k))
+pub returns-in_err-settings : goal.returns-in_err-settings
+returns-in_err-settings c =
+    let x = c.args.line in
+    let e = rw (c.in_err-settings.was) at c.line_switch.ensures in
+    let k = c.in_err-settings.field-0.0 in
+    rw (is_err c.from_residual.result k c.from_residual.ensures.1) (leaves x.receiver x.settings x.settings c.args.buffer1.now c.args.buffer2.now _ _ (refusal_number k) e (refuses k))
 
 pub returns : goal.returns
 returns c =
-    let x = c.args.line.now in
-    let e = rw (c.in_ok-line_switch.was) at c.line_switch.ensures in
-    empties x.receiver x.settings c.line_switch.new.settings c.args.buffer1.now c.args.buffer2.now _ _ 0 e c.empty-line.result c.empty-line.ensures refl
+    let x = c.args.line in
+    let e = rw (c.in_ok-settings.was) at c.line_switch.ensures in
+    empties x.receiver x.settings c.in_ok-settings.settings c.args.buffer1.now c.args.buffer2.now _ _ 0 e c.empty.result c.empty.ensures refl

@@ -16,43 +16,43 @@ pub returns-then-count-gt-HOLDS : goal.returns-then-count-gt-HOLDS
 unfolding holds longest refused
 returns-then-count-gt-HOLDS c =
     let a = c.args in
-    let r = reader_at a.reader in
-    full a.noted a.receiver.now r a.chip.scores.now a.chip.thresholds.now a.piece.now a.reply.now _ _ c.if-count-gt-HOLDS.true (lengths_are a.noted r.guarded (chip_at a.chip) ∙ sym c.has_fit_lengths-fit.ensures) c.full_refusal.ensures
+    let r = reader_at a.line.settings a.memory in
+    full a.noted a.line.receiver r a.chip.scores.now a.chip.thresholds.now a.piece.now a.reply.now _ _ c.if-count-gt-HOLDS.true (lengths_are a.noted r.guarded (chip_at a.chip) ∙ sym c.has_fit_lengths-fit.ensures) c.full_refusal.ensures
 
-pub returns-in_err-lengths : goal.returns-in_err-lengths
+pub returns-in_err-settings : goal.returns-in_err-settings
 unfolding run_of bytes_in fitting holds longest
-returns-in_err-lengths c =
+returns-in_err-settings c =
     let p = c.put.ensures in
-    let k = c.in_err-lengths.field-0.0 in
-    let q = rw (c.in_err-lengths.was) at c.step.ensures in
+    let k = c.in_err-settings.field-0.0 in
+    let q = rw (c.in_err-settings.was) at c.step.ensures in
     let f = c.min-taken.ensures in
     let m = c.if-count-gt-HOLDS.false in
-    let l : length c.args.receiver.now.held ≡ holds = search rules in
+    let l : length c.args.line.receiver.held ≡ holds = search rules in
     rw (is_err c.from_residual.result k c.from_residual.ensures.1) (stops _ _ _ _ m _ (cells_run _ _ _ f _ l m _ p) _ q (refuses k))
 
 pub overflow_sub-left : goal.overflow_sub-left
 overflow_sub-left c =
-    let q = rw (c.in_ok-lengths.was) at c.step.ensures in
+    let q = rw (c.in_ok-settings.was) at c.step.ensures in
     used_within _ _ _ _ _ _ q
 
 pub slice_bounds-put-count-2 : goal.slice_bounds-put-count-2
 slice_bounds-put-count-2 c =
-    let q = rw (c.in_ok-lengths.was) at c.step.ensures in
+    let q = rw (c.in_ok-settings.was) at c.step.ensures in
     used_within _ _ _ _ _ _ q
 
 pub slice_bounds-put-start : goal.slice_bounds-put-start
 slice_bounds-put-start c =
-    let q = rw (c.in_ok-lengths.was) at c.step.ensures in
+    let q = rw (c.in_ok-settings.was) at c.step.ensures in
     used_within _ _ _ _ _ _ q
 
 pub returns : goal.returns
 unfolding run_of bytes_in fitting holds longest
 returns c =
     let p = c.put.ensures in
-    let q = rw (c.in_ok-lengths.was) at c.step.ensures in
+    let q = rw (c.in_ok-settings.was) at c.step.ensures in
     let e = c.put-2.ensures in
     let f = c.min-taken.ensures in
     let m = c.if-count-gt-HOLDS.false in
-    let l : length c.args.receiver.now.held ≡ holds = search rules in
+    let l : length c.args.line.receiver.held ≡ holds = search rules in
     let u = used_within _ _ _ _ _ _ q in
     goes _ _ _ _ m _ (cells_run _ _ _ f _ l m _ p) _ q _ _ refl (fits_many _ _ _ f) (rest_held _ _ _ f _ l m _ p _ u _ e)

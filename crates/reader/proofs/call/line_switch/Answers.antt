@@ -45,4 +45,4 @@ returns c =
     let a : c.fill.new.self ≡ zeros (length x.buffer1.now) = search rules in
     let d : c.fill-2.new.self ≡ zeros (length x.buffer2.now) = search rules in
     let h = c.switched.ensures in
-    λ t i n. wipes x.settings.now t i n x.buffer1.now x.buffer2.now c.if-buffer1-ne-PAGE.false c.if-buffer2-ne-PAGE.false _ _ a d _ h
+    λ t i n. wipes x.settings t i n x.buffer1.now x.buffer2.now c.if-buffer1-ne-PAGE.false c.if-buffer2-ne-PAGE.false _ _ a d _ h

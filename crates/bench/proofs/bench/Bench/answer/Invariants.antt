@@ -9,4 +9,4 @@ invariant-loop-lengths g l =
     Offering (line_at l.fn.self) l.fn.piece (g.W.Write.contents l.fn.output) (line_at l.self) l.rest (g.W.Write.contents l.output)
 
 abbrev pub decreases-loop-lengths : goal.decreases-loop-lengths
-decreases-loop-lengths g l = 2 * length l.rest + l.self.receiver.count
+decreases-loop-lengths g l = 2 * length l.rest + l.self.line.receiver.count

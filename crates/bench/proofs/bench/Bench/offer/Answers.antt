@@ -7,4 +7,7 @@ use Rattle.bench.proofs.bench.Bench.offer.Goals as goal
 
 pub returns : goal.returns
 unfolding core holds longest
-returns c = offer_within _ _ _ _ _ _ _ _ _ _ _ _ _ _ _ _ (search rules) (search rules) (search rules) (search rules) c.receive.ensures
+returns c =
+    let w = c.write_back.ensures in
+    let f = offer_within _ _ _ _ _ _ _ _ _ _ _ _ _ _ _ _ (search rules) (search rules) (search rules) (search rules) c.receive-outcome.ensures in
+    rw (w.record, w.lengths) f

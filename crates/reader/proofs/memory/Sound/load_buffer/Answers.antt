@@ -16,7 +16,7 @@ returns-in-First-clause-loaded c =
     let e = rw (c.in-First.is) at c.hold-self.ensures in
     let h = s.few in
     let k = c.requires in
-    let z = c.read_page.ensures ∙ reads c.args.page s.templates.now s.buffer1.now k s.first in
+    let z = (rw c.from-place.ensures at c.read_page.ensures) ∙ reads c.args.page s.templates.now s.buffer1.now k s.first in
     rw (c.in-First.is) (first_loaded s.settings.now c.hold-self.result s.legal c.args.page (omega arith) s.templates.now s.index.now s.notepad.now s.buffer1.now s.buffer2.now c.read_page.new.dst z e)
 
 pub returns-in-Second-clause-loaded : goal.returns-in-Second-clause-loaded
@@ -25,5 +25,5 @@ returns-in-Second-clause-loaded c =
     let e = rw (c.in-Second.is) at c.hold-self.ensures in
     let h = s.few in
     let k = c.requires in
-    let z = c.read_page-in-Second.ensures ∙ reads c.args.page s.templates.now s.buffer2.now k s.second in
+    let z = (rw c.from-place.ensures at c.read_page-in-Second.ensures) ∙ reads c.args.page s.templates.now s.buffer2.now k s.second in
     rw (c.in-Second.is) (second_loaded s.settings.now c.hold-self.result s.legal c.args.page (omega arith) s.templates.now s.index.now s.notepad.now s.buffer1.now s.buffer2.now c.read_page-in-Second.new.dst z e)
