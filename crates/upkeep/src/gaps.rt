@@ -3,7 +3,7 @@ ghost use Rattle.std.specs.Prelude.{◌≡◌, List, ℕ, ◌*◌, ◌/◌, ◌<
 ghost use Rattle.protocol.specs.Numbers.{page_bytes};
 ghost use Rattle.protocol.specs.Call.{core};
 ghost use Rattle.protocol.specs.Codes.{outcome_number};
-ghost use Rattle.protocol.specs.Records.{reader_of};
+ghost use Rattle.protocol.specs.Records.{left_of, reader_of};
 ghost use Rattle.offline.specs.CloseGaps.{first_bits, close_of};
 ghost use Rattle.offline.specs.Records.{closed_of, moved_at};
 ghost use Rattle.upkeep.specs.Gaps.{Shelved, Gathered, move_page, Tidied, followed_in};
@@ -75,26 +75,28 @@ fn followed(table: &[u16], origin: u16) -> u16
     table.get(origin as usize).copied().unwrap_or(origin)
 }
 
-// The gaps of a reader closed: its settings, templates and index, and a table of as many numbers as it has pages.
+// The gaps of a reader closed: its settings, templates and index, and a table of as many numbers as it has pages. The settings come back as they are after it.
 pub fn close_gaps(
-    settings: &mut Settings,
+    settings: Settings,
     templates: &mut [u8],
     index: &mut [u8],
     table: &mut [u16],
-) -> Result<(), Refusal>
+) -> Result<Settings, Refusal>
     ensures { (n b d : List ℕ)
-        → closed_of (moved_at settings.new (outcome_number result)) templates.new index.new table.new n b d
-        ≡ close_of core (reader_of settings.old templates.old index.old n b d) table.old }
+        → closed_of (moved_at (left_of settings result) (outcome_number result)) templates.new index.new table.new n b d
+        ≡ close_of core (reader_of settings templates.old index.old n b d) table.old }
 {
     let pages = templates.len() / numbers::PAGE;
     if !lent::is_fit(templates.len(), index.len(), table.len(), pages) {
         return Err(Refusal::BadLength);
     }
-    if !call::is_sound_of(*settings, index, pages) {
+    if !call::is_sound_of(settings, index, pages) {
         return Err(Refusal::BadSetting);
     }
     close_library(templates, index, table);
-    settings.origin1 = followed(table, settings.origin1);
-    settings.origin2 = followed(table, settings.origin2);
-    Ok(())
+    Ok(Settings {
+        origin1: followed(table, settings.origin1),
+        origin2: followed(table, settings.origin2),
+        ..settings
+    })
 }

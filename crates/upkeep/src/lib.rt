@@ -11,8 +11,8 @@ ghost use Rattle.offline.specs.Compare.{library, compare_of};
 ghost use Rattle.offline.specs.Records.{closed_of, moved_at, salvaged_of, compared_of};
 
 use compare::Library;
-use protocol::Settings;
 use protocol::refusals::outcome_number;
+use protocol::{Settings, outcomes};
 
 pub mod compare;
 pub mod gaps;
@@ -31,7 +31,8 @@ pub extern "C" fn bystrodol_close_gaps(
         → closed_of (moved_at settings.new result) templates.new index.new table.new n b d
         ≡ close_of core (reader_of settings.old templates.old index.old n b d) table.old }
 {
-    outcome_number(&gaps::close_gaps(settings, templates, index, table))
+    let outcome = gaps::close_gaps(*settings, templates, index, table);
+    outcomes::write_back_alone(settings, outcome)
 }
 
 // Salvages a library, and reports what was done to each page and bit: the refusal or 0.
