@@ -1,6 +1,5 @@
 -- A part that was lent and came back, as one list laid over another; and pages laid one after the other.
-use Rattle.std.proofs.Common.{◌≡◌, ℕ, zero, suc, ◌+◌, ◌-◌, ◌*◌, ◌/◌, ◌<◌, ◌≤◌, true, ltb, leb, List, length, take, drop, sym, ap, ◌∙◌, arith, leb→le, length-drop, length-take, lt-ltb, le-leb, le-ltb, zero-add, min, refl}
-use native.Mathlib.Decide.{dec_lt}
+use Rattle.std.proofs.Common.{◌≡◌, ℕ, zero, suc, ◌+◌, ◌-◌, ◌*◌, ◌/◌, ◌<◌, ◌≤◌, true, ltb, leb, List, length, take, drop, sym, ap, ◌∙◌, arith, leb→le, length-drop, length-take, lt-ltb, le-leb}
 use lib.ListN.{length-replicate, replicate-append-replicate}
 use borrow.Rule.Slice.PartMut.{put_mid, Post-is}
 use Rattle.protocol.specs.Numbers.{page_bytes}
@@ -46,6 +45,19 @@ part_read a n xs d e h =
 
 -- ---- pages zeroed one after the other
 
+-- z is what is to come of the templates t, by the pages from p to before e
+module _ (z t : List ℕ) (p e : ℕ) (f : z ≡ zero_pages p (e - p) t) where
+  pub zero_more : (u : List ℕ) → p < e → u ≡ zero_page p t → z ≡ zero_pages (p + 1) (e - (p + 1)) u
+  unfolding zero_pages
+  zero_more u h g =
+      let a : e - p ≡ suc (e - (p + 1)) = omega arith in
+      let b : p + 1 ≡ suc p = omega arith in
+      rw (b, g) (rw (a, b) at f)
+
+  pub zero_none : e ≤ p → t ≡ z
+  unfolding zero_pages
+  zero_none h = let none : e - p ≡ 0 = omega arith in sym (rw none at f)
+
 pub span_within : (p n c : ℕ) → is_span p n c ≡ true → p + n ≤ c
 unfolding is_span
 span_within p n c e = leb→le (p + n) c (and_r (ltb p c) (leb (p + n) c) (rw e tt))
@@ -67,51 +79,3 @@ zeroed p (suc n) t h =
     (zeroed (suc p) n (lay (page_bytes * p) one t) m
     ∙ lay_lay (page_bytes * p) (page_bytes * suc p) one rest t at (omega arith)
     ∙ ap (λ (z : List ℕ). lay (page_bytes * p) z t) (replicate-append-replicate page_bytes (page_bytes * n) 0 ∙ ap zeros all))
-
--- those that are not there are left alone
-zeroed_past : (p n : ℕ) (t : List ℕ) → length t / page_bytes ≤ p → zero_pages p n t ≡ t
-unfolding zero_pages zero_page
-zeroed_past p zero t h = refl
-zeroed_past p (suc n) t h = rw (le-ltb _ _ h) (zeroed_past (suc p) n t (omega arith))
-
-one_more : (p n : ℕ) (t : List ℕ) → p < length t / page_bytes → zero_pages p (suc n) t ≡ zero_pages (suc p) n (lay (page_bytes * p) (zeros page_bytes) t)
-unfolding zero_pages zero_page
-one_more p n t l = rw (lt-ltb _ _ l)
-
-zeroed_cut : (p m k : ℕ) (t : List ℕ) → length t / page_bytes ≡ p + m → zero_pages p (m + k) t ≡ zero_pages p m t
-unfolding zero_pages
-zeroed_cut p zero k t h = rw zero-add (zeroed_past p k t (omega arith))
-zeroed_cut p (suc m) k t h =
-    let l : p < length t / page_bytes = omega arith in
-    let e : suc m + k ≡ suc (m + k) = omega arith in
-    let u : List ℕ = lay (page_bytes * p) (zeros page_bytes) t in
-    let w : length u ≡ length t = length_lay (page_bytes * p) (zeros page_bytes) t (omega (arith, length-replicate {A = ℕ} page_bytes 0)) in
-    ap (λ (n : ℕ). zero_pages p n t) e ∙ one_more p (m + k) t l ∙ zeroed_cut (suc p) m k u (rw w (omega arith)) ∙ sym (one_more p m t l)
-
--- so the pages are one run of zeros, from f to before e
-zeroed_run : (p n f e : ℕ) (t : List ℕ) → f ≡ min (length t / page_bytes) p → e ≡ min (length t / page_bytes) (p + n)
-    → lay (page_bytes * f) (zeros (page_bytes * e - page_bytes * f)) t ≡ zero_pages p n t
-zeroed_run p n f e t g h = go (dec_lt (length t / page_bytes) p) (dec_lt (length t / page_bytes) (p + n))
-  where
-    go : Dec (length t / page_bytes < p) → Dec (length t / page_bytes < p + n) → lay (page_bytes * f) (zeros (page_bytes * e - page_bytes * f)) t ≡ zero_pages p n t
-    go (yes l) d =
-        let k : page_bytes * e - page_bytes * f ≡ 0 = omega arith in
-        rw k (lay_nothing (page_bytes * f) t ∙ sym (zeroed_past p n t (omega arith)))
-    go (no l) (no m) =
-        let a : f ≡ p = omega arith in
-        let k : page_bytes * e - page_bytes * f ≡ page_bytes * n = omega arith in
-        rw (k, a) (sym (zeroed p n t (omega arith)))
-    go (no l) (yes m) =
-        let c : ℕ = length t / page_bytes - p in
-        let a : f ≡ p = omega arith in
-        let k : page_bytes * e - page_bytes * f ≡ page_bytes * c = omega arith in
-        let b : n ≡ c + (n - c) = omega arith in
-        rw (k, a) (sym (rw b (zeroed_cut p c (n - c) t (omega arith)) ∙ zeroed p c t (omega arith)))
-
--- a part that was zeroed
-pub pages_zeroed : (p n f e : ℕ) (t z : List ℕ) → f ≡ min (length t / page_bytes) p → e ≡ min (length t / page_bytes) (p + n)
-    → z ≡ zeros (length (take (page_bytes * e - page_bytes * f) (drop (page_bytes * f) t))) → put_mid (page_bytes * f) (page_bytes * e - page_bytes * f) t z ≡ zero_pages p n t
-pages_zeroed p n f e t z g h w =
-    let k : length (take (page_bytes * e - page_bytes * f) (drop (page_bytes * f) t)) ≡ page_bytes * e - page_bytes * f = simp (length-take, length-drop) (omega arith) in
-    let y : z ≡ zeros (page_bytes * e - page_bytes * f) = w ∙ ap zeros k in
-    rw y (part_laid (page_bytes * f) (page_bytes * e) t (zeros (page_bytes * e - page_bytes * f)) (omega arith) (length-replicate (page_bytes * e - page_bytes * f) 0) ∙ zeroed_run p n f e t g h)

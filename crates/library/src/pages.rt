@@ -49,8 +49,8 @@ pub fn zero_page(templates: &mut [u8], page: usize)
 pub fn zero_pages(templates: &mut [u8], page: u16, n: u16)
     ensures { templates.new ≡ zero_pages page n templates.old }
 {
-    let pages = templates.len() / PAGE;
-    let from = pages.min(usize::from(page));
-    let end = pages.min(usize::from(page) + usize::from(n));
-    templates[PAGE * from..PAGE * end].fill(0);
+    let start = usize::from(page);
+    for p in start..start + usize::from(n) {
+        zero_page(templates, p);
+    }
 }

@@ -6,12 +6,10 @@ use Rattle.protocol.specs.declared.codes.Code.{Code}
 use Rattle.protocol.specs.declared.codes.Code.TheVariants.{Done, BadPacket, NotFound, BadPage, NothingThere, NothingToSend, TransferFailed, BadRange, WrongPassword, UnknownCommand, BadParameter, BadValue, BadNotePage, PasswordFirst, PageTaken}
 use Rattle.protocol.specs.declared.command_codes.CommandCode.{CommandCode}
 use Rattle.protocol.specs.declared.command_codes.CommandCode.TheVariants.{Search, Store, LoadChar, UpChar, DownChar, DeletChar, Empty, SetSysPara, ReadSysPara, SetPwd, VfyPwd, SetAdder, WriteNotepad, ReadNotepad, TempleteNum, ReadIndexTable, HandShake}
-use Rattle.protocol.specs.declared.command_codes.UnknownCode.{UnknownCode}
 use Rattle.protocol.specs.declared.identifiers.Identifier.{Identifier}
 use Rattle.protocol.specs.declared.identifiers.Identifier.TheVariants.{Command, Data, Acknowledge, Last}
 use Rattle.protocol.specs.declared.identifiers.UnknownIdentifier.{UnknownIdentifier}
 use Rattle.protocol.specs.Numbers.{done, bad_packet, not_found, bad_page, nothing_there, nothing_to_send, transfer_failed, bad_range, wrong_password, unknown_command, bad_parameter, bad_value, bad_note_page, password_first, page_taken, bad_length, bad_room, bad_setting, bad_content, command_packet, data_packet, acknowledge_packet, last_packet}
-use Rattle.protocol.specs.Commands.{none, commands, row_of}
 
 -- ---- refusals
 
@@ -65,10 +63,6 @@ command_number ReadNotepad = 0x19
 command_number TempleteNum = 0x1d
 command_number ReadIndexTable = 0x1f
 command_number HandShake = 0x40
-
--- the command of a number; none where the table has no row of it
-abbrev pub Names : ℕ → Result CommandCode UnknownCode → Type 0
-Names k r = MatchResult r (λ c. command_number c ≡ k) (λ e. row_of commands k ≡ none)
 
 -- ---- identifiers
 

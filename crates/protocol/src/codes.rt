@@ -1,9 +1,6 @@
 // The acknowledge codes of document 01 and of its change requests. specs/Numbers.antt names their numbers for the definitions.
 ghost use Rattle.std.specs.Prelude.{◌≡◌};
-ghost use Rattle.protocol.specs.declared.codes.Code.TheVariants.{UnknownCommand};
 ghost use Rattle.protocol.specs.Codes.{code_number};
-
-use crate::command_codes::UnknownCode;
 
 #[derive(Clone, Copy, Debug, PartialEq, Eq)]
 pub enum Code {
@@ -29,14 +26,5 @@ impl From<Code> for u8 {
 
     fn from(code: Code) -> u8 {
         code as u8
-    }
-}
-
-/// A number that is no command's is answered by 19h.
-impl From<UnknownCode> for Code {
-    ghost from_gives = { λ _ code. code ≡ UnknownCommand };
-
-    fn from(_: UnknownCode) -> Code {
-        Code::UnknownCommand
     }
 }

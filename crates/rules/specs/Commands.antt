@@ -1,5 +1,5 @@
 -- What comes before a command's row: the length that each code fixes, and the lock.
-use Rattle.std.specs.Prelude.{Bool, true, cond, ◌||◌, not, ◌≡◌, ◌≢◌, List, ℕ, eqb, Result, MatchResult}
+use Rattle.std.specs.Prelude.{Bool, true, cond, ◌||◌, not, ◌≡◌, ◌≢◌, List, ℕ, eqb, Option, Result, MatchOption, MatchResult}
 use Rattle.protocol.specs.declared.codes.Code.{Code}
 use Rattle.protocol.specs.declared.command_codes.CommandCode.{CommandCode}
 use Rattle.protocol.specs.Codes.{code_number, command_number}
@@ -11,6 +11,10 @@ use Rattle.protocol.specs.Commands.{hand_shake, Command, free, Known, none, some
 unfoldable pub len_of : Known → ℕ
 len_of none = 0
 len_of (some e) = e.len
+
+-- the command of a code, with the length field of the code's row; none for a code that has no row
+abbrev pub Fixes : ℕ → Option (CommandCode × ℕ) → Type 0
+Fixes k r = MatchOption r (row_of commands k ≡ none) (λ f. (command_number f.0 ≡ k) × (f.1 ≡ len_of (row_of commands k)))
 
 unfoldable pub read_of : Known → List ℕ → Command
 read_of none c = free hand_shake
