@@ -10,8 +10,8 @@ ghost use Rattle.library.specs.Lent.{counted_of};
 use protocol::numbers::{INDEX, OLD_INDEX};
 use protocol::refusals::Refusal;
 
-/// Whether a page that the index has a bit for is stored.
-pub fn is_stored(index: &[u8], p: usize) -> bool
+// Whether a page that the index has a byte for is stored.
+pub(crate) fn bit_at(index: &[u8], p: usize) -> bool
     requires { p / 8 < length index.now }
     ensures { result ≡ stored index.now p }
 {
@@ -19,10 +19,10 @@ pub fn is_stored(index: &[u8], p: usize) -> bool
 }
 
 /// Whether a page is stored.
-pub fn has_bit(index: &[u8], p: usize) -> bool
+pub fn is_stored(index: &[u8], p: usize) -> bool
     ensures { result ≡ stored index.now p }
 {
-    p / 8 < index.len() && is_stored(index, p)
+    p / 8 < index.len() && bit_at(index, p)
 }
 
 /// The byte at a place, 0 where the index has none.

@@ -26,7 +26,7 @@ fn best_of(index: &[u8], scores: &[u16], threshold: u16, start: usize, end: usiz
     let mut page = 0;
     for p in start..end {
         let score = u32::from(scores[p]);
-        if least <= score && index::is_stored(index, p) {
+        if least <= score && index::bit_at(index, p) {
             least = score + 1;
             page = p as u16;
         }

@@ -61,9 +61,9 @@ pub const LEVEL_PARAMETER: u8 = 5;
 pub const SIZE_PARAMETER: u8 = 6;
 
 // The bits of the status word: verified; and, by request [8], a Search found a page.
-pub const VERIFIED_STATUS: usize = 4;
+pub const VERIFIED_STATUS: u16 = 4;
 
-pub const FOUND_STATUS: usize = 2;
+pub const FOUND_STATUS: u16 = 2;
 
 // ---- packets
 

@@ -104,7 +104,7 @@ impl Sound<'_> {
     {
         *self.settings = hold(*self.settings, buffer, Some(page));
         let place = usize::from(page);
-        // Of a field that is lent to be read, the proof keeps the length alone, but of this the bytes.
+        // Borrowed through a name of its own: read straight from the field, its bytes would be lost to the proof, which keeps but their number.
         let templates = &mut *self.templates;
         match buffer {
             Buffer::First => pages::read_page(self.buffer1, templates, place),

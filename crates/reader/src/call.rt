@@ -42,7 +42,8 @@ fn is_right(run: &[u8], at: usize, len: usize) -> bool
 }
 
 impl Sound<'_> {
-    // What a packet of ours does, by its identifier.
+    // What a packet of ours does, by its identifier: one of four, for the finder let no other pass. It stays a number, since a conversion would bring an error that
+    // cannot come.
     fn act(&mut self, identifier: u8, right: bool, content: &[u8]) -> Answer
         requires some { 1 ≤ length content.now }
         requires high { length content.now ≤ 65535 }
@@ -135,11 +136,7 @@ impl Memory<'_> {
         requires { length self.now.templates.now / page_bytes ≤ most_pages }
         ensures { result ≡ sound_of (length self.now.templates.now / page_bytes) self.now.index.now settings }
     {
-        is_sound(
-            settings,
-            self.index,
-            self.templates.len() / numbers::PAGE,
-        )
+        is_sound(settings, self.index, self.templates.len() / numbers::PAGE)
     }
 
     /// A call of a reader whose notepad has `noted` bytes, document 01's with 512: its settings, the chip's scores and thresholds, a received run, and a reply

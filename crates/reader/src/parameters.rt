@@ -70,12 +70,11 @@ impl Parameter {
     }
 }
 
-// The status word. Here and below `as` widens or narrows what is proved to fit: `try_from` would bring an error that cannot come.
+// The status word.
 fn status(verified: bool, found: bool) -> u16
     ensures { result ≡ status_of verified found }
 {
-    numbers::VERIFIED_STATUS as u16 * u16::from(verified)
-        + numbers::FOUND_STATUS as u16 * u16::from(found)
+    numbers::VERIFIED_STATUS * u16::from(verified) + numbers::FOUND_STATUS * u16::from(found)
 }
 
 // The sixteen bytes of ReadSysPara.

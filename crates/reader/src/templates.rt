@@ -20,7 +20,7 @@ impl Sound<'_> {
     fn is_stored(&self, page: u16) -> bool
         ensures { result ≡ stored self.now.index.now page }
     {
-        index::has_bit(self.index, usize::from(page))
+        index::is_stored(self.index, usize::from(page))
     }
 
     // Copies a filled buffer to a page, which is stored then, and the buffer's origin.
@@ -33,7 +33,7 @@ impl Sound<'_> {
         let place = usize::from(page);
         *self.settings = buffers::hold(*self.settings, buffer, Some(page));
         index::set_bit(self.index, place);
-        // Of a field that is lent to be read, the proof keeps the length alone, but of `src` the bytes.
+        // `src` borrows the buffer through a name of its own: read straight from the field, its bytes would be lost to the proof, which keeps but their number.
         match buffer {
             Buffer::First => {
                 let src = &mut *self.buffer1;

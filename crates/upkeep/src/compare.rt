@@ -60,7 +60,7 @@ pub fn page_code(index1: &[u8], index2: &[u8], p: usize, a: &[u8], b: &[u8]) -> 
     ensures { result ≡ page_code (stored index1.now p) (stored index2.now p)
         (same a.now b.now) }
 {
-    let found = match (index::has_bit(index1, p), index::has_bit(index2, p)) {
+    let found = match (index::is_stored(index1, p), index::is_stored(index2, p)) {
         (true, true) => of_bytes(a, b),
         (true, false) => Difference::OnlyFirst,
         (false, true) => Difference::OnlySecond,

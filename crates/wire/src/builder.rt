@@ -53,8 +53,8 @@ pub fn packet_sum(identifier: u8, content: &[u8]) -> usize
     usize::from(sum_of(identifier, content.len() + 2, bytes::sum(content)))
 }
 
-// Lays the content behind the head and adds it up on the way. To copy it and then to add it up takes 23 instructions more for a byte of content, and
-// 25 fewer for 256.
+// Lays the content behind the head and adds it up on the way. To copy it and then to add it up takes 23 instructions more for a byte of content, as most replies
+// are short, and 25 fewer for 256.
 fn lay_content(room: &mut [u8], content: &[u8]) -> u16
     requires { head_bytes + length content.now ≤ length room.old }
     ensures sum { result ≡ total content.now % 65536 }
@@ -83,8 +83,8 @@ pub fn lay_packet(address: [u8; 4], identifier: u8, content: &[u8], room: &mut [
     end + 2
 }
 
-// Builds a packet at the front of the room, where identifier and content are a packet's and the room is long enough, in this order. The identifier is a number,
-// since C may hand over any.
+// Builds a packet at the front of the room: `BadContent` where no packet has this identifier and content, then `BadRoom`. The identifier is a number, since C
+// may hand over any.
 pub fn build(
     address: [u8; 4],
     identifier: u8,

@@ -1,9 +1,11 @@
--- The byte shifted down by the place has the page's bit lowest, and the mask leaves that bit alone.
-use Rattle.std.proofs.Common.{ℕ, eqb, ap}
+-- Where the index has no byte for the page, the page is not stored.
+use Rattle.std.proofs.Common.{◌≡◌, ℕ, ◌/◌, ◌≤◌, ltb, List, length, le-ltb}
 use Rattle.protocol.specs.Index.{stored}
-use Rattle.protocol.proofs.Laws.Bits.{shift_bit}
+use Rattle.library.proofs.Bits.{not_stored}
 use Rattle.library.proofs.index.is_stored.Goals as goal
 
-pub returns : goal.returns
-unfolding stored
-returns c = ap (λ (v : ℕ). eqb v 1) (shift_bit _ _)
+past : (x : List ℕ) (p : ℕ) → length x ≤ p / 8 → ltb (p / 8) (length x) ≡ stored x p
+past x p h = rw (le-ltb _ _ h) (not_stored x p h)
+
+pub returns-else-p-index : goal.returns-else-p-index
+returns-else-p-index c = search past

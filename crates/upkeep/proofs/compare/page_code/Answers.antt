@@ -8,7 +8,7 @@ use Rattle.upkeep.proofs.compare.page_code.Goals.{in-true-true, in-true-false, i
 pub returns : goal.returns
 unfolding page_code
 returns c =
-    elim c.if-has_bit.branch [
+    elim c.if-is_stored.branch [
       | in-true-true w ↦ search (both_there, w.in-true-true.ensures, w.in-true-true.ensures')
       | in-true-false w ↦ search rules
       | in-false-true w ↦ search rules
