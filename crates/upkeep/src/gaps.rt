@@ -74,7 +74,7 @@ fn close_library(templates: &mut [u8], index: &mut [u8], table: &mut [u16])
 fn followed(table: &[u16], origin: u16) -> u16
     ensures { result ≡ followed_in table.now origin }
 {
-    table.get(usize::from(origin)).copied().unwrap_or(origin)
+    table.get(origin as usize).copied().unwrap_or(origin)
 }
 
 // The gaps of a reader closed: its settings, templates and index, and a table of as many numbers as it has pages. The settings come back as they are after it.
