@@ -10,7 +10,7 @@ ghost use Rattle.protocol.specs.Call.{shaped, call_of, switch_of};
 ghost use Rattle.protocol.specs.Records.{reader_of, after_of, lengths_of, left_of, switched_of, switched_at};
 ghost use Rattle.rules.specs.Settings.{sound_of};
 ghost use Rattle.reader.specs.Memory.{Kept, reader_at, reader_in, chip_at, said_of};
-ghost use Rattle.reader.specs.Calls.{Lies, memory_fits, lent_at, ended_at, heard_at, carried_of};
+ghost use Rattle.reader.specs.Calls.{Lies, lengths_fit, memory_fits, lent_at, ended_at, heard_at, carried_of};
 
 use crate::answers::Answer;
 use crate::memory::{Chip, Memory, Sound};
@@ -114,21 +114,46 @@ pub fn is_sound_of(settings: Settings, index: &[u8], pages: usize) -> bool
     is_sound(settings, index, pages)
 }
 
+/// Whether the lent lengths are right, the reply room's apart (refusal 1), where the notepad is to have `noted` bytes.
+#[tactic(auto, using(wire::proofs::Picks::picks), unfolding(crate::specs::Calls::lengths_fit, protocol::specs::Tests::within))]
+pub fn is_fit(
+    noted: usize,
+    templates: usize,
+    index: usize,
+    notepad: usize,
+    buffer1: usize,
+    buffer2: usize,
+    scores: usize,
+    thresholds: usize,
+) -> bool
+    ensures { result ≡ lengths_fit noted templates index notepad buffer1 buffer2 scores thresholds }
+{
+    let pages = templates / numbers::PAGE;
+    templates == numbers::PAGE * pages
+        && (1..=numbers::MOST_PAGES).contains(&pages)
+        && index == numbers::INDEX
+        && notepad == noted
+        && buffer1 == numbers::PAGE
+        && buffer2 == numbers::PAGE
+        && scores == pages
+        && thresholds == numbers::LEVELS
+}
+
 impl Memory<'_> {
-    /// Whether the lent lengths are right, the reply room's apart (refusal 1), where the notepad is to have `noted` bytes.
-    #[tactic(auto, using(wire::proofs::Picks::picks), unfolding(crate::specs::Calls::lengths_fit, protocol::specs::Tests::within))]
+    /// The same of the memory and the chip.
     pub fn has_fit_lengths(&self, noted: usize, chip: Chip<'_>) -> bool
         ensures { result ≡ memory_fits noted self.now chip.entry }
     {
-        let pages = self.templates.len() / numbers::PAGE;
-        self.templates.len() == numbers::PAGE * pages
-            && (1..=numbers::MOST_PAGES).contains(&pages)
-            && self.index.len() == numbers::INDEX
-            && self.notepad.len() == noted
-            && self.buffer1.len() == numbers::PAGE
-            && self.buffer2.len() == numbers::PAGE
-            && chip.scores.len() == pages
-            && chip.thresholds.len() == numbers::LEVELS
+        is_fit(
+            noted,
+            self.templates.len(),
+            self.index.len(),
+            self.notepad.len(),
+            self.buffer1.len(),
+            self.buffer2.len(),
+            chip.scores.len(),
+            chip.thresholds.len(),
+        )
     }
 
     // Whether settings, transfer, index bits and origins are legal with it.

@@ -1,6 +1,5 @@
 // What comes before a command's row: the length that each code fixes, and the lock.
 ghost use Rattle.std.specs.Prelude.{◌≡◌};
-ghost use Rattle.protocol.specs.Codes.{command_number};
 ghost use Rattle.protocol.specs.Records.{plain_of};
 ghost use Rattle.rules.specs.Commands.{Fixes, is_free, Gated};
 
@@ -46,15 +45,14 @@ pub fn required(code: u8) -> Option<(CommandCode, usize)>
     }
 }
 
-// Whether a locked reader carries the command out too.
+/// Whether a locked reader carries the command of a code out too.
 #[tactic(auto, unfolding(crate::specs::Commands::is_free))]
-fn is_free(command: CommandCode) -> bool
-    ensures { result ≡ is_free (command_number command) }
+pub fn is_free(code: u8) -> bool
+    ensures { result ≡ is_free code }
 {
-    matches!(
-        command,
-        CommandCode::ReadSysPara | CommandCode::VfyPwd | CommandCode::HandShake
-    )
+    code == CommandCode::ReadSysPara as u8
+        || code == CommandCode::VfyPwd as u8
+        || code == CommandCode::HandShake as u8
 }
 
 /// What comes before the row: the command of a code with length field n, or the code that stops it.
@@ -70,7 +68,7 @@ pub fn gate(right: bool, code: u8, n: usize, settings: Settings) -> Result<Comma
     if need != n {
         return Err(Code::BadPacket);
     }
-    if is_free(command) {
+    if is_free(code) {
         return Ok(command);
     }
     if settings::is_locked(settings) {

@@ -4,7 +4,7 @@ ghost use Rattle.protocol.specs.Numbers.{highest_size};
 ghost use Rattle.protocol.specs.Reader.{locked};
 ghost use Rattle.protocol.specs.Call.{fit_plain, fit_transfer};
 ghost use Rattle.protocol.specs.Records.{fit_marks, is_set, marks_of, plain_of, transfer_of, reader_of, fresh_of};
-ghost use Rattle.rules.specs.Settings.{with_mark, with_password, with_address, with_transfer, with_found, with_switch, shown_of, SizeOf, legal_of};
+ghost use Rattle.rules.specs.Settings.{with_mark, with_password, with_address, with_tuning, with_transfer, with_filled, with_origins, with_found, with_switch, shown_of, SizeOf, legal_of};
 
 use protocol::{Settings, numbers};
 use wire::bytes;
@@ -56,6 +56,37 @@ pub fn with_address(s: Settings, a: [u8; 4]) -> Settings
     Settings { address: a, ..s }
 }
 
+pub fn tuned(s: Settings, baud: u8, level: u8, size: u8) -> Settings
+    ensures { result ≡ with_tuning baud level size s }
+{
+    Settings {
+        baud,
+        level,
+        size,
+        ..s
+    }
+}
+
+pub fn filled(s: Settings, one: u8, two: u8) -> Settings
+    ensures { result ≡ with_filled one two s }
+{
+    Settings {
+        filled1: one,
+        filled2: two,
+        ..s
+    }
+}
+
+pub fn linked(s: Settings, one: u16, two: u16) -> Settings
+    ensures { result ≡ with_origins one two s }
+{
+    Settings {
+        origin1: one,
+        origin2: two,
+        ..s
+    }
+}
+
 pub fn moved(s: Settings, transfer: u8, got: u16) -> Settings
     ensures { result ≡ with_transfer transfer got s }
 {
@@ -87,10 +118,17 @@ pub fn switched(s: Settings) -> Settings
 }
 
 // Whether the filled mark of a buffer is set.
-fn filled_of(n: u8, one: u8, two: u8) -> bool
+pub fn filled_of(n: u8, one: u8, two: u8) -> bool
     ensures { result ≡ cond (eqb n 2) (is_set two) (is_set one) }
 {
     if n == 2 { two == 1 } else { one == 1 }
+}
+
+/// The origin of a buffer.
+pub fn origin_of(n: u8, one: u16, two: u16) -> u16
+    ensures { result ≡ cond (eqb n 2) two one }
+{
+    if n == 2 { two } else { one }
 }
 
 /// Whether the password is not zero and the verified mark clear.

@@ -60,18 +60,18 @@ module _ (right : Bool) (k n : ℕ) (p : Plain) where
       bad_length_lem l = stops BadPacket (λ z. omega arith) (rw (f, sized c k e.0, ← e.1, ne_eqb _ _ l) refl)
 
       module _ (l : m ≡ n) where
-        goes_free : is_free (command_number c) ≡ true → Gated right k n p (Ok c)
+        goes_free : is_free k ≡ true → Gated right k n p (Ok c)
         unfolding gate_of
-        goes_free u = (e.0, rw (f, sized c k e.0, ← e.1, eq-eqb _ _ l, ← e.0, u) refl)
+        goes_free u = (e.0, rw (f, sized c k e.0, ← e.1, eq-eqb _ _ l, u) refl)
 
-        module _ (u : is_free (command_number c) ≡ false) where
+        module _ (u : is_free k ≡ false) where
           stays : locked p ≡ true → Gated right k n p (Err PasswordFirst)
           unfolding gate_of
-          stays w = stops PasswordFirst (λ z. omega arith) (rw (f, sized c k e.0, ← e.1, eq-eqb _ _ l, ← e.0, u, w) refl)
+          stays w = stops PasswordFirst (λ z. omega arith) (rw (f, sized c k e.0, ← e.1, eq-eqb _ _ l, u, w) refl)
 
           goes : locked p ≡ false → Gated right k n p (Ok c)
           unfolding gate_of
-          goes w = (e.0, rw (f, sized c k e.0, ← e.1, eq-eqb _ _ l, ← e.0, u, w) refl)
+          goes w = (e.0, rw (f, sized c k e.0, ← e.1, eq-eqb _ _ l, u, w) refl)
 
 pub returns-then-not-right : goal.returns-then-not-right
 returns-then-not-right c = search bad_sum
