@@ -1,6 +1,6 @@
 -- What is written into the reply room: an acknowledge, data packets of one size, and the two behind one another.
 use mathlib.Core.Path.{◌≡◌, refl, sym, ap, ◌∙◌}
-use mathlib.Core.Bool.{cond}
+use mathlib.Core.Bool.{true, cond}
 use mathlib.Core.List.{List, ◌∷◌, ◌++◌}
 use Prim.Native.Nat.{ℕ, zero, suc, ◌+◌, ◌-◌, ◌*◌, ◌/◌, ◌≤◌, ◌<◌}
 use native.Mathlib.Nat.{suc-mul}
@@ -14,22 +14,37 @@ use borrow.Rule.Slice.PartMut.{put_mid}
 use Rattle.protocol.specs.Reader.{size_of}
 use Rattle.protocol.specs.Numbers.{page_bytes, highest_size, frame_bytes, acknowledge_packet, data_packet, last_packet}
 use Rattle.protocol.specs.Bytes.{lay, follow, joined}
-use Rattle.protocol.specs.Packet.{packet}
+use Rattle.protocol.specs.Packet.{length_of, packet, is_identifier, limit, accepts}
 use Rattle.protocol.specs.Data.{acknowledge, packets, data_packets}
-use Rattle.protocol.proofs.Laws.Logic.{eqb_same}
+use Rattle.protocol.proofs.Laws.Logic.{eqb_same, T→true}
 use Rattle.protocol.proofs.Laws.Lists.{follow_append, length_lay, lay_lay, lay_whole, lay_nothing}
-use Rattle.protocol.proofs.Laws.Finder.{length_packet}
+use Rattle.protocol.proofs.Laws.Finder.{length_packet, accepts_of}
 use Rattle.rules.specs.Settings.{SizeOf}
 use Rattle.rules.proofs.Sizes.{size_legal}
 use Rattle.protocol.proofs.Laws.Sizes.{Size, sizes, length_packets, length_data}
 use Rattle.library.proofs.Parts.{part_laid}
-use Rattle.reader.specs.Answers.{upload_bytes}
+use Rattle.reader.specs.Answers.{listed_bytes, upload_bytes}
 
 -- ---- an acknowledge
 
 -- its content: the code and the bytes, at the front of a longer room
 pub content_front : (n k q : ℕ) (b x p : List ℕ) → length b ≡ n → x ≡ b → q ≡ k → take (n + 1) (q ∷ (x ++ p)) ≡ k ∷ b
 content_front n k q b x p h e f = rw (e, f, add-one, ← h) (ap (λ (y : List ℕ). k ∷ y) (take-append_seam b p))
+
+-- ---- a packet that the builder accepts
+
+-- an acknowledge: a code, and listed bytes behind it
+pub acknowledge_accepted : (c : List ℕ) → 1 ≤ length c → length c ≤ 1 + listed_bytes → accepts acknowledge_packet (length_of c) ≡ true
+unfolding is_identifier limit
+acknowledge_accepted c l h = T→true (accepts acknowledge_packet (length_of c)) (accepts_of acknowledge_packet (length_of c) tt (omega arith) (omega arith))
+
+-- a data packet of a size
+module _ {code z : ℕ} (e : SizeOf code z) (h : code ≤ highest_size) (c : List ℕ) (l : length c ≡ z) where
+  pub data_accepted : (i : ℕ) → i ≡ data_packet → accepts i (length_of c) ≡ true
+  data_accepted i f = rw (f, l, size_legal code z e h) (T→true _ ((sizes code h).carries))
+
+  pub last_accepted : (i : ℕ) → i ≡ last_packet → accepts i (length_of c) ≡ true
+  last_accepted i f = rw (f, l, size_legal code z e h) (T→true _ ((sizes code h).ends))
 
 pub acknowledge_long : (a : List ℕ) (k : ℕ) (b : List ℕ) → length a ≡ 4 → length (acknowledge a k b) ≡ length (k ∷ b) + frame_bytes
 unfolding acknowledge

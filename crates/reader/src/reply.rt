@@ -1,8 +1,9 @@
 // What an answer writes into the reply room: the acknowledge, and a buffer's bytes in data packets of one size.
-ghost use Rattle.std.specs.Prelude.{◌≡◌, [], ◌+◌, ◌≤◌, length};
-ghost use Rattle.protocol.specs.Numbers.{page_bytes, reply_room, highest_size, done};
+ghost use Rattle.std.specs.Prelude.{◌≡◌, true, [], ◌+◌, ◌≤◌, length};
+ghost use Rattle.protocol.specs.Numbers.{page_bytes, frame_bytes, reply_room, highest_size, done};
 ghost use Rattle.protocol.specs.Bytes.{lay, follow};
 ghost use Rattle.protocol.specs.Codes.{code_number};
+ghost use Rattle.protocol.specs.Packet.{length_of, packet, accepts};
 ghost use Rattle.protocol.specs.Reader.{size_of};
 ghost use Rattle.protocol.specs.Data.{acknowledge, data_packets};
 ghost use Rattle.reader.specs.Answers.{spoken_of, listed_bytes, upload_bytes};
@@ -16,6 +17,16 @@ use protocol::identifiers::Identifier;
 use protocol::{Settings, numbers};
 use rules::settings;
 use wire::builder;
+
+// Writes a packet that the builder accepts at the front of a room that it fits, and returns its length.
+fn put_packet(address: [u8; 4], identifier: u8, content: &[u8], room: &mut [u8]) -> usize
+    requires accepted { accepts identifier (length_of content.now) ≡ true }
+    requires room { length content.now + frame_bytes ≤ length room.old }
+    ensures len { result ≡ length content.now + frame_bytes }
+    ensures laid { room.new ≡ lay 0 (packet address identifier content.now) room.old }
+{
+    builder::build(address, identifier, content, room).unwrap_or(0)
+}
 
 // Writes an acknowledge at the front of the reply room, and returns its length. The number of its bytes is fixed for each kind of answer, which makes
 // the short ones quick.
@@ -33,7 +44,7 @@ fn put_acknowledge<const N: usize>(
     let mut content = [0; numbers::NOTE + 1];
     content[0] = u8::from(code);
     content[1..N + 1].copy_from_slice(&bytes);
-    builder::lay_packet(
+    put_packet(
         address,
         Identifier::Acknowledge as u8,
         &content[..N + 1],
@@ -60,7 +71,7 @@ fn put_data(settings: Settings, bytes: &[u8], at: usize, reply: &mut [u8]) -> us
         } else {
             Identifier::Data as u8
         };
-        builder::lay_packet(settings.address, identifier, content, &mut reply[to..next]);
+        put_packet(settings.address, identifier, content, &mut reply[to..next]);
         to = next;
     }
     end
@@ -72,7 +83,8 @@ fn put_upload(settings: Settings, bytes: &[u8], reply: &mut [u8]) -> usize
     requires page { length bytes.now ≡ page_bytes }
     requires room { reply_room ≤ length reply.old }
     ensures length { result ≡ length (follow (acknowledge settings.address done []) (data_packets settings.address (size_of settings.size) bytes.now)) }
-    ensures written { reply.new ≡ lay 0 (follow (acknowledge settings.address done []) (data_packets settings.address (size_of settings.size) bytes.now)) reply.old }
+    ensures written { reply.new ≡ lay 0
+        (follow (acknowledge settings.address done []) (data_packets settings.address (size_of settings.size) bytes.now)) reply.old }
 {
     let at = put_acknowledge(settings.address, Code::Done, [], reply);
     put_data(settings, bytes, at, reply)

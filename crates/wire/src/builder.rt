@@ -70,7 +70,7 @@ fn lay_content(room: &mut [u8], content: &[u8]) -> u16
 
 // A packet at the front of the room, and its length.
 #[tactic(auto, using(crate::proofs::Packets::pieces))]
-pub fn lay_packet(address: [u8; 4], identifier: u8, content: &[u8], room: &mut [u8]) -> usize
+fn lay_packet(address: [u8; 4], identifier: u8, content: &[u8], room: &mut [u8]) -> usize
     requires { length content.now + frame_bytes ≤ length room.old }
     ensures len { result ≡ length content.now + frame_bytes }
     ensures laid { room.new ≡ lay 0 (packet address identifier content.now) room.old }

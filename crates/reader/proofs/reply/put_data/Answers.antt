@@ -4,7 +4,7 @@ use lib.ListN.{length}
 use borrow.Author.Rules.{rules}
 use Rattle.protocol.specs.Numbers.{four_bytes}
 use Rattle.rules.proofs.Sizes.{size_legal}
-use Rattle.reader.proofs.Replies.{is_last, is_not_last, code_size, sending, sent, next_in, again, data_long}
+use Rattle.reader.proofs.Replies.{is_last, is_not_last, data_accepted, last_accepted, code_size, sending, sent, next_in, again, data_long}
 use Rattle.reader.proofs.reply.put_data.Goals as goal
 use Rattle.reader.proofs.reply.put_data.Goals.{then-next-end, else-next-end}
 
@@ -21,8 +21,8 @@ overflow_add-next c =
     let n = next_in i.2 _ _ x.1.0 (x.1.1 ∙ i.1) in
     search rules
 
-pub slice_bounds-lay_packet-end : goal.slice_bounds-lay_packet-end
-slice_bounds-lay_packet-end c =
+pub slice_bounds-put_packet-end : goal.slice_bounds-put_packet-end
+slice_bounds-put_packet-end c =
     let i = c.loop-content.invariant in
     let x = c.in-Some.ensures.steps in
     next_in i.2 _ _ x.1.0 (x.1.1 ∙ i.1)
@@ -32,7 +32,7 @@ loop-content-preserved c =
     let a : length c.args.settings.address ≡ four_bytes = search (rules, c.well_formed) in
     let i = c.loop-content.invariant in
     let x = c.in-Some.ensures.steps in
-    (rw (x.0) i.0, x.0 ∙ i.1, again i.2 _ _ x.1.0 (x.1.1 ∙ i.1) _ _ (elim c.if-next-end.branch [ then-next-end w ↦ search is_last | else-next-end w ↦ search is_not_last ]) a c.lay_packet.ensures.laid)
+    (rw (x.0) i.0, x.0 ∙ i.1, again i.2 _ _ x.1.0 (x.1.1 ∙ i.1) _ _ (elim c.if-next-end.branch [ then-next-end w ↦ search is_last | else-next-end w ↦ search is_not_last ]) a c.put_packet.ensures.laid)
 
 pub returns-clause-end : goal.returns-clause-end
 returns-clause-end c =
@@ -44,3 +44,10 @@ pub returns-clause-written : goal.returns-clause-written
 returns-clause-written c =
     let i = c.loop-content.invariant in
     rw (← size_legal _ _ c.size_of-size.ensures c.requires.legal) (sent i.2 (rw (i.1) at c.in-None.ensures.steps.1.0))
+
+pub put_packet-requires-clause-accepted : goal.put_packet-requires-clause-accepted
+put_packet-requires-clause-accepted c =
+    let i = c.loop-content.invariant in
+    let x = c.in-Some.ensures.steps in
+    let l = x.1.1 ∙ i.1 in
+    elim c.if-next-end.branch [ then-next-end w ↦ last_accepted c.size_of-size.ensures c.requires.legal _ l _ (w.identifier-is) | else-next-end w ↦ data_accepted c.size_of-size.ensures c.requires.legal _ l _ (w.identifier-is) ]
