@@ -25,12 +25,6 @@ use Rattle.protocol.proofs.Laws.Sizes.{Size, sizes, length_packets, length_data}
 use Rattle.library.proofs.Parts.{part_laid}
 use Rattle.reader.specs.Answers.{listed_bytes, upload_bytes}
 
--- ---- an acknowledge
-
--- its content: the code and the bytes, at the front of a longer room
-pub content_front : (n k q : ℕ) (b x p : List ℕ) → length b ≡ n → x ≡ b → q ≡ k → take (n + 1) (q ∷ (x ++ p)) ≡ k ∷ b
-content_front n k q b x p h e f = rw (e, f, add-one, ← h) (ap (λ (y : List ℕ). k ∷ y) (take-append_seam b p))
-
 -- ---- a packet that the builder accepts
 
 -- an acknowledge: a code, and listed bytes behind it
@@ -45,6 +39,12 @@ module _ {code z : ℕ} (e : SizeOf code z) (h : code ≤ highest_size) (c : Lis
 
   pub last_accepted : (i : ℕ) → i ≡ last_packet → accepts i (length_of c) ≡ true
   last_accepted i f = rw (f, l, size_legal code z e h) (T→true _ ((sizes code h).ends))
+
+-- ---- an acknowledge
+
+-- its content: the code and the bytes, at the front of a longer room
+pub content_front : (n k q : ℕ) (b x p : List ℕ) → length b ≡ n → x ≡ b → q ≡ k → take (n + 1) (q ∷ (x ++ p)) ≡ k ∷ b
+content_front n k q b x p h e f = rw (e, f, add-one, ← h) (ap (λ (y : List ℕ). k ∷ y) (take-append_seam b p))
 
 pub acknowledge_long : (a : List ℕ) (k : ℕ) (b : List ℕ) → length a ≡ 4 → length (acknowledge a k b) ≡ length (k ∷ b) + frame_bytes
 unfolding acknowledge

@@ -1,12 +1,15 @@
--- A packet laid piece by piece: head, content, sum.
-use Rattle.std.proofs.Common.{◌≡◌, ℕ, ◌+◌, ◌/◌, ◌%◌, ◌≤◌, List, [], ◌∷◌, ◌++◌, length, get_or, drop, refl, ap, ◌∙◌, append_assoc, arith, length-append, w16}
+-- A packet laid piece by piece: head, content, sum; and the builder's outcome.
+use Rattle.std.proofs.Common.{◌≡◌, ℕ, ◌+◌, ◌/◌, ◌%◌, ◌≤◌, List, [], ◌∷◌, ◌++◌, length, get_or, drop, refl, ap, ◌∙◌, append_assoc, arith, length-append, w16, Result, Ok, Err}
 use borrow.Rule.Slice.PartMut.{put_mid}
 use Rattle.std.specs.Int.{to_be_bytes}
+use Rattle.std.specs.Result.{result_unwrap_or}
 use lib.Seq.{drop-drop}
 use native.Mathlib.Nat.{add-mod-mod}
+use Rattle.protocol.specs.declared.refusals.Refusal.{Refusal}
 use Rattle.protocol.specs.Numbers.{first_mark, second_mark, head_bytes, frame_bytes, four_bytes}
 use Rattle.protocol.specs.Bytes.{two, total, lay}
 use Rattle.protocol.specs.Packet.{length_of, sum_of, packet}
+use Rattle.protocol.specs.Records.{built_of}
 use Rattle.protocol.proofs.Laws.Lists.{by_four, lay_lay}
 use Rattle.wire.specs.Laying.{head_of}
 
@@ -70,3 +73,9 @@ pieces a i c d x y z m t q e h f u g v s l =
     put_mid-lay (head_bytes + length c) m y z (two q) (s ∙ rw small at (word_two q)) l
     ∙ ap (lay (head_bytes + length c) (two q)) (g ∙ ap (lay head_bytes c) first)
     ∙ rw sum (packet_laid a i c d e h)
+
+-- ---- what is left of the builder's outcome where 0 stands for a refusal
+
+pub length_kept : (r : Result ℕ Refusal) → result_unwrap_or r 0 ≡ (built_of r).length
+length_kept (Ok n) = refl
+length_kept (Err e) = refl

@@ -1,5 +1,5 @@
 -- The builder refuses neither identifier, content nor room.
-use Rattle.std.proofs.Common.{◌≡◌, ℕ, ◌+◌, ◌≤◌, true, List, length, rules, refl, ap, ◌∙◌, Result, Ok, Err, le-leb}
+use Rattle.std.proofs.Common.{◌≡◌, ℕ, ◌+◌, ◌≤◌, true, List, length, rules, refl, ap, ◌∙◌, Result, le-leb}
 use Rattle.std.specs.Result.{result_unwrap_or}
 use Rattle.protocol.specs.declared.refusals.Refusal.{Refusal}
 use Rattle.protocol.specs.Numbers.{frame_bytes, four_bytes}
@@ -8,6 +8,7 @@ use Rattle.protocol.specs.Tests.{verdict}
 use Rattle.protocol.specs.Packet.{length_of, accepts, packet, Made, build_of, build_refusal, build_as}
 use Rattle.protocol.specs.Records.{built_of, made_of}
 use Rattle.protocol.proofs.Laws.Finder.{length_packet}
+use Rattle.wire.proofs.Packets.{length_kept}
 use Rattle.reader.proofs.reply.put_packet.Goals as goal
 
 module _ (a : List ℕ) (i : ℕ) (c room x : List ℕ) (r : Result ℕ Refusal) (t : accepts i (length_of c) ≡ true) (h : length c + frame_bytes ≤ length room)
@@ -20,11 +21,7 @@ module _ (a : List ℕ) (i : ℕ) (c room x : List ℕ) (r : Result ℕ Refusal)
   laid = ap (λ (m : Made). m.room) made
 
   long : length a ≡ four_bytes → (n : ℕ) → n ≡ result_unwrap_or r 0 → n ≡ length c + frame_bytes
-  long f n g = g ∙ kept r ∙ ap (λ (m : Made). m.length) made ∙ length_packet a i c f
-    where
-      kept : (q : Result ℕ Refusal) → result_unwrap_or q 0 ≡ (built_of q).length
-      kept (Ok n) = refl
-      kept (Err k) = refl
+  long f n g = g ∙ length_kept r ∙ ap (λ (m : Made). m.length) made ∙ length_packet a i c f
 
 pub returns-clause-len : goal.returns-clause-len
 returns-clause-len c = long _ _ _ _ _ _ c.requires.accepted c.requires.room c.build.ensures (search (rules, c.well_formed)) _ c.unwrap_or.ensures
