@@ -5,8 +5,11 @@ use mathlib.Core.Logic.{◌↔◌, ◌≢◌}
 use mathlib.Core.List.{List, [], ◌∷◌}
 use Prim.Native.Nat.{ℕ, suc}
 use lib.ListN.{get_or}
+use Rattle.std.specs.Prelude.{Result}
 use Rattle.protocol.specs.declared.Settings.{Settings}
-use Rattle.protocol.specs.Records.{reader_of}
+use Rattle.protocol.specs.declared.refusals.Refusal.{Refusal}
+use Rattle.protocol.specs.Codes.{outcome_number}
+use Rattle.protocol.specs.Records.{reader_of, left_of}
 use Rattle.protocol.specs.Reader.{Plain, Guarded, Reader, with_library}
 use Rattle.protocol.specs.Call.{Shape, core}
 use Rattle.protocol.specs.Dialogue.{Event, on, finally, dialogue, kept, Paired}
@@ -14,7 +17,7 @@ use Rattle.protocol.specs.Receiver.{Line}
 use Rattle.dialogues.specs.History.{Exchange, exchanges, Act, moved, history}
 use Rattle.dialogues.specs.Caller.{finally_on, seen}
 use Rattle.dialogues.specs.Doors.{Memory, Vault, LineVault, reader_at, Entry, last_of, events_of, told_of, Until, Steps, saw, Receives, saw_on}
-use Rattle.protocol.proofs.Promises.Words.OneResult.{one_reader}
+use Rattle.protocol.proofs.Promises.Words.OneResult.{one_reader, one_left}
 use Rattle.offline.specs.CloseGaps.{Closed, close_of}
 use Rattle.offline.specs.Salvage.{Salvaged, salvage_of, salvaged_in}
 use Rattle.offline.specs.Compare.{library, Compared}
@@ -43,6 +46,14 @@ pub one_closed : (m z : Moved) (t i table t' i' table' n b d : List ℕ) → clo
 one_closed m z t i table t' i' table' n b d e =
     let o = one_reader m.settings z.settings t i n b d t' i' n b d (ap (λ (c : Closed). c.after) e) in
     ((λ j. record { settings = o.settings j; refusal = (e j).refusal }, ap (λ (c : Closed). c.table) e), (o.templates, o.index))
+
+-- so of what the call by value gives
+pub one_closing : (s : Settings) (x y : Result Settings Refusal) (t i table t' i' table' n b d : List ℕ)
+    → closed_of (moved_at (left_of s x) (outcome_number x)) t i table n b d ≡ closed_of (moved_at (left_of s y) (outcome_number y)) t' i' table' n b d
+    → ((x ≡ y) × (table ≡ table')) × ((t ≡ t') × (i ≡ i'))
+one_closing s x y t i table t' i' table' n b d e =
+    let one = one_closed (moved_at (left_of s x) (outcome_number x)) (moved_at (left_of s y) (outcome_number y)) t i table t' i' table' n b d e in
+    ((one_left s x y (ap (λ (m : Moved). m.settings) one.0.0) (ap (λ (m : Moved). m.refusal) one.0.0), one.0.1), one.1)
 
 -- the same of salvage, which returns the refusal alone
 pub record SalvagedIs (refusal : ℕ) (t i report : List ℕ) : Type 0 where

@@ -1,4 +1,6 @@
 // The codes of the commands; specs/Commands.antt has their numbers in its table.
+ghost use Rattle.std.specs.Prelude.{◌≡◌};
+ghost use Rattle.protocol.specs.Codes.{command_number};
 
 #[derive(Clone, Copy, Debug, PartialEq, Eq)]
 pub enum CommandCode {
@@ -19,4 +21,12 @@ pub enum CommandCode {
     TempleteNum = 0x1D,
     ReadIndexTable = 0x1F,
     HandShake = 0x40,
+}
+
+impl From<CommandCode> for u8 {
+    ghost from_gives = { λ command number. number ≡ command_number command };
+
+    fn from(command: CommandCode) -> u8 {
+        command as u8
+    }
 }

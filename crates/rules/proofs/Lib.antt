@@ -2,3 +2,4 @@ pub mod Sizes
 pub mod Marks
 pub mod Transfers
 pub mod Gates
+pub mod OneResult

@@ -50,9 +50,9 @@ pub fn required(code: u8) -> Option<(CommandCode, usize)>
 pub fn is_free(code: u8) -> bool
     ensures { result ≡ is_free code }
 {
-    code == CommandCode::ReadSysPara as u8
-        || code == CommandCode::VfyPwd as u8
-        || code == CommandCode::HandShake as u8
+    code == u8::from(CommandCode::ReadSysPara)
+        || code == u8::from(CommandCode::VfyPwd)
+        || code == u8::from(CommandCode::HandShake)
 }
 
 /// What comes before the row: the command of a code with length field n, or the code that stops it.

@@ -6,8 +6,10 @@ use mathlib.Core.List.{List}
 use Prim.Native.Nat.{ℕ}
 use lib.Dec.{eqb}
 use borrow.Author.Tests.{eqb-true}
-use Rattle.std.specs.Prelude.{Result, Ok, Err}
+use Rattle.std.specs.Prelude.{Option, None, Some, Result, Ok, Err}
 use Rattle.protocol.specs.declared.Settings.{Settings}
+use Rattle.protocol.specs.declared.Line.{Line}
+use Rattle.protocol.specs.declared.Match as code
 use Rattle.protocol.specs.declared.Lengths.{Lengths}
 use Rattle.protocol.specs.declared.Answered.{Answered}
 use Rattle.protocol.specs.declared.Taken.{Taken}
@@ -18,9 +20,10 @@ use Rattle.protocol.specs.Numbers.{bad_length, bad_room, bad_setting, no_page}
 use Rattle.protocol.specs.Packet.{Made}
 use Rattle.protocol.specs.BringOver.{Brought}
 use Rattle.protocol.specs.Reader.{Marks, Transfer, closed, opened, unfit, Origin, no_origin, from_page, Reader}
+use Rattle.protocol.specs.Search.{Match, match_of}
 use Rattle.protocol.specs.Call.{Ended}
 use Rattle.protocol.specs.Receiver.{Handed}
-use Rattle.protocol.specs.Records.{fit_marks, is_set, mark_of, marks_of, transfer_of, origin_of, reader_of, answered_of, taken_of, Called, ended_of, Switched, switched_of, Received, received_of, Emptied, emptied_of, Built, built_of, made_of, brought_of}
+use Rattle.protocol.specs.Records.{fit_marks, is_set, mark_of, marks_of, transfer_of, origin_of, reader_of, answered_of, after_of, left_of, lengths_of, taken_of, Called, ended_of, called_at, Switched, switched_of, switched_at, Received, received_of, received_at, Emptied, emptied_of, emptied_at, Built, built_of, made_of, brought_of}
 use Rattle.protocol.proofs.Laws.Marks.{mark_is, fit_verified, fit_filled1, fit_filled2, fit_found, transfer_kinds}
 use Rattle.protocol.proofs.Promises.Words.Records.{reader_is}
 
@@ -228,3 +231,79 @@ bare_back (Err BadContent) = refl
 -- and one that has nothing beside its refusal
 pub one_number : (o p : Result Unit Refusal) → outcome_number o ≡ outcome_number p → o ≡ p
 one_number o p e = sym (bare_back o) ∙ ap (λ (k : ℕ). outcome_at k tt) e ∙ bare_back p
+
+-- ---- one that gives a record back is pinned by that record as it is after the call, and by the rest
+
+left_back : {T : Type 0} (x : T) (o : Result T Refusal) → outcome_at (outcome_number o) (left_of x o) ≡ o
+unfolding outcome_at refusal_at
+left_back x (Ok y) = refl
+left_back x (Err BadLength) = refl
+left_back x (Err BadRoom) = refl
+left_back x (Err BadSetting) = refl
+left_back x (Err BadContent) = refl
+
+pub one_left : {T : Type 0} (x : T) (o p : Result T Refusal) → left_of x o ≡ left_of x p → outcome_number o ≡ outcome_number p → o ≡ p
+one_left x o p e f = sym (left_back x o) ∙ (λ j. outcome_at (f j) (e j)) ∙ left_back x p
+
+beside : {T : Type 0} → T → Result Lengths Refusal → Result (T × Lengths) Refusal
+beside x (Ok n) = Ok (x, n)
+beside x (Err e) = Err e
+
+after_back : {T : Type 0} (x : T) (o : Result (T × Lengths) Refusal) → beside (after_of x o) (lengths_of o) ≡ o
+unfolding beside
+after_back x (Ok p) = refl
+after_back x (Err e) = refl
+
+pub one_after : {T : Type 0} (x : T) (o p : Result (T × Lengths) Refusal) → after_of x o ≡ after_of x p → lengths_of o ≡ lengths_of p → o ≡ p
+one_after x o p e f = sym (after_back x o) ∙ (λ j. beside (e j) (f j)) ∙ after_back x p
+
+-- so what the reader's call gives back, and leaves
+pub one_step : (s : Settings) (x y : Result (Settings × Lengths) Refusal) (t i n b c o t' i' n' b' c' o' : List ℕ)
+    → ended_of (called_at (after_of s x) (answered_of (lengths_of x))) t i n b c o ≡ ended_of (called_at (after_of s y) (answered_of (lengths_of y))) t' i' n' b' c' o'
+    → (x ≡ y) × (OneReader (after_of s x) (after_of s y) t i n b c t' i' n' b' c' × (o ≡ o'))
+one_step s x y t i n b c o t' i' n' b' c' o' e =
+    let u : Answered = answered_of (lengths_of x) in
+    let v : Answered = answered_of (lengths_of y) in
+    let one = one_call (called_at (after_of s x) u) (called_at (after_of s y) v) t i n b c o t' i' n' b' c' o' e in
+    let told : u ≡ v = ap (λ (z : Called). record { refusal = z.refusal; used = z.used; length = z.length }) one.0 in
+    (one_after s x y (ap (λ (z : Called). z.settings) one.0) (one_outcome (lengths_of x) (lengths_of y) told), one.1)
+
+-- its line switch
+pub one_switched : (s : Settings) (x y : Result Settings Refusal) (t i n b c t' i' n' b' c' : List ℕ)
+    → switched_of (switched_at (left_of s x) (outcome_number x)) t i n b c ≡ switched_of (switched_at (left_of s y) (outcome_number y)) t' i' n' b' c'
+    → (x ≡ y) × OneReader (left_of s x) (left_of s y) t i n b c t' i' n' b' c'
+one_switched s x y t i n b c t' i' n' b' c' e =
+    let one = one_switch (switched_at (left_of s x) (outcome_number x)) (switched_at (left_of s y) (outcome_number y)) t i n b c t' i' n' b' c' e in
+    (one_left s x y (ap (λ (z : Switched). z.settings) one.0) (ap (λ (z : Switched). z.refusal) one.0), one.1)
+
+-- the receiver's call
+pub one_handed : (l : Line) (x y : Result (Line × Lengths) Refusal) (t i n b c o t' i' n' b' c' o' : List ℕ)
+    → received_of (received_at (after_of l x) (taken_of (lengths_of x))) t i n b c o ≡ received_of (received_at (after_of l y) (taken_of (lengths_of y))) t' i' n' b' c' o'
+    → (x ≡ y) × (OneReader (after_of l x).settings (after_of l y).settings t i n b c t' i' n' b' c' × (o ≡ o'))
+one_handed l x y t i n b c o t' i' n' b' c' o' e =
+    let u : Taken = taken_of (lengths_of x) in
+    let v : Taken = taken_of (lengths_of y) in
+    let one = one_receive (received_at (after_of l x) u) (received_at (after_of l y) v) t i n b c o t' i' n' b' c' o' e in
+    let told : u ≡ v = ap (λ (z : Received). record { refusal = z.refusal; taken = z.taken; length = z.length }) one.0 in
+    (one_after l x y (ap (λ (z : Received). z.line) one.0) (one_taken (lengths_of x) (lengths_of y) told), one.1)
+
+-- and its line switch
+pub one_line : (l : Line) (x y : Result Line Refusal) (t i n b c t' i' n' b' c' : List ℕ)
+    → emptied_of (emptied_at (left_of l x) (outcome_number x)) t i n b c ≡ emptied_of (emptied_at (left_of l y) (outcome_number y)) t' i' n' b' c'
+    → (x ≡ y) × OneReader (left_of l x).settings (left_of l y).settings t i n b c t' i' n' b' c'
+one_line l x y t i n b c t' i' n' b' c' e =
+    let one = one_emptied (emptied_at (left_of l x) (outcome_number x)) (emptied_at (left_of l y) (outcome_number y)) t i n b c t' i' n' b' c' e in
+    (one_left l x y (ap (λ (z : Emptied). z.line) one.0) (ap (λ (z : Emptied). z.refusal) one.0), one.1)
+
+-- ---- what Search finds
+
+match_at : Match → Option code.Match
+match_at m = cond m.found (Some record { page = m.page; score = m.score }) None
+
+match_back : (m : Option code.Match) → match_at (match_of m) ≡ m
+unfolding match_at
+match_back (Some m) = refl
+match_back None = refl
+
+pub one_match : (m n : Option code.Match) → match_of m ≡ match_of n → m ≡ n
+one_match m n e = sym (match_back m) ∙ ap match_at e ∙ match_back n
