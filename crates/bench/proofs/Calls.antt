@@ -4,7 +4,8 @@ use Rattle.std.proofs.lemmas.Bool.{true≢false}
 use Rattle.std.proofs.Math.Decide.{dec_le}
 use Rattle.std.proofs.Math.Seq.{take-nil}
 use Rattle.std.specs.List.{concat}
-use Rattle.std.specs.Io.KnownBytes.{Appends}
+use Rattle.std.proofs.lemmas.List.Folds.{concat-append}
+use Rattle.std.specs.Io.KnownBytes.{Appends, Consumes}
 use Rattle.protocol.specs.declared.Settings.{Settings}
 use Rattle.protocol.specs.declared.Receiver.{Receiver}
 use Rattle.protocol.specs.Numbers.{reply_room, four_bytes, holds, longest}
@@ -14,14 +15,15 @@ use Rattle.protocol.specs.Reader.{capacity}
 use Rattle.protocol.specs.Search.{Chip}
 use Rattle.protocol.specs.Call.{core, Lent, fit_chip, fit_room, Typed, refused, reply_of}
 use Rattle.protocol.specs.Receiver.{bytes_in, Line, line, Handed, fitting, run_of, handed, receive_of}
-use Rattle.dialogues.specs.Caller.{Ran, replied, at_rest, drained}
+use Rattle.dialogues.specs.Caller.{Ran, replied, at_rest, drain, drained}
+use Rattle.dialogues.specs.Bench.{started}
 use Rattle.protocol.specs.Records.{Received, reader_of, chip_of, lent_of, received_of}
 use Rattle.protocol.proofs.Laws.Logic.{and_l, and_r}
 use Rattle.protocol.proofs.Laws.Finder.{used_in}
-use Rattle.protocol.proofs.Laws.Holding.{receive_kinds, receive_legal}
+use Rattle.protocol.proofs.Laws.Holding.{in_holding, receive_kinds, receive_legal}
 use Rattle.protocol.proofs.Promises.Refusals.LegalMeans.{core_holds}
 use Rattle.dialogues.proofs.Lines.Cuts.{offered, count_after, took_is, length_held, offers_nothing, answers_nothing, all_drained}
-use Rattle.dialogues.proofs.Laws.Drain.{drained_rest}
+use Rattle.dialogues.proofs.Laws.Drain.{drained_rest, gone_on, drained_joined}
 use Rattle.dialogues.proofs.Lines.ReceiverCalls.{line_fits}
 use Rattle.bench.specs.Offer.{no_scores, no_thresholds, is_last, Offered, Drained, replies}
 
@@ -198,3 +200,61 @@ module _ (x₀ : Line) (piece : List ℕ) (o₀ : Option (List ℕ)) (x : Line) 
     written v a =
         let all : k.sent ++ reply_of o.told ≡ replies x₀ piece = ap (λ (y : List ℕ). k.sent ++ y) (silent ∙ sym none_answered) ∙ sym k.still in
         subst (Appends o₀ v) all (appends_more o₀ w v k.sent (reply_of o.told) k.written a)
+
+-- ---- piece after piece, from the start
+
+consumes_none : (i : Option (List ℕ)) → Consumes i i []
+consumes_none None = tt
+consumes_none (Some s) = refl
+
+consumes_more : (a b c : Option (List ℕ)) (s t : List ℕ) → Consumes a b s → Consumes b c t → Consumes a c (s ++ t)
+consumes_more None b c s t e f = tt
+consumes_more (Some a) None c s t e f = elim e [ ]
+consumes_more (Some a) (Some b) None s t e f = elim f [ ]
+consumes_more (Some a) (Some b) (Some c) s t e f = e ∙ ap (λ (y : List ℕ). s ++ y) f ∙ sym (append_assoc s t c)
+
+-- what was taken and written so far, and the line, which is at rest on it
+pub record Talking (i j o p : Option (List ℕ)) (x : Line) : Type 0 where
+  pub taken : List ℕ
+  pub consumed : Consumes i j taken
+  pub written : Appends o p (replies started taken)
+  pub line : Drained started taken x
+
+at_start : drained χ started.reader (bytes_in started.receiver ++ []) ≡ at_rest started.reader []
+unfolding started drained drain
+at_start = ap (λ (s : List ℕ). drained χ started.reader (s ++ [])) (in_holding [])
+
+pub starts : (i o : Option (List ℕ)) (x : Line) → x ≡ started → Talking i i o o x
+unfolding started at_rest
+starts i o x e =
+    record {
+      taken = [];
+      consumed = consumes_none i;
+      written = subst (Appends o o) (sym (ap (λ (d : Ran). concat d.replies) at_start)) (appends_none o);
+      line = e ∙ sym (ap (λ (d : Ran). d.after) at_start);
+    }
+
+module _ (x₀ : Line) (s t : List ℕ) (x : Line) (d : Drained x₀ s x) where
+  abbrev first : Ran
+  first = drained χ x₀.reader (bytes_in x₀.receiver ++ s)
+
+  whole : drained χ x₀.reader (bytes_in x₀.receiver ++ (s ++ t)) ≡ gone_on χ t first
+  whole = ap (drained χ x₀.reader) (sym (append_assoc (bytes_in x₀.receiver) s t)) ∙ drained_joined χ x₀.reader (bytes_in x₀.receiver ++ s) t
+
+  drained_on : (y : Line) → Drained x t y → Drained x₀ (s ++ t) y
+  drained_on y e = e ∙ ap (λ (z : Line). (drained χ z.reader (bytes_in z.receiver ++ t)).after) d ∙ sym (ap (λ (r : Ran). r.after) whole)
+
+  replies_on : replies x₀ (s ++ t) ≡ replies x₀ s ++ replies x t
+  replies_on =
+      ap (λ (r : Ran). concat r.replies) whole
+      ∙ concat-append first.replies (drained χ first.after.reader (bytes_in first.after.receiver ++ t)).replies
+      ∙ ap (λ (z : Line). concat first.replies ++ replies z t) (sym d)
+
+pub talks_on : (i j k o p q : Option (List ℕ)) (x y : Line) (piece : List ℕ) → Talking i j o p x → Consumes j k piece → Drained x piece y → Appends p q (replies x piece) → Talking i k o q y
+talks_on i j k o p q x y piece a c d w =
+    record {
+      taken = a.taken ++ piece;
+      consumed = consumes_more i j k a.taken piece a.consumed c;
+      written = subst (Appends o q) (sym (replies_on started a.taken piece x a.line)) (appends_more o p q (replies started a.taken) (replies x piece) a.written w);
+      line = drained_on started a.taken piece x a.line y d;
+    }

@@ -1,3 +1,4 @@
 pub mod Bench
 pub mod Offer
 pub mod Start
+pub mod Talk

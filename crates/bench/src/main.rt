@@ -4,8 +4,9 @@
 mod bench;
 mod failure;
 
-ghost use Rattle.std.specs.Prelude.{◌≤◌, [], take, length, OnErr, IfOk};
+ghost use Rattle.std.specs.Prelude.{◌≤◌, [], take, length, OnOk, OnErr, IfOk};
 ghost use Rattle.std.specs.Io.KnownBytes.{Consumes};
+ghost use Rattle.bench.specs.Talk.{Talked};
 
 use bench::Bench;
 use failure::Failure;
@@ -25,9 +26,11 @@ fn read<R: Read>(input: &mut R, piece: &mut [u8]) -> io::Result<usize>
     input.read(piece)
 }
 
-// Reads and answers until the input ends. A proved loop has to end, and nothing says that an input does, so the turns are counted
-// up to a number that no run comes to.
-fn talk<R: Read, W: Write>(input: &mut R, output: &mut W) -> Result<(), Failure> {
+// Reads and answers until the input ends: what it has written then are the replies to all that it has taken. A proved loop has to end,
+// and nothing says that an input does, so the turns are counted up to a number that no run comes to.
+fn talk<R: Read, W: Write>(input: &mut R, output: &mut W) -> Result<(), Failure>
+    ensures { OnOk result (Talked (R.remaining input.old) (R.remaining input.new) (W.contents output.old) (W.contents output.new)) }
+{
     let mut bench = Bench::new();
     let mut piece = [0u8; PIECE];
     let mut reply = [0u8; numbers::REPLY_ROOM];
