@@ -23,7 +23,7 @@ impl Sound<'_> {
         index::is_stored(self.index, usize::from(page))
     }
 
-    // Copies a filled buffer to a page, which is stored then, and the buffer's origin.
+    // Copies a filled buffer to a page, which is stored then, and the buffer's origin. The page is written before its bit is set.
     fn store_buffer(&mut self, buffer: Buffer, page: u16)
         requires there { page < length self.old.templates.now / page_bytes }
         requires filled { filled_of (buffer_number buffer) self.old ≡ true }
@@ -32,16 +32,17 @@ impl Sound<'_> {
     {
         let place = usize::from(page);
         *self.settings = buffers::hold(*self.settings, buffer, Some(page));
-        index::set_bit(self.index, place);
         // `src` borrows the buffer through a name of its own: read straight from the field, its bytes would be lost to the proof, which keeps but their number.
         match buffer {
             Buffer::First => {
                 let src = &mut *self.buffer1;
                 pages::write_page(self.templates, place, src);
+                index::set_bit(self.index, place);
             }
             Buffer::Second => {
                 let src = &mut *self.buffer2;
                 pages::write_page(self.templates, place, src);
+                index::set_bit(self.index, place);
             }
         }
     }

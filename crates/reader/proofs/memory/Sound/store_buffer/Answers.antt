@@ -22,5 +22,5 @@ returns-in-Second-clause-stored c =
     let k = c.requires.there in
     let m = s.few in
     let o = rw c.from-place.ensures at (c.write_page-in-Second.ensures ∙ writes c.from-place.result s.buffer2.now s.templates.now (rw (c.from-place.ensures) k) s.second) in
-    rw (c.in-Second.is) (stored_reader (buffer_number Second) c.args.page s.settings.now c.hold-self.result s.templates.now s.index.now s.notepad.now s.buffer1.now s.buffer2.now c.write_page-in-Second.new.templates c.set_bit.new.index
-    (rw (c.in-Second.is) at c.hold-self.ensures) s.legal (omega arith) (rw (c.in-Second.is) at c.requires.filled) o (rw c.from-place.ensures at c.set_bit.ensures))
+    rw (c.in-Second.is) (stored_reader (buffer_number Second) c.args.page s.settings.now c.hold-self.result s.templates.now s.index.now s.notepad.now s.buffer1.now s.buffer2.now c.write_page-in-Second.new.templates c.set_bit-in-Second.new.index
+    (rw (c.in-Second.is) at c.hold-self.ensures) s.legal (omega arith) (rw (c.in-Second.is) at c.requires.filled) o (rw c.from-place.ensures at c.set_bit-in-Second.ensures))
