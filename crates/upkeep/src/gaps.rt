@@ -9,7 +9,7 @@ ghost use Rattle.offline.specs.Records.{closed_of, moved_at};
 ghost use Rattle.upkeep.specs.Gaps.{Shelved, Gathered, move_page, Tidied, followed_in};
 
 use crate::lent;
-use library::{index, pages};
+use library::pages;
 use protocol::refusals::Refusal;
 use protocol::{Settings, numbers};
 use reader::call;
@@ -26,8 +26,6 @@ fn move_page(templates: &mut [u8], from: usize, to: usize)
 }
 
 // One pass over the pages: each stored one goes to the next free place, and the table says where. It returns how many there are.
-// It stays a function of its own: built into the call it shares registers with the settings, and each page that moves takes 11 instructions more.
-#[inline(never)]
 fn gather(templates: &mut [u8], index: &[u8], table: &mut [u16]) -> usize
     requires { Shelved templates.old index.now table.old }
     ensures { Gathered templates.old index.now result templates.new table.new }
@@ -35,7 +33,7 @@ fn gather(templates: &mut [u8], index: &[u8], table: &mut [u16]) -> usize
     let mut next = 0;
     let end = templates.len() / numbers::PAGE;
     for p in 0..end {
-        if index::is_stored(index, p) {
+        if lent::is_stored(index, p) {
             table[p] = next as u16;
             if next < p {
                 move_page(templates, p, next);

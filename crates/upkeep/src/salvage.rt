@@ -56,7 +56,7 @@ fn salvage_page(templates: &mut [u8], index: &[u8], report: &mut [u8], p: usize)
     if index[p / 8] == ALL_STORED {
         return 8 * (p / 8) + 8;
     }
-    if index::is_stored(index, p) || is_blank(templates, p) {
+    if lent::is_stored(index, p) || is_blank(templates, p) {
         return p + 1;
     }
     pages::zero_page(templates, p);
@@ -84,7 +84,7 @@ fn report_bits(index: &[u8], report: &mut [u8], c: usize)
     ensures { BitsReported c index.now report.old report.new }
 {
     for q in c..report.len() {
-        let entry = if index::is_stored(index, q) {
+        let entry = if lent::is_stored(index, q) {
             Entry::BitCleared
         } else {
             Entry::Unchanged
