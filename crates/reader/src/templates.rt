@@ -33,6 +33,7 @@ impl Sound<'_> {
         let place = usize::from(page);
         *self.settings = buffers::hold(*self.settings, buffer, Some(page));
         // `src` borrows the buffer through a name of its own: read straight from the field, its bytes would be lost to the proof, which keeps but their number.
+        // Each arm sets the bit: behind the `match` the proof no longer tells the two apart.
         match buffer {
             Buffer::First => {
                 let src = &mut *self.buffer1;

@@ -7,6 +7,9 @@ use Prim.Native.Nat.{ℕ}
 use native.Mathlib.Omega.{arith}
 use lib.Dec.{eqb}
 use borrow.Author.Tests.{eqb-true, eq-eqb}
+use Rattle.protocol.specs.declared.command_codes.CommandCode.{CommandCode}
+use Rattle.protocol.specs.declared.command_codes.CommandCode.TheVariants.{Search, Store, LoadChar, UpChar, DownChar, DeletChar, Empty, SetSysPara, ReadSysPara, SetPwd, VfyPwd, SetAdder, WriteNotepad, ReadNotepad, TempleteNum, ReadIndexTable, HandShake}
+use Rattle.protocol.specs.Codes.{command_number}
 use Rattle.protocol.specs.Numbers.{bad_packet, unknown_command, password_first}
 use Rattle.protocol.specs.Bytes.{byte_at}
 use Rattle.protocol.specs.Packet.{length_of}
@@ -24,6 +27,30 @@ Long e = eqb e.len 0 ≡ false
 long : Each Long commands
 unfolding commands
 long = (refl, (refl, (refl, (refl, (refl, (refl, (refl, (refl, (refl, (refl, (refl, (refl, (refl, (refl, (refl, (refl, (refl, tt)))))))))))))))))
+
+-- each command has a row, whose length is not 0
+has_length : (c : CommandCode) → eqb (len_of (row_of commands (command_number c))) 0 ≡ false
+unfolding len_of row_of commands
+has_length Search = refl
+has_length Store = refl
+has_length LoadChar = refl
+has_length UpChar = refl
+has_length DownChar = refl
+has_length DeletChar = refl
+has_length Empty = refl
+has_length SetSysPara = refl
+has_length ReadSysPara = refl
+has_length SetPwd = refl
+has_length VfyPwd = refl
+has_length SetAdder = refl
+has_length WriteNotepad = refl
+has_length ReadNotepad = refl
+has_length TempleteNum = refl
+has_length ReadIndexTable = refl
+has_length HandShake = refl
+
+pub sized : (c : CommandCode) (k : ℕ) → command_number c ≡ k → eqb (len_of (row_of commands k)) 0 ≡ false
+sized c k e = rw (← e) (has_length c)
 
 -- a code that is not free is none of the three
 not_free : (k : ℕ) → is_free k ≡ false → (k ≢ 0x0f) × ((k ≢ 0x13) × (k ≢ 0x40))

@@ -3,42 +3,17 @@ use mathlib.Core.Path.{◌≡◌, refl, sym, ◌∙◌}
 use mathlib.Core.Bool.{Bool, true, false}
 use Prim.Native.Nat.{ℕ}
 use native.Mathlib.Omega.{arith}
-use lib.Dec.{eqb}
 use borrow.Author.Tests.{eq-eqb, ne_eqb}
 use Rattle.std.specs.Prelude.{Ok, Err}
 use Rattle.protocol.specs.declared.codes.Code.{Code}
 use Rattle.protocol.specs.declared.codes.Code.TheVariants.{BadPacket, UnknownCommand, PasswordFirst}
 use Rattle.protocol.specs.declared.command_codes.CommandCode.{CommandCode}
-use Rattle.protocol.specs.declared.command_codes.CommandCode.TheVariants.{Search, Store, LoadChar, UpChar, DownChar, DeletChar, Empty, SetSysPara, ReadSysPara, SetPwd, VfyPwd, SetAdder, WriteNotepad, ReadNotepad, TempleteNum, ReadIndexTable, HandShake}
 use Rattle.protocol.specs.Codes.{code_number, command_number}
 use Rattle.protocol.specs.Reader.{Plain, locked}
 use Rattle.protocol.specs.Commands.{none, commands, row_of}
 use Rattle.rules.specs.Commands.{len_of, is_free, gate_of, Gated}
+use Rattle.rules.proofs.Gates.{sized}
 use Rattle.rules.proofs.commands.gate.Goals as goal
-
--- no command's length is 0
-long : (c : CommandCode) → eqb (len_of (row_of commands (command_number c))) 0 ≡ false
-unfolding len_of row_of commands
-long Search = refl
-long Store = refl
-long LoadChar = refl
-long UpChar = refl
-long DownChar = refl
-long DeletChar = refl
-long Empty = refl
-long SetSysPara = refl
-long ReadSysPara = refl
-long SetPwd = refl
-long VfyPwd = refl
-long SetAdder = refl
-long WriteNotepad = refl
-long ReadNotepad = refl
-long TempleteNum = refl
-long ReadIndexTable = refl
-long HandShake = refl
-
-sized : (c : CommandCode) (k : ℕ) → command_number c ≡ k → eqb (len_of (row_of commands k)) 0 ≡ false
-sized c k e = rw (← e) (long c)
 
 -- each return as a law: the tests that led there
 module _ (right : Bool) (k n : ℕ) (p : Plain) where
